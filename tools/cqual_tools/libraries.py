@@ -124,7 +124,7 @@ class PreludeWords:
 def signatures_of(program, lattice, paths):
     """The status of cqual, asked for the signatures of these files as one library, and what it prints."""
     try:
-        ran = subprocess.run([program, "--lattice", lattice, "--signatures", *paths], stdout=subprocess.PIPE, check=False)
+        ran = subprocess.run([program, "--wide", "--lattice", lattice, "--signatures", *paths], stdout=subprocess.PIPE, check=False)
     except OSError as fault:
         raise Stop(9, f"cannot run {program}: {fault.strerror}") from fault
     status = status_of(ran)

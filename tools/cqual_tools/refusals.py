@@ -2,6 +2,8 @@
 
 import re
 
+from .texts import STATEMENT_WORDS, TYPE_WORDS
+
 SENTENCES = {
     "F2": "the file is too large",
     "L1": "a name has two entries in a block of the lattice file",
@@ -29,6 +31,7 @@ SENTENCES = {
     "H6": "what is assigned to, counted, or has its address taken is no place",
     "H7": "{token} has a body already",
     "H8": "the type has over 4096 parts",
+    "H9": "the operand of this typeof, or the initialiser of this __auto_type, has no type",
     "P1": "a function has a body, in a prelude",
     "P2": "an index word is malformed or stands in the wrong place",
     "Q1": "the program has over 16777216 qualifier variables",
@@ -36,11 +39,8 @@ SENTENCES = {
 }
 # words that begin forms which are not read
 FORMS = {
-    "typeof": "typeof is not read", "__typeof__": "typeof is not read", "__typeof": "typeof is not read",
-    "typeof_unqual": "typeof is not read", "__auto_type": "__auto_type is not read", "_Generic": "_Generic is not read",
-    "_Alignas": "_Alignas is not read", "_Atomic": "_Atomic is not read", "__seg_fs": "address spaces are not read",
-    "__seg_gs": "address spaces are not read", "__int128": "__int128 is not read here", "__va_arg_pack": "_FORTIFY_SOURCE is not read",
-    "&&": "the address of a label is not read", "{": "syntax error at {, perhaps a function inside a function",
+    "typeof_unqual": "typeof_unqual is not read", "__va_arg_pack": "_FORTIFY_SOURCE is not read",
+    "{": "syntax error at {, perhaps a function inside a function",
 }
 
 
@@ -55,14 +55,10 @@ def sentence_of(code, text, place):
 
 
 def syntax_sentence(text, place, token):
-    before = line_before(text, place)
-    if re.match(r"[A-Za-z_$]", token) and is_old_style(text, place):
-        return f"old-style function definition, or an unknown type name {token}"
-    if token == "..." and re.search(r"(\bcase\b|\[)[^;{]*$", before):
-        return "a range of cases or of elements is not read"
-    if token == "*" and re.search(r"\bgoto\s*$", before):
-        return "a computed goto is not read"
-    if token == "[" and before.endswith("["):
+    name = name_before(text, place) if re.match(r"[A-Za-z_$]", token) else ""
+    if name:
+        return f"syntax error at {token}: is {name} the name of a type here?"
+    if token == "[" and line_before(text, place).endswith("["):
         return "attributes in [[..]] are not read"
     return FORMS.get(token, SENTENCES["S1"].format(token=token))
 
@@ -72,15 +68,13 @@ def line_before(text, place):
     return line[: place.column - 1] if line is not None else ""
 
 
-def is_old_style(text, place):
-    """Whether the token is a name in the parentheses of a function's declarator at file scope, behind no type."""
+def name_before(text, place):
+    """The name right before a name, or nothing."""
     offset = text.offset_of(place)
     if offset is None:
-        return False
+        return ""
     at = text.index_of(offset)
-    if at >= len(text.tokens) or text.tokens[at].start != offset:
-        return False
-    names = 0
-    while at > 0 and text.tokens[at - 1].text == "," and text.tokens[at - 2].kind == "name":
-        at, names = at - 2, names + 1
-    return at >= 2 and text.tokens[at - 1].text == "(" and text.tokens[at - 2].kind == "name"
+    if at == 0 or at >= len(text.tokens) or text.tokens[at].start != offset:
+        return ""
+    both = text.tokens[at - 1 : at + 1]
+    return both[0].text if all(it.kind == "name" and it.text not in STATEMENT_WORDS | TYPE_WORDS for it in both) else ""

@@ -90,8 +90,9 @@ class Setting:
         return made
 
     def words(self, room, more="", name="preludes.h"):
-        """The first words of cqual: the program, the lattice, and the preludes, with more behind them, which are written into a folder."""
-        made = [found_program(), "--lattice", self.lattice]
+        """The first words of cqual: the program, that it reads wider C, the lattice, and the preludes, with more behind them, which are written
+        into a folder."""
+        made = [found_program(), "--wide", "--lattice", self.lattice]
         if self.prelude_parts or more:
             made += ["--prelude", write_file(os.path.join(room, name), self.prelude_text + more)]
         return made

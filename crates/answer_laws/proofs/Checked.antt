@@ -1,5 +1,5 @@
 -- A rejected report, checked over the same files.
-use Rattle.std.proofs.Common.{◌≡◌, ℕ, zero, suc, ◌+◌, ◌-◌, ◌≤◌, arith, false, List, [], ◌∷◌, ◌++◌, length, slice_get, Some, None, refl, sym, subst, ap, ◌∙◌}
+use Rattle.std.proofs.Common.{◌≡◌, ℕ, zero, suc, ◌+◌, ◌-◌, ◌≤◌, arith, Bool, false, List, [], ◌∷◌, ◌++◌, length, slice_get, Some, None, refl, sym, subst, ap, ◌∙◌}
 use Rattle.std.specs.Prelude.{All}
 use Rattle.std.proofs.lemmas.List.Elements.{All-nil, All-cons, All-head, All-tail}
 use Rattle.lattice_core.specs.View.{LatticeView}
@@ -22,7 +22,7 @@ use Rattle.cqual_tool.specs.Programs.{texts_of}
 use Rattle.cqual_tool.specs.Outcome.{AreBefore, NoPrelude, OnePrelude, NoSource, OneSource, SourcesParse, sources_of, total_limit, ProgramIsRead, AnsweredAlone, SavedJudged, IsAlone, IsOfSaved, IsAnswered, IsChecked, IsVerified, IsSigned, Unsigned, IsWrong, Uncertified, Holding, saved_limit}
 use Rattle.cqual_tool.specs.Outcome.{SourcesRead, PreludeRead, OfFiles, LatticeRead, OfTask, OfProgram, OfGenerated, Outcome, WithMeaning}
 use Rattle.answer_laws.specs.Laws.{ProgramsAreOwned, RejectedIsChecked, FilesAreFree, judged}
-use Rattle.answer_laws.proofs.Owned.{built_sized, built_lattices}
+use Rattle.answer_laws.proofs.Owned.{built_sized, built_lattices, units_sound}
 use Rattle.answer_laws.proofs.Names.{names_free}
 
 some_unit : {x y : UnitText} → Some x ≡ Some y → x ≡ y
@@ -32,13 +32,13 @@ some_unit e = cc
 abbrev IsFree : UnitRead → Type 0
 IsFree it = (token : ℕ) → HasNoFeed (text_of it.lexed token)
 
-sources_free : TokensHaveNoFeed → (lattices : List LatticeView) (number left : ℕ) (sources : List (List ℕ × List ℕ)) (units : List UnitRead)
-    → SourcesParse lattices number left sources units → All IsFree units
-sources_free law lattices _ _ _ _ (NoSource number left) = All-nil IsFree
-sources_free law lattices _ _ _ _ (OneSource number left source more unit units within parses rest) =
+sources_free : TokensHaveNoFeed → (wide : Bool) (lattices : List LatticeView) (number left : ℕ) (sources : List (List ℕ × List ℕ)) (units : List UnitRead)
+    → SourcesParse wide lattices number left sources units → All IsFree units
+sources_free law wide lattices _ _ _ _ (NoSource number left) = All-nil IsFree
+sources_free law wide lattices _ _ _ _ (OneSource number left source more unit units within parses rest) =
     let marked = parses.lexes.marks in
     All-cons IsFree unit units (law marked.words unit.lexed marked.spelled)
-    (sources_free law lattices (number + 1) (left - length source.1) more units rest)
+    (sources_free law wide lattices (number + 1) (left - length source.1) more units rest)
 
 all_free : TokensHaveNoFeed → (named : FileNames) (inputs : Inputs) (lattices : List LatticeView) (before units : List UnitRead) (marks : List IndexMark)
     → AreBefore named inputs lattices before marks → All IsFree units → All IsFree (before ++ units)
@@ -58,7 +58,7 @@ tokens_free : TokensHaveNoFeed → (named : FileNames) (inputs : Inputs) (it : P
 tokens_free law named inputs it =
     free_at named (it.before ++ it.units)
     (all_free law named inputs it.lattices it.before it.units it.marks it.are
-    (sources_free law it.lattices 1 total_limit (sources_of named inputs) it.units it.parse))
+    (sources_free law named.wide it.lattices 1 total_limit (sources_of named inputs) it.units it.parse))
 
 -- the same names with a report that is to be checked
 abbrev with_saved : Names → List ℕ → FileNames
@@ -83,10 +83,10 @@ module _ (owned : ProgramsAreOwned) (elements : ElementsAreNamed) (back : Reject
       let feeds : HasNoFeeds scene = record {
         files = files it;
         tokens = tokens_free free (of_files names question) inputs it;
-        names = names_free it.read.read.blocks inputs.lattice it.lattices it.read.read.text built;
+        names = names_free names.wide it.read.read.blocks inputs.lattice it.lattices it.read.read.text built;
       } in
       let comes = (back scene (judged (of_files names question) inputs it).system text feeds (built_lattices it.read.read.blocks it.lattices built)
-      (elements p (built_sized it.read.read.blocks it.lattices built)) (owned (of_files names question) inputs it).0 it.counted.few_constraints
+      (elements p (units_sound (of_files names question) inputs it) (built_sized it.read.read.blocks it.lattices built)) (owned (of_files names question) inputs it).0 it.counted.few_constraints
       (omega arith) is).comes in
       LatticeRead it.lattices PathsHold (checked_text Hold) it.read
       (PreludeRead it.before it.marks PathsHold (checked_text Hold) (before_on names question report inputs text it.lattices it.before it.marks it.are)

@@ -60,24 +60,24 @@ name_free word is = elim (either (begins_with_dollar word || bytes_eq word (code
 some_is : {A : Type 0} {x y : A} → Some x ≡ Some y → x ≡ y
 some_is e = cc
 
-items_free : (entries : List Entry) (pairs : List Pair) (bytes rest : List ℕ) → Items entries pairs bytes rest → (n : ℕ) (name : List ℕ)
+items_free : (wide : Bool) (entries : List Entry) (pairs : List Pair) (bytes rest : List ℕ) → Items wide entries pairs bytes rest → (n : ℕ) (name : List ℕ)
     → name_at entries n ≡ Some name → HasNoFeed name
-items_free _ _ bytes rest (Close _ _ sign) n name there = absurd cc
-items_free _ _ bytes rest (EntryItem own given entries pairs _ b1 b2 b3 _ is word sign attributes items) zero name there =
+items_free wide _ _ bytes rest (Close _ _ sign) n name there = absurd cc
+items_free wide _ _ bytes rest (EntryItem own given entries pairs _ b1 b2 b3 _ is word sign attributes items) zero name there =
     subst HasNoFeed (some_is there) (name_free own is)
-items_free _ _ bytes rest (EntryItem own given entries pairs _ b1 b2 b3 _ is word sign attributes items) (suc n) name there =
-    items_free entries pairs b3 rest items n name there
-items_free _ _ bytes rest (LineItem low high entries pairs _ b1 b2 b3 _ is_low is_high one sign other items) n name there =
-    items_free entries pairs b3 rest items n name there
+items_free wide _ _ bytes rest (EntryItem own given entries pairs _ b1 b2 b3 _ is word sign attributes items) (suc n) name there =
+    items_free wide entries pairs b3 rest items n name there
+items_free wide _ _ bytes rest (LineItem low high entries pairs _ b1 b2 b3 _ is_low is_high one sign other items) n name there =
+    items_free wide entries pairs b3 rest items n name there
 
-pub names_free : (blocks : List BlockView) (bytes : List ℕ) (lattices : List LatticeView) → IsLatticeText blocks bytes
+pub names_free : (wide : Bool) (blocks : List BlockView) (bytes : List ℕ) (lattices : List LatticeView) → IsLatticeText wide blocks bytes
     → AreAllBuilt blocks lattices → (k : ℕ) (view : LatticeView) (elem : ℕ) (name : List ℕ) → slice_get lattices k ≡ Some view
     → name_at view.entries elem ≡ Some name → HasNoFeed name
-names_free [] bytes [] text built k view elem name there named = absurd cc
-names_free [] bytes (lattice ∷ lattices) text built k view elem name there named = absurd built
-names_free (block ∷ blocks) bytes [] text built k view elem name there named = absurd built
-names_free (block ∷ blocks) bytes (lattice ∷ lattices) (NextBlock _ _ _ b1 b2 b3 rest one two head items some text) built zero view elem name there named =
+names_free wide [] bytes [] text built k view elem name there named = absurd cc
+names_free wide [] bytes (lattice ∷ lattices) text built k view elem name there named = absurd built
+names_free wide (block ∷ blocks) bytes [] text built k view elem name there named = absurd built
+names_free wide (block ∷ blocks) bytes (lattice ∷ lattices) (NextBlock _ _ _ b1 b2 b3 rest one two head items some text) built zero view elem name there named =
     let same : view.entries ≡ block.entries = ap (λ (v : LatticeView). v.entries) (sym (some_is there)) ∙ built.0.built.same in
-    items_free block.entries block.pairs b3 rest items elem name (ap (λ (entries : List Entry). name_at entries elem) (sym same) ∙ named)
-names_free (block ∷ blocks) bytes (lattice ∷ lattices) (NextBlock _ _ _ b1 b2 b3 rest one two head items some text) built (suc k) view elem name there named =
-    names_free blocks rest lattices text built.1 k view elem name there named
+    items_free wide block.entries block.pairs b3 rest items elem name (ap (λ (entries : List Entry). name_at entries elem) (sym same) ∙ named)
+names_free wide (block ∷ blocks) bytes (lattice ∷ lattices) (NextBlock _ _ _ b1 b2 b3 rest one two head items some text) built (suc k) view elem name there named =
+    names_free wide blocks rest lattices text built.1 k view elem name there named

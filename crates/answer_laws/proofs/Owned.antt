@@ -1,5 +1,6 @@
 -- The system of files that are read.
-use Rattle.std.proofs.Common.{◌≡◌, ℕ, zero, suc, ◌+◌, ◌-◌, List, [], ◌∷◌, ◌++◌, length, Some, slice_get, sym, subst, ap, ◌∙◌, append-nil, append_assoc}
+use Rattle.std.proofs.Common.{◌≡◌, ℕ, Bool, zero, suc, ◌+◌, ◌-◌, List, [], ◌∷◌, ◌++◌, length, Some, slice_get, sym, subst, ap, ◌∙◌, append-nil, append_assoc}
+use Rattle.std.specs.Prelude.{All}
 use Rattle.lattice_core.specs.Order.{size, IsLattice}
 use Rattle.lattice_core.specs.View.{LatticeView, AreSized, AreLattices}
 use Rattle.lattice_file.specs.Blocks.{BlockView, AreAllBuilt}
@@ -8,9 +9,11 @@ use Rattle.element_laws.specs.Naming.{LatticesAreNamed}
 use Rattle.c_types.specs.Sources.{UnitRead}
 use Rattle.index_words.specs.Marks.{IndexMark}
 use Rattle.constraint_gen.specs.Programs.{program_in}
+use Rattle.constraint_gen.proofs.Sources.{sound_of}
+use Rattle.row_laws.specs.Laws.{IsSound}
 use Rattle.cqual_tool.specs.Inputs.{Inputs}
 use Rattle.cqual_tool.specs.Words.{FileNames}
-use Rattle.cqual_tool.specs.Outcome.{AreBefore, NoPrelude, OnePrelude, NoSource, OneSource, SourcesParse, sources_of, total_limit}
+use Rattle.cqual_tool.specs.Outcome.{AreBefore, NoPrelude, OnePrelude, NoSource, OneSource, SourcesParse, sources_of, total_limit, ProgramIsRead}
 use Rattle.cqual_tool.specs.Preparing.{AreEarlier}
 use Rattle.cqual_tool.proofs.Joining.{nothing_earlier, one_more_may, prelude_alone, read_all}
 use Rattle.answer_laws.specs.Laws.{ProgramsAreOwned}
@@ -52,20 +55,28 @@ before_is named inputs lattices before marks (OnePrelude file unit _ there reads
     prelude_alone unit reads.is.parses.lexes.unit reads.is.parses.formed
 
 -- and the sources behind them
-sources_may : (lattices : List LatticeView) (number left : ℕ) (sources : List (List ℕ × List ℕ)) (before units : List UnitRead) → AreEarlier number before
-    → SourcesParse lattices number left sources units → (n : ℕ) × AreEarlier n (before ++ units)
-sources_may lattices _ _ _ before _ may (NoSource number left) = (number, subst (AreEarlier number) (sym (append-nil before)) may)
-sources_may lattices _ _ _ before _ may (OneSource number left source more unit units within parses rest) =
-    let all = sources_may lattices (number + 1) (left - length source.1) more (before ++ unit ∷ []) units
+sources_may : (wide : Bool) (lattices : List LatticeView) (number left : ℕ) (sources : List (List ℕ × List ℕ)) (before units : List UnitRead) → AreEarlier number before
+    → SourcesParse wide lattices number left sources units → (n : ℕ) × AreEarlier n (before ++ units)
+sources_may wide lattices _ _ _ before _ may (NoSource number left) = (number, subst (AreEarlier number) (sym (append-nil before)) may)
+sources_may wide lattices _ _ _ before _ may (OneSource number left source more unit units within parses rest) =
+    let all = sources_may wide lattices (number + 1) (left - length source.1) more (before ++ unit ∷ []) units
     (one_more_may number before unit may parses.lexes.unit parses.formed) rest in
     (all.0, subst (AreEarlier all.0) (append_assoc before (unit ∷ []) units) all.1)
+
+-- the units of a program that is read are well formed
+pub units_sound : (names : FileNames) (inputs : Inputs) (it : ProgramIsRead names inputs) → All IsSound (program_in it.lattices it.marks (it.before ++ it.units)).sources
+units_sound names inputs it =
+    let units = it.before ++ it.units in
+    let before = before_is names inputs it.lattices it.before it.marks it.are in
+    let may = (sources_may names.wide it.lattices 1 total_limit (sources_of names inputs) it.before it.units before it.parse).1 in
+    sound_of (program_in it.lattices it.marks units).sources (read_all units may.formed)
 
 pub programs_are_owned : SystemsAreOwned → LatticesAreNamed → ProgramsAreOwned
 programs_are_owned owned named names inputs it =
     let units = it.before ++ it.units in
     let p = program_in it.lattices it.marks units in
     let before = before_is names inputs it.lattices it.before it.marks it.are in
-    let may = (sources_may it.lattices 1 total_limit (sources_of names inputs) it.before it.units before it.parse).1 in (
+    let may = (sources_may names.wide it.lattices 1 total_limit (sources_of names inputs) it.before it.units before it.parse).1 in (
       owned p (read_all units may.formed) may.differ,
-      named p (built_sized it.read.read.blocks it.lattices it.read.read.built),
+      named p (units_sound names inputs it) (built_sized it.read.read.blocks it.lattices it.read.read.built),
     )

@@ -33,22 +33,22 @@ one_file [] contents one = absurd cc
 one_file (file ∷ []) contents one = (file, refl)
 one_file (file ∷ other ∷ more) contents one = absurd cc
 
-one_unit : (lattices : List LatticeView) (number left : ℕ) (source : List ℕ × List ℕ) (units : List UnitRead)
-    → SourcesParse lattices number left (source ∷ []) units → (unit : UnitRead) × (units ≡ unit ∷ []) × SourceParses lattices number source.1 unit
-one_unit lattices _ _ _ _ (OneSource number left source _ unit _ within parses (NoSource _ _)) = (unit, refl, parses)
+one_unit : (wide : Bool) (lattices : List LatticeView) (number left : ℕ) (source : List ℕ × List ℕ) (units : List UnitRead)
+    → SourcesParse wide lattices number left (source ∷ []) units → (unit : UnitRead) × (units ≡ unit ∷ []) × SourceParses wide lattices number source.1 unit
+one_unit wide lattices _ _ _ _ (OneSource number left source _ unit _ within parses (NoSource _ _)) = (unit, refl, parses)
 
 the_unit : (named : FileNames) (inputs : Inputs) (it : ProgramIsRead named inputs) → length named.sources ≡ 1
-    → (unit : UnitRead) × (it.units ≡ unit ∷ []) × SourceParses it.lattices 1 (first_of inputs.sources) unit
+    → (unit : UnitRead) × (it.units ≡ unit ∷ []) × SourceParses named.wide it.lattices 1 (first_of inputs.sources) unit
 the_unit named inputs it one =
     let file = one_file named.sources inputs.sources one in
-    one_unit it.lattices 1 total_limit (file.0, first_of inputs.sources) it.units
-    (subst (λ (files : List (List ℕ × List ℕ)). SourcesParse it.lattices 1 total_limit files it.units) file.1 it.parse)
+    one_unit named.wide it.lattices 1 total_limit (file.0, first_of inputs.sources) it.units
+    (subst (λ (files : List (List ℕ × List ℕ)). SourcesParse named.wide it.lattices 1 total_limit files it.units) file.1 it.parse)
 
 of_text : CommentsComeOut → (named : FileNames) (inputs : Inputs) (it : ProgramIsRead named inputs) (text : List ℕ) → length named.sources ≡ 1
     → IsJudgedWith (judged named inputs it).scene (judged named inputs it).system (Some 1) true text → IsAnnotated named inputs text
 of_text law named inputs it text one is = by is
   where
-    source : (unit : UnitRead) × (it.units ≡ unit ∷ []) × SourceParses it.lattices 1 (first_of inputs.sources) unit
+    source : (unit : UnitRead) × (it.units ≡ unit ∷ []) × SourceParses named.wide it.lattices 1 (first_of inputs.sources) unit
     source = the_unit named inputs it one
 
     found : unit_in (judged named inputs it).scene.units 1 ≡ Some (text_of named source.0.lexed)
@@ -82,7 +82,7 @@ of_end law named inputs it text annotated one (SavedJudged file _ _ there few is
     absurd (subst (λ (q : Question). IsOfSaved q (judged named inputs it) inputs.saved Accepted text) annotated is)
 of_end law named inputs it text annotated one (AnsweredAlone _ _ none is) = of_alone law named inputs it text named.asked annotated one is
 
-of_units : CommentsComeOut → (named : FileNames) (inputs : Inputs) (lattices : List LatticeView) → LatticesRead inputs.lattice lattices
+of_units : CommentsComeOut → (named : FileNames) (inputs : Inputs) (lattices : List LatticeView) → LatticesRead named.wide inputs.lattice lattices
     → (text : List ℕ) → named.asked ≡ Annotate → length named.sources ≡ 1 → OfUnits named inputs lattices Accepted text
     → IsAnnotated named inputs text
 of_units law named inputs lattices read text annotated one (PreludeRead before marks _ _ are (SourcesRead units _ _ parse counted end)) =

@@ -1,9 +1,11 @@
 -- The heights of lists of children: of each the greatest of those of its items.
 use Rattle.std.proofs.Common.{◌≡◌, ℕ, ◌+◌, max, List, ◌∷◌, map, refl, arith}
 use Rattle.c_syntax.specs.declared.parts.Listed.{Listed}
+use Rattle.c_syntax.specs.declared.declaration.Declaration as rust_declaration
 use Rattle.c_syntax.specs.declared.declaration.InitDeclr.{InitDeclr}
 use Rattle.c_syntax.specs.declared.declaration.Item.{Item}
 use Rattle.c_syntax.specs.declared.declarator.Param.{Param}
+use Rattle.c_syntax.specs.declared.expression.Assoc as rust_assoc
 use Rattle.c_syntax.specs.declared.expression.Expr as rust_expr
 use Rattle.c_syntax.specs.declared.initialiser.Desig as rust_desig
 use Rattle.c_syntax.specs.declared.initialiser.InitItem.{InitItem}
@@ -12,10 +14,10 @@ use Rattle.c_syntax.specs.declared.specifier.MemDeclr as rust_mem_declr
 use Rattle.c_syntax.specs.declared.specifier.SpecWord as rust_spec_word
 use Rattle.c_syntax.specs.declared.specifier.StructItem as rust_struct_item
 use Rattle.c_syntax.specs.declared.statement.BlockItem as rust_block_item
-use Rattle.c_tree.specs.Height.{attrs_height, label_height, expr_height, exprs_height, specs_height, spec_word_height, struct_items_height, struct_item_height, mem_declrs_height, mem_declr_height, some_value_height, enumerators_height, declr_height, some_declr_height, params_height, init_height, init_items_height, desigs_height, steps_height, step_height, desig_height, some_init_height, init_declrs_height, block_height, block_item_height}
-use Rattle.c_tree.specs.View.{expr_of, spec_word_of, struct_item_of, mem_declr_of, declr_of, init_of, desig_of, block_item_of}
-use Rattle.c_tree.specs.Unit.{spec_words_from, block_items_from, item_of, item_height, unit_height}
-use Rattle.c_tree.specs.Lists.{exprs_from, struct_items_from, mem_declrs_from, some_value_from, enumerators_from, some_declr_from, params_from, desigs_from, init_items_from, some_init_from, init_declrs_from}
+use Rattle.c_tree.specs.Height.{attrs_height, label_height, expr_height, exprs_height, assoc_height, assocs_height, specs_height, spec_word_height, struct_items_height, struct_item_height, mem_declrs_height, mem_declr_height, some_value_height, enumerators_height, declr_height, some_declr_height, params_height, init_height, init_items_height, desigs_height, steps_height, step_height, desig_height, some_init_height, init_declrs_height, block_height, block_item_height, declaration_height}
+use Rattle.c_tree.specs.View.{expr_of, assoc_of, declaration_of, spec_word_of, struct_item_of, mem_declr_of, declr_of, init_of, desig_of, block_item_of}
+use Rattle.c_tree.specs.Unit.{spec_words_from, block_items_from, item_of, item_height, unit_height, declarations_height}
+use Rattle.c_tree.specs.Lists.{exprs_from, assocs_from, struct_items_from, mem_declrs_from, some_value_from, enumerators_from, some_declr_from, params_from, desigs_from, init_items_from, some_init_from, init_declrs_from}
 
 abbrev pub of_items_all : List Item → ℕ
 of_items_all items = unit_height (map item_of items)
@@ -37,6 +39,24 @@ of_exprs_one e = expr_height (expr_of e)
 
 pub of_exprs_more : (x : rust_expr.Expr) (xs : List (rust_expr.Expr)) → of_exprs_all (x ∷ xs) ≡ max (of_exprs_one x) (of_exprs_all xs)
 of_exprs_more x xs = refl
+
+abbrev pub of_assocs_all : List (rust_assoc.Assoc) → ℕ
+of_assocs_all assocs = assocs_height (assocs_from assocs)
+
+abbrev pub of_assocs_one : rust_assoc.Assoc → ℕ
+of_assocs_one assoc = assoc_height (assoc_of assoc)
+
+pub of_assocs_more : (x : rust_assoc.Assoc) (xs : List (rust_assoc.Assoc)) → of_assocs_all (x ∷ xs) ≡ max (of_assocs_one x) (of_assocs_all xs)
+of_assocs_more x xs = refl
+
+abbrev pub of_declarations_all : List (rust_declaration.Declaration) → ℕ
+of_declarations_all declarations = declarations_height (map declaration_of declarations)
+
+abbrev pub of_declarations_one : rust_declaration.Declaration → ℕ
+of_declarations_one declaration = declaration_height (declaration_of declaration)
+
+pub of_declarations_more : (x : rust_declaration.Declaration) (xs : List (rust_declaration.Declaration)) → of_declarations_all (x ∷ xs) ≡ max (of_declarations_one x) (of_declarations_all xs)
+of_declarations_more x xs = refl
 
 abbrev pub of_words_all : List (rust_spec_word.SpecWord) → ℕ
 of_words_all words = specs_height (spec_words_from words)

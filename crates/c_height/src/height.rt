@@ -6,15 +6,15 @@
 
 ghost use Rattle.std.specs.Prelude.{◌≡◌, ℕ, ◌+◌, max, map};
 ghost use Rattle.c_tree.specs.Capped.{capped};
-ghost use Rattle.c_tree.specs.Height.{some_body_height, attrs_height, pointer_words_height, label_height, expr_height, some_expr_height, exprs_height, specs_height, spec_word_height, struct_items_height, struct_item_height, mem_declrs_height, mem_declr_height, some_value_height, enum_type_height, enumerators_height, declr_height, some_declr_height, some_size_height, array_size_height, params_height, init_height, init_list_height, init_items_height, desigs_height, steps_height, step_height, desig_height, some_init_height, init_declrs_height, declaration_height, decl_height, block_height, block_item_height, stmt_height, some_else_height, for_start_height};
-ghost use Rattle.c_tree.specs.View.{expr_of, spec_word_of, struct_item_of, mem_declr_of, enum_type_of, declr_of, array_size_of, init_of, init_list_of, desig_of, declaration_of, decl_of, block_item_of, stmt_of, for_start_of};
-ghost use Rattle.c_tree.specs.Unit.{spec_words_from, block_items_from, item_of, items_of, item_height, unit_height};
-ghost use Rattle.c_tree.specs.Lists.{exprs_from, some_expr_from, struct_items_from, some_body_from, mem_declrs_from, some_value_from, enumerators_from, some_declr_from, some_size_from, params_from, desigs_from, init_items_from, some_init_from, init_declrs_from, some_else_from};
+ghost use Rattle.c_tree.specs.Height.{some_body_height, attrs_height, pointer_words_height, label_height, expr_height, some_expr_height, exprs_height, specs_height, spec_word_height, struct_items_height, struct_item_height, mem_declrs_height, mem_declr_height, some_value_height, enum_type_height, enumerators_height, assocs_height, assoc_height, declr_height, some_declr_height, some_size_height, array_size_height, params_height, init_height, init_list_height, init_items_height, desigs_height, steps_height, step_height, desig_height, some_init_height, init_declrs_height, declaration_height, decl_height, block_height, block_item_height, stmt_height, some_else_height, for_start_height};
+ghost use Rattle.c_tree.specs.View.{expr_of, spec_word_of, struct_item_of, mem_declr_of, enum_type_of, declr_of, assoc_of, array_size_of, init_of, init_list_of, desig_of, declaration_of, decl_of, block_item_of, stmt_of, for_start_of};
+ghost use Rattle.c_tree.specs.Unit.{spec_words_from, block_items_from, item_of, items_of, item_height, unit_height, declarations_height};
+ghost use Rattle.c_tree.specs.Lists.{assocs_from, exprs_from, some_expr_from, struct_items_from, some_body_from, mem_declrs_from, some_value_from, enumerators_from, some_declr_from, some_size_from, params_from, desigs_from, init_items_from, some_init_from, init_declrs_from, some_else_from};
 
 use c_syntax::{
-    ArraySize, AsmLabel, Attr, BlockItem, Decl, Declaration, Declr, Desig, Enum, Enumerator, Expr,
-    ForStart, Init, InitDeclr, InitItem, InitList, Item, Listed, Marked, MemDeclr, Member, Param,
-    PointerWord, SpecWord, Specs, Stmt, Struct, StructItem, TypeName, Unit,
+    ArraySize, AsmLabel, Assoc, Attr, BlockItem, Decl, Declaration, Declr, Desig, Enum, Enumerator,
+    Expr, ForStart, Init, InitDeclr, InitItem, InitList, Item, Listed, Marked, MemDeclr, Member,
+    Param, PointerWord, SpecWord, Specs, Stmt, Struct, StructItem, TypeName, Unit,
 };
 
 /// One more, at most the greatest number.
@@ -148,6 +148,24 @@ pub fn of_expr(e: &Expr) -> u32
             steps,
             ..
         } => above_both(of_type_name(type_name), of_steps(steps.as_slice())),
+        Expr::Part { operand, .. } => above(of_expr(operand)),
+        Expr::LabelUse { .. } => 1,
+        Expr::Compat { left, right, .. } => above_both(of_type_name(left), of_type_name(right)),
+        Expr::Choose {
+            condition,
+            first,
+            second,
+            ..
+        } => {
+            let condition = of_expr(condition);
+            let first = of_expr(first);
+            above_both(condition, greater(first, of_expr(second)))
+        }
+        Expr::Generic {
+            control,
+            associations,
+            ..
+        } => above_both(of_expr(control), of_assocs(associations.as_slice())),
     }
 }
 
@@ -170,6 +188,31 @@ fn of_exprs(es: &[Expr]) -> u32
         height = greater(height, of_expr(e));
     }
     height
+}
+
+#[cycle(height)]
+fn of_assocs(assocs: &[Assoc]) -> u32
+    ensures { result ≡ capped (assocs_height (assocs_from assocs.now)) }
+{
+    let mut height = 0;
+    for assoc in assocs {
+        height = greater(height, of_assoc(assoc));
+    }
+    height
+}
+
+#[cycle(height)]
+fn of_assoc(assoc: &Assoc) -> u32
+    ensures { result ≡ capped (assoc_height (assoc_of assoc.now)) }
+{
+    match assoc {
+        Assoc::Typed {
+            type_name,
+            value,
+            ..
+        } => above_both(of_type_name(type_name), of_expr(value)),
+        Assoc::Default { value, .. } => above(of_expr(value)),
+    }
 }
 
 #[cycle(height)]
@@ -205,7 +248,10 @@ fn of_word(word: &SpecWord) -> u32
         | SpecWord::Type(_) => 0,
         SpecWord::Struct(it) => of_struct(it),
         SpecWord::Enum(it) => of_enum(it),
-        SpecWord::TypedefName(_) | SpecWord::Attr(_) => 1,
+        SpecWord::TypedefName(_) | SpecWord::Attr(_) | SpecWord::Align(_) | SpecWord::Auto { .. } =>
+            1,
+        SpecWord::Typeof { operand, .. } => above(of_expr(operand)),
+        SpecWord::TypeofType { type_name, .. } => above(of_type_name(type_name)),
     }
 }
 
@@ -341,7 +387,8 @@ pub fn of_declr(declr: &Declr) -> u32
             of_pointer_words(words.as_slice()),
             of_declr(inner),
         ),
-        Declr::DeclName { .. } => 1,
+        Declr::DeclName { .. } | Declr::BaseName { .. } => 1,
+        Declr::Identifiers { inner, .. } => above(of_declr(inner)),
         Declr::DeclParen { attrs, inner, .. } | Declr::AbsParen { attrs, inner, .. } => above_both(
             of_attrs(attrs.as_slice()),
             of_declr(inner),
@@ -468,8 +515,9 @@ fn of_desig(desig: &Desig) -> u32
     ensures { result ≡ capped (desig_height (desig_of desig.now)) }
 {
     match desig {
-        Desig::Member { .. } => 1,
+        Desig::Member { .. } | Desig::Old { .. } => 1,
         Desig::Index { index, .. } => above(of_expr(index)),
+        Desig::Range { first, last, .. } => above_both(of_expr(first), of_expr(last)),
     }
 }
 
@@ -489,8 +537,9 @@ fn of_step(step: &Desig) -> u32
     ensures { result ≡ capped (step_height (desig_of step.now)) }
 {
     match step {
-        Desig::Member { .. } => 0,
+        Desig::Member { .. } | Desig::Old { .. } => 0,
         Desig::Index { index, .. } => of_expr(index),
+        Desig::Range { first, last, .. } => greater(of_expr(first), of_expr(last)),
     }
 }
 
@@ -571,6 +620,7 @@ fn of_block_item(item: &BlockItem) -> u32
     match item {
         BlockItem::Decl(decl) => of_decl(decl),
         BlockItem::Stmt(s) => of_stmt(s),
+        BlockItem::Labels { .. } => 1,
     }
 }
 
@@ -587,6 +637,17 @@ fn of_stmt(s: &Stmt) -> u32
             of_expr(value),
             of_stmt(body),
         ),
+        Stmt::CaseRange {
+            first,
+            last,
+            body,
+            ..
+        } => {
+            let first = of_expr(first);
+            let last = of_expr(last);
+            above_both(greater(first, last), of_stmt(body))
+        }
+        Stmt::GotoValue { value, .. } => above(of_expr(value)),
         Stmt::Default { body, .. } => above(of_stmt(body)),
         Stmt::If {
             condition,
@@ -645,6 +706,16 @@ fn of_for_start(start: &ForStart) -> u32
     }
 }
 
+fn of_declarations(declarations: &[Declaration]) -> u32
+    ensures { result ≡ capped (declarations_height (map declaration_of declarations.now)) }
+{
+    let mut height = 0;
+    for declaration in declarations {
+        height = greater(height, of_declaration(declaration));
+    }
+    height
+}
+
 fn of_item(item: &Item) -> u32
     ensures { result ≡ capped (item_height (item_of item.now)) }
 {
@@ -661,6 +732,24 @@ fn of_item(item: &Item) -> u32
             let attrs = of_attrs(attrs.as_slice());
             let body = of_block_items(body.items.as_slice());
             above_both(words, greater(declr, greater(attrs, body)))
+        }
+        Item::OldFunction {
+            specs,
+            declr,
+            attrs,
+            declarations,
+            body,
+            ..
+        } => {
+            let words = of_words(specs.words.as_slice());
+            let declr = of_declr(declr);
+            let attrs = of_attrs(attrs.as_slice());
+            let declarations = of_declarations(declarations.as_slice());
+            let body = of_block_items(body.items.as_slice());
+            above_both(
+                words,
+                greater(declr, greater(attrs, greater(declarations, body))),
+            )
         }
         Item::Decl(decl) => of_decl(decl),
         Item::AsmDecl { .. } | Item::Semi(_) => 1,

@@ -1,5 +1,5 @@
 -- Names of one number are spelled alike, and names that are spelled alike have one number.
-use Rattle.std.proofs.Common.{◌≡◌, ℕ, zero, suc, ◌+◌, ◌-◌, ◌≤◌, true, false, List, [], ◌∷◌, ◌++◌, length, take, drop, get_or, refl, sym, ◌∙◌, ap, subst, arith, Option, Some, None, is_some, inl, inr, ◌⊎◌, unwrap_or, if◌then◌else◌, bytes_eq, position}
+use Rattle.std.proofs.Common.{Bool, ◌≡◌, ℕ, zero, suc, ◌+◌, ◌-◌, ◌≤◌, true, false, List, [], ◌∷◌, ◌++◌, length, take, drop, get_or, refl, sym, ◌∙◌, ap, subst, arith, Option, Some, None, is_some, inl, inr, ◌⊎◌, unwrap_or, if◌then◌else◌, bytes_eq, position}
 use Rattle.std.specs.Prelude.{slice_get, slice_range, option_map}
 use Rattle.std.specs.List.{position_or_len}
 use Rattle.std.proofs.lemmas.List.Quantifiers.{position-Some}
@@ -102,10 +102,10 @@ other_more : (bytes : List ℕ) (tokens : List Token) (t : Token) (names : List 
     AreKnown bytes (tokens ++ t ∷ []) names × AreApart names
 other_more bytes tokens t names known apart other = (known_more bytes tokens t names names known (λ k n e. e) (λ id e. absurd (other id e)), apart)
 
-behind_token : (unit : ℕ) (words : Meanings) (bytes : List ℕ) (tokens : List Token) (names : List (List ℕ)) (at n : ℕ) (kind : TokenKind) → AreKnown bytes tokens names → AreApart names →
-    IsKind unit words names (take n (drop at bytes)) kind →
+behind_token : (unit : ℕ) (wide : Bool) (words : Meanings) (bytes : List ℕ) (tokens : List Token) (names : List (List ℕ)) (at n : ℕ) (kind : TokenKind) → AreKnown bytes tokens names → AreApart names →
+    IsKind unit wide words names (take n (drop at bytes)) kind →
     AreKnown bytes (tokens ++ record { kind = kind; start = at; end = at + n } ∷ []) (names_behind names (take n (drop at bytes)) kind) × AreApart (names_behind names (take n (drop at bytes)) kind)
-behind_token unit words bytes tokens names at n (Name id) known apart is =
+behind_token unit wide words bytes tokens names at n (Name id) known apart is =
     let kept = name_kept names (take n (drop at bytes)) apart in
     let size : at + n - at ≡ n = omega arith in (
       known_more bytes tokens (record { kind = Name id; start = at; end = at + n }) names (with_name names (take n (drop at bytes))) known kept.stay (λ i e.
@@ -113,30 +113,30 @@ behind_token unit words bytes tokens names at n (Name id) known apart is =
           rw (same, size) kept.there),
       kept.apart,
     )
-behind_token unit words bytes tokens names at n (Keyword word) known apart is = other_more bytes tokens (record { kind = Keyword word; start = at; end = at + n }) names known apart (λ id e. absurd cc)
-behind_token unit words bytes tokens names at n Number known apart is = other_more bytes tokens (record { kind = Number; start = at; end = at + n }) names known apart (λ id e. absurd cc)
-behind_token unit words bytes tokens names at n Char known apart is = other_more bytes tokens (record { kind = Char; start = at; end = at + n }) names known apart (λ id e. absurd cc)
-behind_token unit words bytes tokens names at n Text known apart is = other_more bytes tokens (record { kind = Text; start = at; end = at + n }) names known apart (λ id e. absurd cc)
-behind_token unit words bytes tokens names at n (Punct sign) known apart is = other_more bytes tokens (record { kind = Punct sign; start = at; end = at + n }) names known apart (λ id e. absurd cc)
-behind_token unit words bytes tokens names at n (Qual l e) known apart is = other_more bytes tokens (record { kind = Qual l e; start = at; end = at + n }) names known apart (λ id h. absurd cc)
-behind_token unit words bytes tokens names at n Index known apart is = other_more bytes tokens (record { kind = Index; start = at; end = at + n }) names known apart (λ id e. absurd cc)
-behind_token unit words bytes tokens names at n End known apart is = absurd is
+behind_token unit wide words bytes tokens names at n (Keyword word) known apart is = other_more bytes tokens (record { kind = Keyword word; start = at; end = at + n }) names known apart (λ id e. absurd cc)
+behind_token unit wide words bytes tokens names at n Number known apart is = other_more bytes tokens (record { kind = Number; start = at; end = at + n }) names known apart (λ id e. absurd cc)
+behind_token unit wide words bytes tokens names at n Char known apart is = other_more bytes tokens (record { kind = Char; start = at; end = at + n }) names known apart (λ id e. absurd cc)
+behind_token unit wide words bytes tokens names at n Text known apart is = other_more bytes tokens (record { kind = Text; start = at; end = at + n }) names known apart (λ id e. absurd cc)
+behind_token unit wide words bytes tokens names at n (Punct sign) known apart is = other_more bytes tokens (record { kind = Punct sign; start = at; end = at + n }) names known apart (λ id e. absurd cc)
+behind_token unit wide words bytes tokens names at n (Qual l e) known apart is = other_more bytes tokens (record { kind = Qual l e; start = at; end = at + n }) names known apart (λ id h. absurd cc)
+behind_token unit wide words bytes tokens names at n Index known apart is = other_more bytes tokens (record { kind = Index; start = at; end = at + n }) names known apart (λ id e. absurd cc)
+behind_token unit wide words bytes tokens names at n End known apart is = absurd is
 
-reaches_numbered : (unit : ℕ) (words : Meanings) (bytes : List ℕ) (front : Front) → Reaches unit words bytes front → IsNumbered bytes front
-reaches_numbered unit words bytes front begins = record { known = λ k t id there is. absurd cc; apart = λ i j n a b. absurd cc }
-reaches_numbered unit words bytes front (skips old new reached s) =
-    let before = reaches_numbered unit words bytes old reached in
+reaches_numbered : (unit : ℕ) (wide : Bool) (words : Meanings) (bytes : List ℕ) (front : Front) → Reaches unit wide words bytes front → IsNumbered bytes front
+reaches_numbered unit wide words bytes front begins = record { known = λ k t id there is. absurd cc; apart = λ i j n a b. absurd cc }
+reaches_numbered unit wide words bytes front (skips old new reached s) =
+    let before = reaches_numbered unit wide words bytes old reached in
     record { known = rw (s.tokens, s.names) before.known; apart = rw s.names before.apart }
-reaches_numbered unit words bytes front (takes old new reached t) =
-    let before = reaches_numbered unit words bytes old reached in
-    let behind = behind_token unit words bytes old.tokens old.names old.at t.n t.kind before.known before.apart t.is_kind in
+reaches_numbered unit wide words bytes front (takes old new reached t) =
+    let before = reaches_numbered unit wide words bytes old reached in
+    let behind = behind_token unit wide words bytes old.tokens old.names old.at t.n t.kind before.known before.apart t.is_kind in
     record { known = rw (t.tokens, t.names) behind.0; apart = rw t.names behind.1 }
 
 -- with the end of the unit behind them
-spells_known : (unit : ℕ) (words : Meanings) (bytes : List ℕ) (tokens : List Token) (names : List (List ℕ)) (marks : List _) → Spells unit words bytes tokens names marks →
+spells_known : (unit : ℕ) (wide : Bool) (words : Meanings) (bytes : List ℕ) (tokens : List Token) (names : List (List ℕ)) (marks : List _) → Spells unit wide words bytes tokens names marks →
     AreKnown bytes tokens names × AreApart names
-spells_known unit words bytes tokens names marks s =
-    let before = reaches_numbered unit words bytes s.front s.reached in
+spells_known unit wide words bytes tokens names marks s =
+    let before = reaches_numbered unit wide words bytes s.front s.reached in
     let behind = other_more bytes s.front.tokens (record { kind = End; start = length bytes; end = length bytes }) s.front.names before.known before.apart (λ id e. absurd cc) in
     (rw (s.tokens_are, s.names_are) behind.0, rw s.names_are behind.1)
 
@@ -154,7 +154,7 @@ name_text lexed names n a known is = by_token (slice_get lexed.tokens n) refl is
 
 pub spelled-numbered : (words : Meanings) (lexed : Lexed) → IsSpelled words lexed → AreNumbered lexed
 spelled-numbered words lexed spelled one other a b are =
-    let k = spells_known lexed.unit words lexed.bytes lexed.tokens spelled.0 lexed.marks spelled.1 in
+    let k = spells_known lexed.unit lexed.wide words lexed.bytes lexed.tokens spelled.0 lexed.marks spelled.1 in
     let first = name_text lexed spelled.0 one a k.0 are.one_is in
     let second = name_text lexed spelled.0 other b k.0 are.other_is in (
       λ same. (let h : Some (text_of lexed one) ≡ Some (text_of lexed other) = sym first ∙ ap (slice_get spelled.0) same ∙ second in let e : text_of lexed one ≡ text_of lexed other = cc in e),

@@ -121,8 +121,8 @@ names_len names bytes (Qual l e) = omega arith
 names_len names bytes Index = omega arith
 names_len names bytes End = omega arith
 
-takes_kept : (unit : ℕ) (words : Meanings) (bytes : List ℕ) (old new : Front) → IsKept bytes old → Takes unit words bytes old new → IsKept bytes new
-takes_kept unit words bytes old new kept t =
+takes_kept : (unit : ℕ) (wide : Bool) (words : Meanings) (bytes : List ℕ) (old new : Front) → IsKept bytes old → Takes unit wide words bytes old new → IsKept bytes new
+takes_kept unit wide words bytes old new kept t =
     let some = token-some (drop old.at bytes) t.n t.longest in
     let fits = t.longest.inside in
     let size = length-drop old.at bytes in
@@ -140,31 +140,31 @@ takes_kept unit words bytes old new kept t =
       marked = rw t.marks (marked_later old.marks old.at new.at kept.marked (omega arith));
     }
 
-pub reaches-kept : (unit : ℕ) (words : Meanings) (bytes : List ℕ) (front : Front) → Reaches unit words bytes front → IsKept bytes front
-reaches-kept unit words bytes front begins = record {
+pub reaches-kept : (unit : ℕ) (wide : Bool) (words : Meanings) (bytes : List ℕ) (front : Front) → Reaches unit wide words bytes front → IsKept bytes front
+reaches-kept unit wide words bytes front begins = record {
   inside = omega arith;
   counted = record { tokens = omega arith; names = omega arith };
   tokens = λ k t there. absurd cc;
   rising = IsNonDecreasingBy-short (λ (m : Mark). m.from) [] (omega arith);
   marked = λ k m there. absurd cc;
 }
-reaches-kept unit words bytes front (skips old new reached step) = skips_kept bytes old new (reaches-kept unit words bytes old reached) step
-reaches-kept unit words bytes front (takes old new reached step) = takes_kept unit words bytes old new (reaches-kept unit words bytes old reached) step
+reaches-kept unit wide words bytes front (skips old new reached step) = skips_kept bytes old new (reaches-kept unit wide words bytes old reached) step
+reaches-kept unit wide words bytes front (takes old new reached step) = takes_kept unit wide words bytes old new (reaches-kept unit wide words bytes old reached) step
 
 -- each step leads on
-pub step-further : (unit : ℕ) (words : Meanings) (bytes : List ℕ) (old new : Front) → IsStep unit words bytes old new → old.at < new.at
-step-further unit words bytes old new (inl s) = let fits = gap-fits s.gap old.fresh (drop old.at bytes) s.n s.stands in let at = s.at in omega arith
-step-further unit words bytes old new (inr t) = let some = token-some (drop old.at bytes) t.n t.longest in let at = t.at in omega arith
+pub step-further : (unit : ℕ) (wide : Bool) (words : Meanings) (bytes : List ℕ) (old new : Front) → IsStep unit wide words bytes old new → old.at < new.at
+step-further unit wide words bytes old new (inl s) = let fits = gap-fits s.gap old.fresh (drop old.at bytes) s.n s.stands in let at = s.at in omega arith
+step-further unit wide words bytes old new (inr t) = let some = token-some (drop old.at bytes) t.n t.longest in let at = t.at in omega arith
 
-pub step-reaches : (unit : ℕ) (words : Meanings) (bytes : List ℕ) (old new : Front) → Reaches unit words bytes old → IsStep unit words bytes old new → Reaches unit words bytes new
-step-reaches unit words bytes old new reached (inl s) = skips old new reached s
-step-reaches unit words bytes old new reached (inr t) = takes old new reached t
+pub step-reaches : (unit : ℕ) (wide : Bool) (words : Meanings) (bytes : List ℕ) (old new : Front) → Reaches unit wide words bytes old → IsStep unit wide words bytes old new → Reaches unit wide words bytes new
+step-reaches unit wide words bytes old new reached (inl s) = skips old new reached s
+step-reaches unit wide words bytes old new reached (inr t) = takes old new reached t
 
 -- a whole unit with its last token
-pub sound-end : (unit : ℕ) (words : Meanings) (bytes : List ℕ) (front : Front) (tokens : List Token) (marks : List Mark) (end : ℕ) → length bytes < 2 ^ 32 - 1 → Reaches unit words bytes front → front.at ≡ length bytes → end ≡ length bytes →
+pub sound-end : (unit : ℕ) (wide : Bool) (words : Meanings) (bytes : List ℕ) (front : Front) (tokens : List Token) (marks : List Mark) (end : ℕ) → length bytes < 2 ^ 32 - 1 → Reaches unit wide words bytes front → front.at ≡ length bytes → end ≡ length bytes →
     tokens ≡ front.tokens ++ record { kind = End; start = end; end = end } ∷ [] → marks ≡ front.marks → IsSound bytes tokens marks
-sound-end unit words bytes front tokens marks end small reached whole end_is tokens_are marks_are =
-    let kept = reaches-kept unit words bytes front reached in
+sound-end unit wide words bytes front tokens marks end small reached whole end_is tokens_are marks_are =
+    let kept = reaches-kept unit wide words bytes front reached in
     record {
       few = (let few = kept.counted.tokens in let size = ap length tokens_are ∙ length-append front.tokens (record { kind = End; start = end; end = end } ∷ []) in omega arith);
       inside = rw tokens_are (before_more front.tokens (record { kind = End; start = end; end = end }) front.at (length bytes) kept.tokens (omega arith) (omega arith) (omega arith));
@@ -172,9 +172,9 @@ sound-end unit words bytes front tokens marks end small reached whole end_is tok
       rising = rw marks_are kept.rising;
     }
 
-pub spells-end : (unit : ℕ) (words : Meanings) (bytes : List ℕ) (front : Front) (tokens : List Token) (marks : List Mark) (end : ℕ) → Reaches unit words bytes front → front.at ≡ length bytes → end ≡ length bytes →
-    tokens ≡ front.tokens ++ record { kind = End; start = end; end = end } ∷ [] → marks ≡ front.marks → Spells unit words bytes tokens front.names marks
-spells-end unit words bytes front tokens marks end reached whole end_is tokens_are marks_are = record {
+pub spells-end : (unit : ℕ) (wide : Bool) (words : Meanings) (bytes : List ℕ) (front : Front) (tokens : List Token) (marks : List Mark) (end : ℕ) → Reaches unit wide words bytes front → front.at ≡ length bytes → end ≡ length bytes →
+    tokens ≡ front.tokens ++ record { kind = End; start = end; end = end } ∷ [] → marks ≡ front.marks → Spells unit wide words bytes tokens front.names marks
+spells-end unit wide words bytes front tokens marks end reached whole end_is tokens_are marks_are = record {
   front = front;
   reached = reached;
   whole = whole;
@@ -184,8 +184,8 @@ spells-end unit words bytes front tokens marks end reached whole end_is tokens_a
 }
 
 -- where reading stops, the marks are in order, and the place is within the bytes
-pub stop-kept : (unit : ℕ) (words : Meanings) (bytes : List ℕ) (front : Front) (stop : Stop) → StopsBehind unit words bytes front stop → (stop ≡ NoMemory → ⊥) → IsKept bytes front
-stop-kept unit words bytes front BadByte h other = rw h.2.0 (reaches-kept unit words bytes h.0 h.1)
-stop-kept unit words bytes front Unended h other = rw h.2.0 (reaches-kept unit words bytes h.0 h.1)
-stop-kept unit words bytes front UnknownQualifier h other = rw h.2.0 (reaches-kept unit words bytes h.0 h.1)
-stop-kept unit words bytes front NoMemory h other = absurd (other refl)
+pub stop-kept : (unit : ℕ) (wide : Bool) (words : Meanings) (bytes : List ℕ) (front : Front) (stop : Stop) → StopsBehind unit wide words bytes front stop → (stop ≡ NoMemory → ⊥) → IsKept bytes front
+stop-kept unit wide words bytes front BadByte h other = rw h.2.0 (reaches-kept unit wide words bytes h.0 h.1)
+stop-kept unit wide words bytes front Unended h other = rw h.2.0 (reaches-kept unit wide words bytes h.0 h.1)
+stop-kept unit wide words bytes front UnknownQualifier h other = rw h.2.0 (reaches-kept unit wide words bytes h.0 h.1)
+stop-kept unit wide words bytes front NoMemory h other = absurd (other refl)

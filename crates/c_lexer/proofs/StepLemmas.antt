@@ -49,9 +49,9 @@ pub token-some : (bytes : List ℕ) (n : ℕ) → IsLongestOf is_token bytes n �
 token-some bytes zero long = absurd (both_ways (is_token []) nil_token long.passes)
 token-some bytes (suc n) long = omega arith
 
-pub stuck : (unit : ℕ) (words : Meanings) (bytes : List ℕ) (front : Front) (stop : Stop) → stop ≡ (if opens (drop front.at bytes) then Unended else BadByte) → IsStuck bytes front → StopsAt unit words bytes front front stop
-stuck unit words bytes front stop is h = by_test (opens (drop front.at bytes)) refl is
+pub stuck : (unit : ℕ) (wide : Bool) (words : Meanings) (bytes : List ℕ) (front : Front) (stop : Stop) → stop ≡ (if opens (drop front.at bytes) then Unended else BadByte) → IsStuck bytes front → StopsAt unit wide words bytes front front stop
+stuck unit wide words bytes front stop is h = by_test (opens (drop front.at bytes)) refl is
   where
-    by_test : (b : Bool) → opens (drop front.at bytes) ≡ b → stop ≡ (if b then Unended else BadByte) → StopsAt unit words bytes front front stop
+    by_test : (b : Bool) → opens (drop front.at bytes) ≡ b → stop ≡ (if b then Unended else BadByte) → StopsAt unit wide words bytes front front stop
     by_test true e is = rw is (refl, h, e)
     by_test false e is = rw is (refl, h, e)

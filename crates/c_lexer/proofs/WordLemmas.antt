@@ -1,9 +1,9 @@
 -- A word is found among the words of its length.
-use Rattle.std.proofs.Common.{◌≡◌, ℕ, zero, suc, ◌+◌, ◌-◌, ◌<◌, ◌≤◌, nat_eq, arith, Bool, true, false, ◌&&◌, List, [], ◌∷◌, ◌++◌, length, map, slice_index_or, Option, Some, None, inl, inr, refl, sym, ◌∙◌, ap, if◌then◌else◌}
+use Rattle.std.proofs.Common.{◌≡◌, ℕ, zero, suc, ◌+◌, ◌<◌, ◌≤◌, nat_eq, arith, Bool, true, false, ◌&&◌, List, [], ◌∷◌, ◌++◌, length, map, slice_index_or, Option, Some, None, inl, inr, refl, sym, ◌∙◌, ap, if◌then◌else◌}
 use Rattle.std.specs.Prelude.{bytes_eq}
 use Rattle.std.proofs.lemmas.Slice.Eq.{bytes_eq-Decides}
 use Rattle.std.proofs.lemmas.Bool.Decides.{eqb_tells}
-use Rattle.c_lexer.specs.declared.kinds.Word.{Word}
+use Rattle.c_lexer.specs.declared.kinds.Listed.{Listed}
 use Rattle.c_lexer.specs.Lengths.{joined, have_length, by_length}
 use Rattle.c_lexer.specs.Words.{kind_in}
 
@@ -30,7 +30,7 @@ differs word spelling n has not_so = by_test (bytes_eq word spelling) refl
         absurd (not_so (ap (λ (l : List ℕ). length l) ((bytes_eq-Decides word spelling).0 is) ∙ has))
 
 -- a table of another length says nothing
-passed : (n : ℕ) (table rest : List (List ℕ × Word)) (word : List ℕ) → have_length n table ≡ true → (length word ≡ n → ⊥)
+passed : (n : ℕ) (table rest : List (List ℕ × Listed)) (word : List ℕ) → have_length n table ≡ true → (length word ≡ n → ⊥)
     → kind_in (table ++ rest) word ≡ kind_in rest word
 passed n [] rest word are not_so = refl
 passed n (entry ∷ entries) rest word are not_so =
@@ -39,7 +39,7 @@ passed n (entry ∷ entries) rest word are not_so =
     ∙ passed n entries rest word (both_other (nat_eq (length entry.0) n) (have_length n entries) are) not_so
 
 -- nor do tables of longer words
-longer : (n : ℕ) (tables : List (List (List ℕ × Word))) (word : List ℕ) → by_length n tables ≡ true → length word < n
+longer : (n : ℕ) (tables : List (List (List ℕ × Listed))) (word : List ℕ) → by_length n tables ≡ true → length word < n
     → kind_in (joined tables) word ≡ None
 longer n [] word are lt = refl
 longer n (table ∷ tables) word are lt =
@@ -47,14 +47,14 @@ longer n (table ∷ tables) word are lt =
     ∙ longer (suc n) tables word (both_other (have_length n table) (by_length (suc n) tables) are) (omega arith)
 
 -- the words behind a table where they say nothing
-in_front : (table rest : List (List ℕ × Word)) (word : List ℕ) → kind_in rest word ≡ None
+in_front : (table rest : List (List ℕ × Listed)) (word : List ℕ) → kind_in rest word ≡ None
     → kind_in (table ++ rest) word ≡ kind_in table word
 in_front [] rest word none = none
 in_front (entry ∷ entries) rest word none =
-    ap (λ (o : Option Word). if bytes_eq word entry.0 then Some entry.1 else o) (in_front entries rest word none)
+    ap (λ (o : Option Listed). if bytes_eq word entry.0 then Some entry.1 else o) (in_front entries rest word none)
 
 -- the words of one length say what all do
-pub of_length : {T : Type 0} (words : T → List (List ℕ × Word)) (n k : ℕ) (tables : List T) (other : T) (word : List ℕ)
+pub of_length : {T : Type 0} (words : T → List (List ℕ × Listed)) (n k : ℕ) (tables : List T) (other : T) (word : List ℕ)
     → by_length n (map words tables) ≡ true → length word ≡ k + n → k < length tables
     → kind_in (words (slice_index_or tables k other)) word ≡ kind_in (joined (map words tables)) word
 of_length words n k [] other word are is lt = absurd (omega arith)
@@ -66,7 +66,7 @@ of_length words n (suc k) (table ∷ tables) other word are is lt =
     ∙ sym (passed n (words table) (joined (map words tables)) word (both_one (have_length n (words table)) (by_length (suc n) (map words tables)) are) (λ e. omega arith))
 
 -- a word that is longer than all is none
-pub past_all : {T : Type 0} (words : T → List (List ℕ × Word)) (n : ℕ) (tables : List T) (word : List ℕ)
+pub past_all : {T : Type 0} (words : T → List (List ℕ × Listed)) (n : ℕ) (tables : List T) (word : List ℕ)
     → by_length n (map words tables) ≡ true → n + length tables ≤ length word
     → kind_in (joined (map words tables)) word ≡ None
 past_all words n [] word are le = refl

@@ -27,16 +27,16 @@ abbrev pub is_index : ℕ → List ℕ → Bool
 is_index unit bytes = unit == 0 && starts_with nat_eq bytes (codes "$_")
 
 -- the kind of a token that is spelled so, behind tokens with these different names
-abbrev pub IsKind : ℕ → Meanings → List (List ℕ) → List ℕ → TokenKind → Type 0
-IsKind unit words names bytes (Name id) = (is_word bytes ≡ true) × (word_kind bytes ≡ None) × (id ≡ name_number names bytes)
-IsKind unit words names bytes (Keyword word) = (is_word bytes ≡ true) × (word_kind bytes ≡ Some (AsKeyword word))
-IsKind unit words names bytes Number = is_number bytes ≡ true
-IsKind unit words names bytes Char = is_char bytes ≡ true
-IsKind unit words names bytes Text = (is_text bytes ≡ true) ⊎ ((is_word bytes ≡ true) × (word_kind bytes ≡ Some AsText))
-IsKind unit words names bytes (Punct sign) = sign_kind bytes ≡ Some sign
-IsKind unit words names bytes (Qual lattice elem) = (is_dollar bytes ≡ true) × (is_index unit bytes ≡ false) × (meaning_of words bytes ≡ Some (lattice, elem))
-IsKind unit words names bytes Index = (is_dollar bytes ≡ true) × (is_index unit bytes ≡ true)
-IsKind unit words names bytes End = ⊥
+abbrev pub IsKind : ℕ → Bool → Meanings → List (List ℕ) → List ℕ → TokenKind → Type 0
+IsKind unit wide words names bytes (Name id) = (is_word bytes ≡ true) × (word_kind wide bytes ≡ None) × (id ≡ name_number names bytes)
+IsKind unit wide words names bytes (Keyword word) = (is_word bytes ≡ true) × (word_kind wide bytes ≡ Some (AsKeyword word))
+IsKind unit wide words names bytes Number = is_number bytes ≡ true
+IsKind unit wide words names bytes Char = is_char bytes ≡ true
+IsKind unit wide words names bytes Text = (is_text bytes ≡ true) ⊎ ((is_word bytes ≡ true) × (word_kind wide bytes ≡ Some AsText))
+IsKind unit wide words names bytes (Punct sign) = sign_kind bytes ≡ Some sign
+IsKind unit wide words names bytes (Qual lattice elem) = (is_dollar bytes ≡ true) × (is_index unit bytes ≡ false) × (meaning_of words bytes ≡ Some (lattice, elem))
+IsKind unit wide words names bytes Index = (is_dollar bytes ≡ true) × (is_index unit bytes ≡ true)
+IsKind unit wide words names bytes End = ⊥
 
 -- the different names behind a token that is spelled so
 abbrev pub names_behind : List (List ℕ) → List ℕ → TokenKind → List (List ℕ)
@@ -78,12 +78,12 @@ pub record Skips (bytes : List ℕ) (old new : Front) : Type 0 where
   pub marks : MarksBehind bytes gap old.at n old.marks new.marks
 
 -- a token of n bytes stands between two places, and no longer front of the rest is one
-pub record Takes (unit : ℕ) (words : Meanings) (bytes : List ℕ) (old new : Front) : Type 0 where
+pub record Takes (unit : ℕ) (wide : Bool) (words : Meanings) (bytes : List ℕ) (old new : Front) : Type 0 where
   pub n : ℕ
   pub kind : TokenKind
   pub no_comment : begins_comment (drop old.at bytes) ≡ false
   pub longest : IsLongestOf is_token (drop old.at bytes) n
-  pub is_kind : IsKind unit words old.names (take n (drop old.at bytes)) kind
+  pub is_kind : IsKind unit wide words old.names (take n (drop old.at bytes)) kind
   pub at : new.at ≡ old.at + n
   pub fresh : new.fresh ≡ false
   pub tokens : new.tokens ≡ old.tokens ++ record { kind = kind; start = old.at; end = old.at + n } ∷ []
@@ -91,15 +91,15 @@ pub record Takes (unit : ℕ) (words : Meanings) (bytes : List ℕ) (old new : F
   pub marks : new.marks ≡ old.marks
 
 -- gaps and tokens in turn lead to a place
-pub data Reaches (unit : ℕ) (words : Meanings) (bytes : List ℕ) : Front → Type 0 where
-  begins : Reaches unit words bytes begin
-  skips : (old new : Front) → Reaches unit words bytes old → Skips bytes old new → Reaches unit words bytes new
-  takes : (old new : Front) → Reaches unit words bytes old → Takes unit words bytes old new → Reaches unit words bytes new
+pub data Reaches (unit : ℕ) (wide : Bool) (words : Meanings) (bytes : List ℕ) : Front → Type 0 where
+  begins : Reaches unit wide words bytes begin
+  skips : (old new : Front) → Reaches unit wide words bytes old → Skips bytes old new → Reaches unit wide words bytes new
+  takes : (old new : Front) → Reaches unit wide words bytes old → Takes unit wide words bytes old new → Reaches unit wide words bytes new
 
 -- the bytes spell these tokens, with these different names and linemarkers
-pub record Spells (unit : ℕ) (words : Meanings) (bytes : List ℕ) (tokens : List Token) (names : List (List ℕ)) (marks : List Mark) : Type 0 where
+pub record Spells (unit : ℕ) (wide : Bool) (words : Meanings) (bytes : List ℕ) (tokens : List Token) (names : List (List ℕ)) (marks : List Mark) : Type 0 where
   pub front : Front
-  pub reached : Reaches unit words bytes front
+  pub reached : Reaches unit wide words bytes front
   pub whole : front.at ≡ length bytes
   pub tokens_are : tokens ≡ front.tokens ++ record { kind = End; start = length bytes; end = length bytes } ∷ []
   pub names_are : names ≡ front.names
@@ -125,15 +125,15 @@ pub record IsUnknown (unit : ℕ) (words : Meanings) (bytes : List ℕ) (front :
   pub unknown : meaning_of words (take n (drop front.at bytes)) ≡ None
 
 -- why reading stops at a place, which it leaves as it was; want of memory may come anywhere
-abbrev pub StopsAt : ℕ → Meanings → List ℕ → Front → Front → Stop → Type 0
-StopsAt unit words bytes old new BadByte = (new ≡ old) × IsStuck bytes old × (opens (drop old.at bytes) ≡ false)
-StopsAt unit words bytes old new Unended = (new ≡ old) × IsStuck bytes old × (opens (drop old.at bytes) ≡ true)
-StopsAt unit words bytes old new UnknownQualifier = (new ≡ old) × IsUnknown unit words bytes old
-StopsAt unit words bytes old new NoMemory = Unit {0}
+abbrev pub StopsAt : ℕ → Bool → Meanings → List ℕ → Front → Front → Stop → Type 0
+StopsAt unit wide words bytes old new BadByte = (new ≡ old) × IsStuck bytes old × (opens (drop old.at bytes) ≡ false)
+StopsAt unit wide words bytes old new Unended = (new ≡ old) × IsStuck bytes old × (opens (drop old.at bytes) ≡ true)
+StopsAt unit wide words bytes old new UnknownQualifier = (new ≡ old) × IsUnknown unit words bytes old
+StopsAt unit wide words bytes old new NoMemory = Unit {0}
 
 -- a gap or a token leads from a place to another
-abbrev pub IsStep : ℕ → Meanings → List ℕ → Front → Front → Type 0
-IsStep unit words bytes old new = Skips bytes old new ⊎ Takes unit words bytes old new
+abbrev pub IsStep : ℕ → Bool → Meanings → List ℕ → Front → Front → Type 0
+IsStep unit wide words bytes old new = Skips bytes old new ⊎ Takes unit wide words bytes old new
 
 -- no more tokens and names than bytes were read
 pub record IsCounted (front : Front) : Type 0 where
@@ -148,5 +148,5 @@ HasNoKind unit words bytes old new UnknownQualifier = (new ≡ old) × (is_dolla
 HasNoKind unit words bytes old new NoMemory = Unit {0}
 
 -- why reading stops behind gaps and tokens in turn
-abbrev pub StopsBehind : ℕ → Meanings → List ℕ → Front → Stop → Type 0
-StopsBehind unit words bytes new stop = (old : Front) × Reaches unit words bytes old × StopsAt unit words bytes old new stop
+abbrev pub StopsBehind : ℕ → Bool → Meanings → List ℕ → Front → Stop → Type 0
+StopsBehind unit wide words bytes new stop = (old : Front) × Reaches unit wide words bytes old × StopsAt unit wide words bytes old new stop

@@ -1,5 +1,5 @@
 -- The tokens of a unit, as clauses see them, and what is answered of each.
-use Rattle.std.specs.Prelude.{◌≡◌, ℕ, ◌<◌, ◌≤◌, ◌^◌, List, [], ◌∷◌, ◌++◌, length, map, Option, Some, None, codes, slice_get, slice_range, unwrap_or}
+use Rattle.std.specs.Prelude.{◌≡◌, ℕ, Bool, ◌<◌, ◌≤◌, ◌^◌, List, [], ◌∷◌, ◌++◌, length, map, Option, Some, None, codes, slice_get, slice_range, unwrap_or}
 use Rattle.std.specs.List.Sorted.{IsNonDecreasingBy}
 use Rattle.qual_base.specs.Words.{meaning_of, MeansTheSame}
 use Rattle.qual_base.specs.declared.places.Spot.{Spot}
@@ -12,9 +12,11 @@ use Rattle.c_lexer.specs.declared.places.Mark.{Mark}
 use Rattle.c_lexer.specs.Places.{spot_at}
 use Rattle.c_lexer.specs.Reading.{Meanings, Spells}
 
--- A unit with its tokens and linemarkers, and what `const`, `volatile` and `restrict` mean in the lattices.
+-- A unit with its tokens and linemarkers, whether it is read as wider C, and what `const`, `volatile` and `restrict` mean in the
+-- lattices.
 pub record Lexed : Type 0 where
   pub unit : ℕ
+  pub wide : Bool
   pub bytes : List ℕ
   pub tokens : List Token
   pub marks : List Mark
@@ -43,7 +45,7 @@ pub record NamesKeywords (words : Meanings) (lexed : Lexed) : Type 0 where
 
 -- the bytes of the unit spell its tokens and linemarkers, with some list of different names
 abbrev pub IsSpelled : Meanings → Lexed → Type 0
-IsSpelled words lexed = (names : List (List ℕ)) × Spells lexed.unit words lexed.bytes lexed.tokens names lexed.marks
+IsSpelled words lexed = (names : List (List ℕ)) × Spells lexed.unit lexed.wide words lexed.bytes lexed.tokens names lexed.marks
 
 -- The bytes spell the tokens, where the `$` words and the three keywords mean what these words say.
 pub record IsMarkedBy (meanings : Meanings) (lexed : Lexed) : Type 0 where

@@ -1,115 +1,134 @@
 -- The words and the signs of C, each with the kind of token that it is.
-use Rattle.std.specs.Prelude.{ℕ, List, [], ◌∷◌, Option, Some, None, bytes_eq, codes, find, option_map, if◌then◌else◌}
+use Rattle.std.specs.Prelude.{ℕ, Bool, true, false, List, [], ◌∷◌, Option, Some, None, bytes_eq, codes, find, option_map, if◌then◌else◌}
 use Rattle.c_lexer.specs.declared.kinds.Word.{Word}
 use Rattle.c_lexer.specs.declared.kinds.Word.TheVariants.{Keyword as AsKeyword, Text as AsText}
-use Rattle.c_words.specs.declared.kinds.Keyword.TheVariants.{Auto, Break, Case, Char, Const, Continue, Default, Do, Double, Else, Enum, Extern, Float, For, Goto, If, Inline, Int, Long, Register, Restrict, Return, Short, Signed, Sizeof, Static, Struct, Switch, Typedef, Union, Unsigned, Void, Volatile, While, Bool as BoolWord, Complex, Imaginary, Asm, Attribute, Alignof, Thread, Extension, Noreturn, StaticAssert, BaseWord, Int128, VaArg, VaStart, VaCopy, Offsetof, Reserved}
+use Rattle.c_lexer.specs.declared.kinds.Listed.{Listed}
+use Rattle.c_lexer.specs.declared.kinds.Listed.TheVariants.{Always, Text as SpelledText, Complex as AsComplex, Wide, Added}
+use Rattle.c_words.specs.declared.kinds.Keyword.TheVariants.{Auto, Break, Case, Char, Const, Continue, Default, Do, Double, Else, Enum, Extern, Float, For, Goto, If, Inline, Int, Long, Register, Restrict, Return, Short, Signed, Sizeof, Static, Struct, Switch, Typedef, Union, Unsigned, Void, Volatile, While, Bool as BoolWord, Complex, AnyComplex, Imaginary, Asm, Attribute, Alignof, Thread, Extension, Noreturn, StaticAssert, BaseWord, Int128, VaArg, VaStart, VaCopy, Offsetof, Reserved, Typeof, Generic, Atomic, Alignas, AutoType, LabelWord, Part, Seg, Compatible, Choose}
 use Rattle.c_words.specs.declared.kinds.Punct.{Punct}
 use Rattle.c_words.specs.declared.kinds.Punct.TheVariants.{OpenBracket, CloseBracket, OpenParen, CloseParen, OpenBrace, CloseBrace, Dot, Arrow, PlusPlus, MinusMinus, Ampersand, Star, Plus, Minus, Tilde, Bang, Slash, Percent, ShiftLeft, ShiftRight, Less, Greater, LessEqual, GreaterEqual, EqualEqual, BangEqual, Caret, Bar, AmpersandAmpersand, BarBar, Question, Colon, Semicolon, Ellipsis, Equal, StarEqual, SlashEqual, PercentEqual, PlusEqual, MinusEqual, ShiftLeftEqual, ShiftRightEqual, AmpersandEqual, CaretEqual, BarEqual, Comma}
 
 -- the words that are no names (C99, 6.4.1, and the GNU dialect), by length
-unfoldable pub words : List (List ℕ × Word)
+unfoldable pub words : List (List ℕ × Listed)
 words =
-    (codes "do", AsKeyword Do) ∷
-    (codes "if", AsKeyword If) ∷
-    (codes "asm", AsKeyword Asm) ∷
-    (codes "for", AsKeyword For) ∷
-    (codes "int", AsKeyword Int) ∷
-    (codes "auto", AsKeyword Auto) ∷
-    (codes "case", AsKeyword Case) ∷
-    (codes "char", AsKeyword Char) ∷
-    (codes "else", AsKeyword Else) ∷
-    (codes "enum", AsKeyword Enum) ∷
-    (codes "goto", AsKeyword Goto) ∷
-    (codes "long", AsKeyword Long) ∷
-    (codes "void", AsKeyword Void) ∷
-    (codes "_Bool", AsKeyword BoolWord) ∷
-    (codes "__asm", AsKeyword Asm) ∷
-    (codes "break", AsKeyword Break) ∷
-    (codes "const", AsKeyword Const) ∷
-    (codes "float", AsKeyword Float) ∷
-    (codes "short", AsKeyword Short) ∷
-    (codes "union", AsKeyword Union) ∷
-    (codes "while", AsKeyword While) ∷
-    (codes "double", AsKeyword Double) ∷
-    (codes "extern", AsKeyword Extern) ∷
-    (codes "inline", AsKeyword Inline) ∷
-    (codes "return", AsKeyword Return) ∷
-    (codes "signed", AsKeyword Signed) ∷
-    (codes "sizeof", AsKeyword Sizeof) ∷
-    (codes "static", AsKeyword Static) ∷
-    (codes "struct", AsKeyword Struct) ∷
-    (codes "switch", AsKeyword Switch) ∷
-    (codes "typeof", AsKeyword Reserved) ∷
-    (codes "_Atomic", AsKeyword Reserved) ∷
-    (codes "__asm__", AsKeyword Asm) ∷
-    (codes "__const", AsKeyword Const) ∷
-    (codes "default", AsKeyword Default) ∷
-    (codes "typedef", AsKeyword Typedef) ∷
-    (codes "_Alignas", AsKeyword Reserved) ∷
-    (codes "_Alignof", AsKeyword Alignof) ∷
-    (codes "_Complex", AsKeyword Complex) ∷
-    (codes "_Float16", AsKeyword BaseWord) ∷
-    (codes "_Float32", AsKeyword BaseWord) ∷
-    (codes "_Float64", AsKeyword BaseWord) ∷
-    (codes "_Generic", AsKeyword Reserved) ∷
-    (codes "__func__", AsText) ∷
-    (codes "__imag__", AsKeyword Reserved) ∷
-    (codes "__inline", AsKeyword Inline) ∷
-    (codes "__int128", AsKeyword Int128) ∷
-    (codes "__real__", AsKeyword Reserved) ∷
-    (codes "__signed", AsKeyword Signed) ∷
-    (codes "__thread", AsKeyword Thread) ∷
-    (codes "__typeof", AsKeyword Reserved) ∷
-    (codes "continue", AsKeyword Continue) ∷
-    (codes "register", AsKeyword Register) ∷
-    (codes "restrict", AsKeyword Restrict) ∷
-    (codes "unsigned", AsKeyword Unsigned) ∷
-    (codes "volatile", AsKeyword Volatile) ∷
-    (codes "_Float128", AsKeyword BaseWord) ∷
-    (codes "_Float32x", AsKeyword BaseWord) ∷
-    (codes "_Float64x", AsKeyword BaseWord) ∷
-    (codes "_Noreturn", AsKeyword Noreturn) ∷
-    (codes "__alignof", AsKeyword Alignof) ∷
-    (codes "__const__", AsKeyword Const) ∷
-    (codes "__label__", AsKeyword Reserved) ∷
-    (codes "_Imaginary", AsKeyword Imaginary) ∷
-    (codes "__float128", AsKeyword BaseWord) ∷
-    (codes "__inline__", AsKeyword Inline) ∷
-    (codes "__int128_t", AsKeyword BaseWord) ∷
-    (codes "__restrict", AsKeyword Restrict) ∷
-    (codes "__signed__", AsKeyword Signed) ∷
-    (codes "__typeof__", AsKeyword Reserved) ∷
-    (codes "__volatile", AsKeyword Volatile) ∷
-    (codes "__alignof__", AsKeyword Alignof) ∷
-    (codes "__attribute", AsKeyword Attribute) ∷
-    (codes "__auto_type", AsKeyword Reserved) ∷
-    (codes "__complex__", AsKeyword Complex) ∷
-    (codes "__uint128_t", AsKeyword BaseWord) ∷
-    (codes "__FUNCTION__", AsText) ∷
-    (codes "__restrict__", AsKeyword Restrict) ∷
-    (codes "__volatile__", AsKeyword Volatile) ∷
-    (codes "_Thread_local", AsKeyword Thread) ∷
-    (codes "__attribute__", AsKeyword Attribute) ∷
-    (codes "__extension__", AsKeyword Extension) ∷
-    (codes "_Static_assert", AsKeyword StaticAssert) ∷
-    (codes "__builtin_va_arg", AsKeyword VaArg) ∷
-    (codes "__builtin_va_copy", AsKeyword VaCopy) ∷
-    (codes "__builtin_va_list", AsKeyword BaseWord) ∷
-    (codes "__builtin_offsetof", AsKeyword Offsetof) ∷
-    (codes "__builtin_va_start", AsKeyword VaStart) ∷
-    (codes "__PRETTY_FUNCTION__", AsText) ∷
-    (codes "__builtin_choose_expr", AsKeyword Reserved) ∷
-    (codes "__builtin_types_compatible_p", AsKeyword Reserved) ∷
+    (codes "do", Always Do) ∷
+    (codes "if", Always If) ∷
+    (codes "asm", Always Asm) ∷
+    (codes "for", Always For) ∷
+    (codes "int", Always Int) ∷
+    (codes "auto", Always Auto) ∷
+    (codes "case", Always Case) ∷
+    (codes "char", Always Char) ∷
+    (codes "else", Always Else) ∷
+    (codes "enum", Always Enum) ∷
+    (codes "goto", Always Goto) ∷
+    (codes "long", Always Long) ∷
+    (codes "void", Always Void) ∷
+    (codes "_Bool", Always BoolWord) ∷
+    (codes "__asm", Always Asm) ∷
+    (codes "break", Always Break) ∷
+    (codes "const", Always Const) ∷
+    (codes "float", Always Float) ∷
+    (codes "short", Always Short) ∷
+    (codes "union", Always Union) ∷
+    (codes "while", Always While) ∷
+    (codes "double", Always Double) ∷
+    (codes "extern", Always Extern) ∷
+    (codes "inline", Always Inline) ∷
+    (codes "return", Always Return) ∷
+    (codes "signed", Always Signed) ∷
+    (codes "sizeof", Always Sizeof) ∷
+    (codes "static", Always Static) ∷
+    (codes "struct", Always Struct) ∷
+    (codes "switch", Always Switch) ∷
+    (codes "typeof", Wide Typeof) ∷
+    (codes "__imag", Added Part) ∷
+    (codes "__real", Added Part) ∷
+    (codes "_Atomic", Wide Atomic) ∷
+    (codes "__asm__", Always Asm) ∷
+    (codes "__const", Always Const) ∷
+    (codes "default", Always Default) ∷
+    (codes "typedef", Always Typedef) ∷
+    (codes "_Alignas", Wide Alignas) ∷
+    (codes "_Alignof", Always Alignof) ∷
+    (codes "_Complex", AsComplex) ∷
+    (codes "_Float16", Always BaseWord) ∷
+    (codes "_Float32", Always BaseWord) ∷
+    (codes "_Float64", Always BaseWord) ∷
+    (codes "_Generic", Wide Generic) ∷
+    (codes "__func__", SpelledText) ∷
+    (codes "__imag__", Wide Part) ∷
+    (codes "__inline", Always Inline) ∷
+    (codes "__int128", Always Int128) ∷
+    (codes "__real__", Wide Part) ∷
+    (codes "__signed", Always Signed) ∷
+    (codes "__thread", Always Thread) ∷
+    (codes "__typeof", Wide Typeof) ∷
+    (codes "continue", Always Continue) ∷
+    (codes "register", Always Register) ∷
+    (codes "restrict", Always Restrict) ∷
+    (codes "unsigned", Always Unsigned) ∷
+    (codes "volatile", Always Volatile) ∷
+    (codes "__seg_fs", Added Seg) ∷
+    (codes "__seg_gs", Added Seg) ∷
+    (codes "_Float128", Always BaseWord) ∷
+    (codes "_Float32x", Always BaseWord) ∷
+    (codes "_Float64x", Always BaseWord) ∷
+    (codes "_Noreturn", Always Noreturn) ∷
+    (codes "__alignof", Always Alignof) ∷
+    (codes "__const__", Always Const) ∷
+    (codes "__label__", Wide LabelWord) ∷
+    (codes "__complex", Added AnyComplex) ∷
+    (codes "_Imaginary", Always Imaginary) ∷
+    (codes "__float128", Always BaseWord) ∷
+    (codes "__inline__", Always Inline) ∷
+    (codes "__int128_t", Always BaseWord) ∷
+    (codes "__restrict", Always Restrict) ∷
+    (codes "__signed__", Always Signed) ∷
+    (codes "__typeof__", Wide Typeof) ∷
+    (codes "__volatile", Always Volatile) ∷
+    (codes "__alignof__", Always Alignof) ∷
+    (codes "__attribute", Always Attribute) ∷
+    (codes "__auto_type", Wide AutoType) ∷
+    (codes "__complex__", AsComplex) ∷
+    (codes "__uint128_t", Always BaseWord) ∷
+    (codes "__FUNCTION__", SpelledText) ∷
+    (codes "__restrict__", Always Restrict) ∷
+    (codes "__volatile__", Always Volatile) ∷
+    (codes "_Thread_local", Always Thread) ∷
+    (codes "__attribute__", Always Attribute) ∷
+    (codes "__extension__", Always Extension) ∷
+    (codes "_Static_assert", Always StaticAssert) ∷
+    (codes "__builtin_va_arg", Always VaArg) ∷
+    (codes "__builtin_va_copy", Always VaCopy) ∷
+    (codes "__builtin_va_list", Always BaseWord) ∷
+    (codes "__builtin_offsetof", Always Offsetof) ∷
+    (codes "__builtin_va_start", Always VaStart) ∷
+    (codes "__PRETTY_FUNCTION__", SpelledText) ∷
+    (codes "__builtin_choose_expr", Wide Choose) ∷
+    (codes "__builtin_types_compatible_p", Wide Compatible) ∷
     []
 
 -- the kind beside a word in a table
-abbrev pub kind_in : List (List ℕ × Word) → List ℕ → Option Word
+abbrev pub kind_in : List (List ℕ × Listed) → List ℕ → Option Listed
 kind_in [] word = None
 kind_in (entry ∷ entries) word = if bytes_eq word entry.0 then Some entry.1 else kind_in entries word
 
--- what a word is that is no name
-unfoldable pub word_kind : List ℕ → Option Word
-word_kind word = kind_in words word
+-- What a word of the table is in sources that are read as wider C, and in others: there a word of wider C is reserved, or a name.
+abbrev pub read_as : Bool → Option Listed → Option Word
+read_as wide None = None
+read_as wide (Some (Always keyword)) = Some (AsKeyword keyword)
+read_as wide (Some SpelledText) = Some AsText
+read_as true (Some AsComplex) = Some (AsKeyword AnyComplex)
+read_as false (Some AsComplex) = Some (AsKeyword Complex)
+read_as true (Some (Wide keyword)) = Some (AsKeyword keyword)
+read_as false (Some (Wide keyword)) = Some (AsKeyword Reserved)
+read_as true (Some (Added keyword)) = Some (AsKeyword keyword)
+read_as false (Some (Added keyword)) = None
+
+-- what a word is that is no name, in sources that are read as wider C or not
+unfoldable pub word_kind : Bool → List ℕ → Option Word
+word_kind wide word = read_as wide (kind_in words word)
 
 -- the operators and brackets (C99, 6.4.6)
 unfoldable pub signs : List (List ℕ × Punct)

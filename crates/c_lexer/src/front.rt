@@ -40,14 +40,14 @@ pub(crate) enum Stop {
     NoMemory,
 }
 
-fn word_token(spelling: &[u8], names: &mut Names) -> Result<TokenKind, OutOfMemory>
+fn word_token(wide: bool, spelling: &[u8], names: &mut Names) -> Result<TokenKind, OutOfMemory>
     requires room { length names.old < 2 ^ 32 }
     requires word { is_word spelling.now ≡ true }
     ensures kind { IfOk result
-        (λ kind. (unit : ℕ) (words : _) → IsKind unit words names.old spelling.now kind) }
+        (λ kind. (unit : ℕ) (words : _) → IsKind unit wide words names.old spelling.now kind) }
     ensures names { IfOk result (λ kind. names.new ≡ names_behind names.old spelling.now kind) }
 {
-    match kind_of_word(spelling) {
+    match kind_of_word(wide, spelling) {
         Some(Word::Keyword(keyword)) => Ok(TokenKind::Keyword(keyword)),
         Some(Word::Text) => Ok(TokenKind::Text),
         None => Ok(TokenKind::Name(names.number_of(spelling)?)),
@@ -58,7 +58,7 @@ fn word_token(spelling: &[u8], names: &mut Names) -> Result<TokenKind, OutOfMemo
 fn dollar_token(unit: UnitNo, words: &QualWords, spelling: &[u8]) -> Option<TokenKind>
     requires { is_dollar spelling.now ≡ true }
     ensures kind { IfSome result
-        (λ kind. (names : _) → IsKind unit words.now names spelling.now kind) }
+        (λ kind. (wide : _) (names : _) → IsKind unit wide words.now names spelling.now kind) }
     ensures names { IfSome result
         (λ kind. (names : _) → names_behind names spelling.now kind ≡ names) }
     ensures unknown { IfNone result
@@ -133,6 +133,7 @@ pub(crate) fn push_token(
 /// The kind of a token of that shape.
 fn token_kind(
     unit: UnitNo,
+    wide: bool,
     words: &QualWords,
     names: &mut Names,
     shape: Shape,
@@ -140,13 +141,13 @@ fn token_kind(
 ) -> Result<TokenKind, Stop>
     requires room { length names.old < 2 ^ 32 }
     requires shape { HasShape shape spelling.now }
-    ensures kind { IfOk result (λ kind. IsKind unit words.now names.old spelling.now kind) }
+    ensures kind { IfOk result (λ kind. IsKind unit wide words.now names.old spelling.now kind) }
     ensures names { IfOk result (λ kind. names.new ≡ names_behind names.old spelling.now kind) }
     ensures none { IfErr result
         (λ stop. HasNoKind unit words.now spelling.now names.old names.new stop) }
 {
     match shape {
-        Shape::Word => word_token(spelling, names).map_err(|_| Stop::NoMemory),
+        Shape::Word => word_token(wide, spelling, names).map_err(|_| Stop::NoMemory),
         Shape::Number => Ok(TokenKind::Number),
         Shape::Char => Ok(TokenKind::Char),
         Shape::Text => Ok(TokenKind::Text),
@@ -241,6 +242,7 @@ impl Front {
     fn take(
         &mut self,
         unit: UnitNo,
+        wide: bool,
         words: &QualWords,
         bytes: &[u8],
         shape: Shape,
@@ -253,13 +255,20 @@ impl Front {
         requires no_comment { begins_comment (drop self.old.at bytes.now) ≡ false }
         requires longest { IsLongestOf is_token (drop self.old.at bytes.now) n }
         requires shape { HasShape shape (take n (drop self.old.at bytes.now)) }
-        ensures takes { OnOk result (Takes unit words.now bytes.now self.old self.new) }
+        ensures takes { OnOk result (Takes unit wide words.now bytes.now self.old self.new) }
         ensures stops { IfErr result
-            (λ stop. StopsAt unit words.now bytes.now self.old self.new stop) }
+            (λ stop. StopsAt unit wide words.now bytes.now self.old self.new stop) }
     {
         let start = self.at;
         let end = start + n;
-        let kind = token_kind(unit, words, &mut self.names, shape, &bytes[start..end])?;
+        let kind = token_kind(
+            unit,
+            wide,
+            words,
+            &mut self.names,
+            shape,
+            &bytes[start..end],
+        )?;
         let Ok(()) = push_token(&mut self.tokens, kind, start as u32, end as u32) else {
             return Err(Stop::NoMemory);
         };
@@ -269,13 +278,19 @@ impl Front {
     }
 
     /// Reads the next gap or token.
-    pub(crate) fn step(&mut self, unit: UnitNo, words: &QualWords, bytes: &[u8]) -> Result<(), Stop>
+    pub(crate) fn step(
+        &mut self,
+        unit: UnitNo,
+        wide: bool,
+        words: &QualWords,
+        bytes: &[u8],
+    ) -> Result<(), Stop>
         requires small { length bytes.now < 2 ^ 32 - 1 }
         requires before { self.old.at < length bytes.now }
         requires counted { IsCounted self.old }
-        ensures steps { OnOk result (IsStep unit words.now bytes.now self.old self.new) }
+        ensures steps { OnOk result (IsStep unit wide words.now bytes.now self.old self.new) }
         ensures stops { IfErr result
-            (λ stop. StopsAt unit words.now bytes.now self.old self.new stop) }
+            (λ stop. StopsAt unit wide words.now bytes.now self.old self.new stop) }
     {
         let rest = &bytes[self.at..];
         if let Some((gap, n)) = gap_in_front(self.fresh, rest) {
@@ -285,7 +300,7 @@ impl Front {
             return Err(Stop::Unended);
         }
         match longest_token(rest) {
-            Some((shape, n)) => self.take(unit, words, bytes, shape, n),
+            Some((shape, n)) => self.take(unit, wide, words, bytes, shape, n),
             None => Err(why_stuck(rest)),
         }
     }
@@ -295,17 +310,18 @@ impl Front {
 pub(crate) fn read_all(
     front: &mut Front,
     unit: UnitNo,
+    wide: bool,
     words: &QualWords,
     bytes: &[u8],
 ) -> Result<(), Stop>
     requires small { length bytes.now < 2 ^ 32 - 1 }
-    requires begins { Reaches unit words.now bytes.now front.old }
+    requires begins { Reaches unit wide words.now bytes.now front.old }
     ensures whole { OnOk result (front.new.at ≡ length bytes.now) }
-    ensures reached { OnOk result (Reaches unit words.now bytes.now front.new) }
-    ensures stops { IfErr result (λ stop. StopsBehind unit words.now bytes.now front.new stop) }
+    ensures reached { OnOk result (Reaches unit wide words.now bytes.now front.new) }
+    ensures stops { IfErr result (λ stop. StopsBehind unit wide words.now bytes.now front.new stop) }
 {
     'steps: while front.at() < bytes.len() {
-        front.step(unit, words, bytes)?;
+        front.step(unit, wide, words, bytes)?;
     }
     Ok(())
 }

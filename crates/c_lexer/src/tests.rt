@@ -59,7 +59,7 @@ fn spot_text(alloc: Global, spot: Spot) -> Result<String, AllocError> {
 
 fn shown(rt: &impl Abort, alloc: Global, unit: u32, source: &[u8]) -> Result<String, AllocError> {
     assert!(rt; source.len() < 1000);
-    match lex(alloc, UnitNo::new(unit), source, &words(rt, alloc)) {
+    match lex(alloc, UnitNo::new(unit), false, source, &words(rt, alloc)) {
         Ok(tokens) => tokens_text(alloc, &tokens),
         Err(LexFault::BadByte(spot)) => format!(in alloc; "bad {}:{}", spot.line, spot.column),
         Err(LexFault::Unended(spot)) => format!(in alloc; "unended {}:{}", spot.line, spot.column),
@@ -285,7 +285,7 @@ static PLACES: [(&[u8], u32, &str); 24] = [
 
 fn placed(rt: &impl Abort, alloc: Global, source: &[u8], at: u32) -> Result<String, AllocError> {
     assert!(rt; source.len() < 1000);
-    let tokens = lex(alloc, UnitNo::new(1), source, &words(rt, alloc)).expect(rt, "tokens");
+    let tokens = lex(alloc, UnitNo::new(1), false, source, &words(rt, alloc)).expect(rt, "tokens");
     assert!(rt; at < tokens.len());
     spot_text(alloc, tokens.place_of(TokenId::new(at)))
 }
@@ -316,6 +316,7 @@ fn readers_answer_of_each_token(rt: HostRuntime) -> Result<(), Fail> {
     let tokens = lex(
         alloc,
         UnitNo::new(1),
+        false,
         b"const $tainted x",
         &words(&rt, alloc),
     )

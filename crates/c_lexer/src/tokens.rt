@@ -41,6 +41,7 @@ impl KeywordMarks {
 #[derive(Drop)]
 pub struct Tokens<'a> {
     text: Text<'a>,
+    wide: bool,
     tokens: Vec<Token>,
     marks: Vec<Mark>,
     keywords: KeywordMarks,
@@ -54,6 +55,7 @@ impl<'a> Model for Tokens<'a> {
 
     ghost view = { λ a. record {
       unit = a.text.0;
+      wide = a.wide;
       bytes = a.text.1;
       tokens = a.tokens.items;
       marks = a.marks.items;
@@ -68,6 +70,7 @@ impl<'a> Model for Tokens<'a> {
 impl<'a> Tokens<'a> {
     pub(crate) fn new(
         text: Text<'a>,
+        wide: bool,
         tokens: Vec<Token>,
         marks: Vec<Mark>,
         keywords: KeywordMarks,
@@ -75,6 +78,7 @@ impl<'a> Tokens<'a> {
         requires { IsSound text.1 tokens.items marks.items }
         ensures { result ≡ record {
           unit = text.entry.0;
+          wide = wide;
           bytes = text.entry.1;
           tokens = tokens.items;
           marks = marks.items;
@@ -85,6 +89,7 @@ impl<'a> Tokens<'a> {
     {
         Tokens {
             text,
+            wide,
             tokens,
             marks,
             keywords,
@@ -95,6 +100,13 @@ impl<'a> Tokens<'a> {
         ensures { result ≡ self.now.unit }
     {
         self.text.unit()
+    }
+
+    /// Whether the unit is read as wider C.
+    pub fn is_wide(&self) -> bool
+        ensures { result ≡ self.now.wide }
+    {
+        self.wide
     }
 
     pub fn unit_bytes(&self) -> &[u8]

@@ -1,3 +1,6 @@
 mod Alone
+mod Ending
 mod Low
+mod Numbering
+mod Olds
 mod Running

@@ -1,6 +1,6 @@
 -- The numbers of types that a state holds are those of its table: what is shown alike by the types of all tables that this
 -- one grows to, does not depend on numbers past it.
-use Rattle.std.proofs.Common.{arith, ◌≡◌, ℕ, suc, ◌<◌, ◌≤◌, nat_lt, List, [], ◌∷◌, ◌++◌, length, map, Option, Some, None, inl, inr, refl, sym, ◌∙◌, ap, Vec, Global, if◌then◌else◌}
+use Rattle.std.proofs.Common.{arith, ◌≡◌, ℕ, zero, suc, ◌+◌, slice_index_or, take, ◌<◌, ◌≤◌, nat_lt, List, [], ◌∷◌, ◌++◌, length, map, Option, Some, None, inl, inr, refl, sym, ◌∙◌, ap, Vec, Global, if◌then◌else◌}
 use Rattle.std.proofs.lemmas.Bool.{cases_lt, lt-ltb, le-ltb}
 use Rattle.type_table.specs.declared.row.Row.{Row}
 use Rattle.type_table.specs.Types.{CType, base, void}
@@ -9,13 +9,13 @@ use Rattle.name_types.specs.Known.{Knows, Grows, so_far_type, IsLow}
 use Rattle.name_types.specs.declared.types.SoFar.{SoFar}
 use Rattle.name_types.specs.declared.types.SoFar.TheVariants as so_fars
 use Rattle.name_steps.specs.State as steps
-use Rattle.name_steps.specs.Steps.{step}
+use Rattle.name_steps.specs.Steps.{names_step, passed_on, step}
 use Rattle.tape_ops.specs.declared.op.Op.{Op}
 use Rattle.name_rules.specs.Spellings.{Spelling}
 use Rattle.c_names.specs.declared.state.OpenDeclaration.{OpenDeclaration}
 use Rattle.c_names.specs.declared.state.State.{State}
 use Rattle.c_names.specs.Stacks.{top}
-use Rattle.c_names.specs.Shown.{declaration_of, types_of_list, state_of, IsShown}
+use Rattle.c_names.specs.Shown.{declaration_of, types_of_list, state_of, passed_by, IsShown}
 
 pub map_more : {A B : Type 0} (f : A → B) (xs ys : List A) → map f (xs ++ ys) ≡ map f xs ++ map f ys
 map_more f [] ys = refl
@@ -75,14 +75,14 @@ module _ (rows : List Row) (s : State) (is : IsShown rows s) where
   pub so_far_low : IsLow (length rows) s.specifiers.so_far
   unfolding state_of
   so_far_low = so_far_low_of rows s.specifiers.so_far is.shown.specifiers.type
-      (λ t knows. ap (λ (x : steps.State). x.specifiers.type) (is.alike t knows))
+      (λ t knows. ap (λ (x : steps.State). x.specifiers.type) (is.alike t [] knows))
 
   pub type_low : (d : OpenDeclaration) (rest : List OpenDeclaration) → s.declarations ≡ d ∷ rest → d.ty < length rows
   unfolding state_of
   type_low d rest there =
       low_of rows d.ty (steps.innermost_or steps.no_declaration is.shown.declarations).type
       (λ t knows. ap (λ ds. (steps.innermost_or steps.no_declaration (map (declaration_of t) ds)).type) (sym there)
-      ∙ ap (λ (x : steps.State). (steps.innermost_or steps.no_declaration x.declarations).type) (is.alike t knows))
+      ∙ ap (λ (x : steps.State). (steps.innermost_or steps.no_declaration x.declarations).type) (is.alike t [] knows))
 
   pub declared_low : (d : OpenDeclaration) (rest : List OpenDeclaration) → s.declarations ≡ d ∷ rest
       → d.declared < length rows
@@ -90,7 +90,7 @@ module _ (rows : List Row) (s : State) (is : IsShown rows s) where
   declared_low d rest there =
       low_of rows d.declared (steps.innermost_or steps.no_declaration is.shown.declarations).declared
       (λ t knows. ap (λ ds. (steps.innermost_or steps.no_declaration (map (declaration_of t) ds)).declared) (sym there)
-      ∙ ap (λ (x : steps.State). (steps.innermost_or steps.no_declaration x.declarations).declared) (is.alike t knows))
+      ∙ ap (λ (x : steps.State). (steps.innermost_or steps.no_declaration x.declarations).declared) (is.alike t [] knows))
 
   pub params_low : (ns : Vec ℕ Global) (rest : List (Vec ℕ Global)) → s.finished ≡ ns ∷ rest
       → AreBelow (length rows) ns.items
@@ -98,7 +98,7 @@ module _ (rows : List Row) (s : State) (is : IsShown rows s) where
   params_low ns rest there =
       lows_of rows ns.items (steps.innermost_or [] is.shown.finished)
       (λ t knows. ap (λ ds. steps.innermost_or [] (map (types_of_list t) ds)) (sym there)
-      ∙ ap (λ (x : steps.State). steps.innermost_or [] x.finished) (is.alike t knows))
+      ∙ ap (λ (x : steps.State). steps.innermost_or [] x.finished) (is.alike t [] knows))
 
 pub top_is : (ds : List OpenDeclaration) (d : OpenDeclaration) → Some d ≡ top ds
     → (rest : List OpenDeclaration) × (ds ≡ d ∷ rest)
@@ -112,6 +112,14 @@ top_is (e ∷ ds) d is = (ds, ap (λ x. x ∷ ds) (some_is is))
     some_is : Some d ≡ Some e → e ≡ d
     some_is same = sym (ap unsome same)
 
+taken : (tape : List Op) (at : ℕ) (op : Op) → op ≡ slice_index_or tape at op → at < length tape →
+    take (at + 1) tape ≡ take at tape ++ op ∷ []
+taken [] at op is lt = absurd (omega arith)
+taken (x ∷ tape) zero op is lt = ap (λ y. y ∷ []) (sym is)
+taken (x ∷ tape) (suc at) op is lt =
+    let e : suc at + 1 ≡ suc (at + 1) = omega arith in
+    rw e (ap (λ ops. x ∷ ops) (taken tape at op is (omega arith)))
+
 pub knows_before : (old new : List Row) (t : ℕ → CType) → Grows old new → Knows t new → Knows t old
 knows_before old new t grows knows = λ n lt. knows n (let l = grows.longer in omega arith) ∙ grows.keeps n lt
 
@@ -124,10 +132,33 @@ grows_twice a b c one two = record {
   longer = let l = one.longer in let m = two.longer in omega arith;
 }
 
+-- one op more of a tape was gone through
+pub stepped : (t : ℕ → CType) (u : Spelling) (tape : List Op) (at : ℕ) (op : Op) (old new : State)
+    → op ≡ slice_index_or tape at op → at < length tape
+    → state_of t (take at tape) new ≡ names_step u (state_of t (take at tape) old) op
+    → state_of t (take (at + 1) tape) new ≡ step u (state_of t (take at tape) old) op
+unfolding state_of
+stepped t u tape at op old new is lt made =
+    ap (λ p. state_of t p new) (taken tape at op is lt) ∙ ap (passed_on op) made
+
 -- a step leaves a state that is shown alike
-pub shown_after : (u : Spelling) (op : Op) (old new : List Row) (s after : State) → IsShown old s → Grows old new
-    → ((t : ℕ → CType) → Knows t new → state_of t after ≡ step u (state_of t s) op) → IsShown new after
-shown_after u op old new s after is grows steps = record {
-  shown = step u is.shown op;
-  alike = λ t knows. steps t knows ∙ ap (λ x. step u x op) (is.alike t (knows_before old new t grows knows));
+pub shown_after : (u : Spelling) (op : Op) (before behind : List Op) (old new : List Row) (s after : State) → IsShown old s
+    → Grows old new
+    → ((t : ℕ → CType) → Knows t new → state_of t behind after ≡ step u (state_of t before s) op) → IsShown new after
+unfolding state_of
+shown_after u op before behind old new s after is grows steps = record {
+  shown = step u (passed_by before is.shown) op;
+  alike = λ t passed knows. ap (passed_by passed) (steps t knows
+      ∙ ap (λ x. step u x op) (is.alike t before (knows_before old new t grows knows)));
+}
+
+-- what comes of a state that is shown alike, behind the same ops
+pub shown_at : (f : steps.State → steps.State) (passed : List Op) (old new : List Row) (s after : State) → IsShown old s
+    → Grows old new
+    → ((t : ℕ → CType) → Knows t new → state_of t passed after ≡ f (state_of t passed s)) → IsShown new after
+unfolding state_of
+shown_at f passed old new s after is grows made = record {
+  shown = f (passed_by passed is.shown);
+  alike = λ t p knows. ap (passed_by p) (made t knows
+      ∙ ap f (is.alike t passed (knows_before old new t grows knows)));
 }

@@ -1,3 +1,5 @@
 pub mod Stacks
 pub mod Shown
 pub mod Parameters
+pub mod Parts
+pub mod Identifiers

@@ -1,5 +1,5 @@
 -- What a program holds at a place of a tape, with types in place of their numbers.
-use Rattle.std.specs.Prelude.{◌≡◌, ℕ, List, map, option_map, Vec}
+use Rattle.std.specs.Prelude.{◌≡◌, ℕ, List, map, take, option_map, Vec}
 use Rattle.std.specs.Global.{Global}
 use Rattle.type_table.specs.declared.row.Row.{Row}
 use Rattle.type_table.specs.Types.{CType}
@@ -13,6 +13,10 @@ use Rattle.c_names.specs.declared.state.Specifiers.{Specifiers}
 use Rattle.c_names.specs.declared.state.OpenBody.{OpenBody}
 use Rattle.c_names.specs.declared.state.OpenDeclaration.{OpenDeclaration}
 use Rattle.c_names.specs.declared.state.OpenParameters.{OpenParameters}
+use Rattle.tape_ops.specs.declared.op.Op.{Op}
+use Rattle.name_rules.specs.Identifiers.{OldParameter as OldShown, Olds}
+use Rattle.c_names.specs.declared.identifiers.OldParameter.{OldParameter}
+use Rattle.c_names.specs.declared.state.OpenPart.{OpenPart}
 use Rattle.c_names.specs.declared.state.State.{State}
 
 -- by the types of all numbers
@@ -39,14 +43,24 @@ module _ (t : ℕ → CType) where
         declared = t d.declared;
       }
 
+  abbrev pub old_of : OldParameter → OldShown
+  old_of it = record { token = it.token; key = it.key; type = option_map t it.ty }
+
+  abbrev pub olds_of : List OldParameter → Names → Olds
+  olds_of list names = record { list = map old_of list; names = names_of t names }
+
   abbrev pub parameters_of : OpenParameters → steps.OpenParameters
-  parameters_of p = record { own = p.own; types = map t p.types.items }
+  parameters_of p = record { own = p.own; types = map t p.types.items; identifiers = map old_of p.identifiers }
+
+  abbrev pub part_of : OpenPart → steps.OpenPart
+  part_of it = record { outer = specifiers_of it.outer; from = it.from }
 
   abbrev pub types_of_list : Vec ℕ Global → List CType
   types_of_list ns = map t ns.items
 
-  unfoldable pub state_of : State → steps.State
-  state_of s =
+  -- behind these ops
+  unfoldable pub state_of : List Op → State → steps.State
+  state_of passed s =
       record {
         names = names_of t s.names;
         specifiers = specifiers_of s.specifiers;
@@ -54,12 +68,21 @@ module _ (t : ℕ → CType) where
         declarations = map declaration_of s.declarations;
         parameters = map parameters_of s.parameters;
         finished = map types_of_list s.finished;
+        parts = map part_of s.parts;
+        passed = passed;
       }
+
+-- a state behind so many ops of a tape
+abbrev pub state_at : (ℕ → CType) → List Op → ℕ → State → steps.State
+state_at t tape at s = state_of t (take at tape) s
+
+abbrev pub passed_by : List Op → steps.State → steps.State
+passed_by passed s = record s { passed = passed }
 
 -- a state is shown alike by the types of any table that this one grows to
 pub record IsShown (rows : List Row) (s : State) : Type 0 where
   pub shown : steps.State
-  pub alike : (t : ℕ → CType) → Knows t rows → state_of t s ≡ shown
+  pub alike : (t : ℕ → CType) (passed : List Op) → Knows t rows → state_of t passed s ≡ passed_by passed shown
 
 -- names are shown alike by the types of any table that this one grows to
 pub record AreShown (rows : List Row) (s : Names) : Type 0 where

@@ -1,16 +1,20 @@
 //! Declarators, and what they declare (C99, 6.7.5 to 6.7.7).
 
-ghost use Rattle.std.specs.Prelude.{◌≡◌, ◌<◌, ℕ, OnOk, length, option_map};
+ghost use Rattle.std.specs.Prelude.{◌≡◌, ◌≤◌, ◌<◌, ℕ, OnOk, length, option_map, List, []};
+ghost use Rattle.tape_ops.specs.declared.op.Op.{Op};
 ghost use Rattle.type_table.specs.Types.{CType};
 ghost use Rattle.name_types.specs.Known.{Knows, Grows};
 ghost use Rattle.name_rules.specs.Declaring.{own_where};
 ghost use Rattle.name_rules.specs.Spellings.{place};
 ghost use Rattle.name_steps.specs.Steps.{declaration, with_name, pointed, called_with, linked_some, parameters_begun, let_go, with_parameter, parameters_ended, name_declared, with_member, with_type_name, declarator_step};
 ghost use Rattle.unit_spelling.specs.Spelled.{spelling_of};
-ghost use Rattle.c_names.specs.Shown.{state_of, IsShown};
+ghost use Rattle.unit_shapes.specs.Views.{AreImplicit};
+ghost use Rattle.c_names.specs.Shown.{state_of, state_at, IsShown};
 ghost use Rattle.c_names.specs.Parameters.{parameter_added};
 ghost use Rattle.name_uses.specs.Named.{named_of};
 
+use crate::identifiers::Identifiers;
+use crate::old::add_identifiers;
 use crate::specifier::no_specifiers;
 use crate::state::{OpenParameters, State};
 use name_scopes::Place;
@@ -20,7 +24,8 @@ use name_uses::{
 };
 use qual_base::{NameId, NoMemory, TokenId, TypeId};
 use std::mem;
-use tape_ops::DeclrOp;
+use tape_ops::{DeclrOp, Op};
+use unit_shapes::ImplicitTypes;
 use unit_spelling::Spelling;
 
 impl State {
@@ -28,7 +33,7 @@ impl State {
     #[tactic(auto, unfolding(crate::specs::Shown::state_of))]
     fn set_name(&mut self, token: TokenId, name: NameId) -> Result<(), NoMemory>
         ensures { OnOk result
-            ((t : ℕ → CType) → state_of t self.new ≡ with_name token name (state_of t self.old)) }
+            ((t : ℕ → CType) (p : List Op) → state_of t p self.new ≡ with_name token name (state_of t p self.old)) }
     {
         match self.declarations.pop() {
             Some(mut declaration) => {
@@ -44,8 +49,8 @@ impl State {
     fn point(&mut self, types: &mut Types) -> Result<(), NoMemory>
         requires { IsShown types.old self.old }
         ensures shown { OnOk result
-            ((t : ℕ → CType) → Knows t types.new → state_of t self.new
-            ≡ pointed (state_of t self.old)) }
+            ((t : ℕ → CType) (p : List Op) → Knows t types.new → state_of t p self.new
+            ≡ pointed (state_of t p self.old)) }
         ensures grown { OnOk result (Grows types.old types.new) }
     {
         let specifiers = mem::replace(&mut self.specifiers, no_specifiers(self.alloc));
@@ -67,8 +72,8 @@ impl State {
     fn call(&mut self, types: &mut Types, has_ellipsis: bool) -> Result<(), NoMemory>
         requires { IsShown types.old self.old }
         ensures shown { OnOk result
-            ((t : ℕ → CType) → Knows t types.new → state_of t self.new
-            ≡ called_with has_ellipsis (state_of t self.old)) }
+            ((t : ℕ → CType) (p : List Op) → Knows t types.new → state_of t p self.new
+            ≡ called_with has_ellipsis (state_of t p self.old)) }
         ensures grown { OnOk result (Grows types.old types.new) }
     {
         let specifiers = mem::replace(&mut self.specifiers, no_specifiers(self.alloc));
@@ -95,8 +100,8 @@ impl State {
     #[tactic(auto, unfolding(crate::specs::Shown::state_of))]
     fn linked(&self, spelling: &Spelling) -> Option<Place>
         ensures { (t : ℕ → CType) → result
-            ≡ linked_some (spelling_of spelling.now) (declaration (state_of t self.now)).name
-            (state_of t self.now).names }
+            ≡ linked_some (spelling_of spelling.now) (declaration (state_of t [] self.now)).name
+            (state_of t [] self.now).names }
     {
         match self.declarations.top() {
             Some(declaration) => match &declaration.name {
@@ -113,16 +118,17 @@ impl State {
     /// A list of parameters begins, with a scope. Constant time but for growth.
     #[tactic(auto, unfolding(crate::specs::Shown::state_of))]
     fn begin_parameters(&mut self, spelling: &Spelling, is_own: bool) -> Result<(), NoMemory>
-        ensures { OnOk result ((t : ℕ → CType) → state_of t self.new
+        ensures { OnOk result ((t : ℕ → CType) (p : List Op) → state_of t p self.new
             ≡ parameters_begun (own_where is_own (linked_some (spelling_of spelling.now)
-            (declaration (state_of t self.old)).name (state_of t self.old).names))
-            (state_of t self.old)) }
+            (declaration (state_of t p self.old)).name (state_of t p self.old).names))
+            (state_of t p self.old)) }
     {
         let own = if is_own { self.linked(spelling) } else { None };
         self.names.enter()?;
         self.parameters.push(OpenParameters {
             own,
             types: Vec::new(self.alloc),
+            identifiers: Identifiers::new(self.alloc),
         })
     }
 
@@ -136,9 +142,9 @@ impl State {
         declared: TypeId,
     ) -> Result<(), NoMemory>
         requires { declared < length types.old }
-        ensures shown { OnOk result ((t : ℕ → CType) → Knows t types.new → state_of t self.new
+        ensures shown { OnOk result ((t : ℕ → CType) (p : List Op) → Knows t types.new → state_of t p self.new
             ≡ parameter_added (spelling_of spelling.now) (option_map named_of name.now)
-            (t declared) (state_of t self.old)) }
+            (t declared) (state_of t p self.old)) }
         ensures grown { OnOk result (Grows types.old types.new) }
     {
         let ty = types.decayed(self.alloc, declared)?;
@@ -170,8 +176,8 @@ impl State {
     fn add_parameter(&mut self, spelling: &Spelling, types: &mut Types) -> Result<(), NoMemory>
         requires { IsShown types.old self.old }
         ensures shown { OnOk result
-            ((t : ℕ → CType) → Knows t types.new → state_of t self.new
-            ≡ with_parameter (spelling_of spelling.now) (state_of t self.old)) }
+            ((t : ℕ → CType) (p : List Op) → Knows t types.new → state_of t p self.new
+            ≡ with_parameter (spelling_of spelling.now) (state_of t p self.old)) }
         ensures grown { OnOk result (Grows types.old types.new) }
     {
         match self.declarations.pop() {
@@ -189,14 +195,23 @@ impl State {
 
     /// A list of parameters ends, and its scope. Constant time but for growth, and for the scope.
     #[tactic(auto, unfolding(crate::specs::Shown::state_of))]
-    fn end_parameters(&mut self) -> Result<(), NoMemory>
-        ensures { OnOk result
-            ((t : ℕ → CType) → state_of t self.new ≡ parameters_ended (state_of t self.old)) }
+    fn end_parameters(&mut self, spelling: &Spelling, types: &Types) -> Result<(), NoMemory>
+        ensures { OnOk result ((t : ℕ → CType) (p : List Op) → Knows t types.now → state_of t p self.new
+            ≡ parameters_ended (spelling_of spelling.now) (state_of t p self.old)) }
     {
         match self.parameters.pop() {
             Some(parameters) => {
+                let mut own_types = parameters.types;
+                let base = types.base();
+                add_identifiers(
+                    &mut self.names,
+                    spelling,
+                    base,
+                    parameters.identifiers.as_slice(),
+                    &mut own_types,
+                )?;
                 self.names.keep(&parameters.own);
-                self.finished.push(parameters.types)
+                self.finished.push(own_types)
             }
             None => {
                 self.names.leave();
@@ -207,11 +222,11 @@ impl State {
 
     /// The declarator declares its name. Linear in the storage words, and constant time but for growth otherwise.
     #[tactic(auto, using(crate::proofs::Low::declared_low), unfolding(crate::specs::Shown::state_of))]
-    fn declare(&mut self, spelling: &Spelling, types: &Types) -> Result<(), NoMemory>
+    pub(crate) fn declare(&mut self, spelling: &Spelling, types: &Types) -> Result<(), NoMemory>
         requires { IsShown types.now self.old }
         ensures { OnOk result
-            ((t : ℕ → CType) → Knows t types.now → state_of t self.new
-            ≡ name_declared (spelling_of spelling.now) (state_of t self.old)) }
+            ((t : ℕ → CType) (p : List Op) → Knows t types.now → state_of t p self.new
+            ≡ name_declared (spelling_of spelling.now) (state_of t p self.old)) }
     {
         match self.declarations.pop() {
             Some(mut declaration) => {
@@ -239,8 +254,8 @@ impl State {
     fn declare_member(&mut self, spelling: &Spelling, types: &Types) -> Result<(), NoMemory>
         requires { IsShown types.now self.old }
         ensures { OnOk result
-            ((t : ℕ → CType) → Knows t types.now → state_of t self.new
-            ≡ with_member (spelling_of spelling.now) (state_of t self.old)) }
+            ((t : ℕ → CType) (p : List Op) → Knows t types.now → state_of t p self.new
+            ≡ with_member (spelling_of spelling.now) (state_of t p self.old)) }
     {
         let number = self.members_of();
         match self.declarations.pop() {
@@ -266,8 +281,8 @@ impl State {
     fn name_type(&mut self, types: &Types, at: &Place) -> Result<(), NoMemory>
         requires { IsShown types.now self.old }
         ensures { OnOk result
-            ((t : ℕ → CType) → Knows t types.now → state_of t self.new
-            ≡ with_type_name at.now (state_of t self.old)) }
+            ((t : ℕ → CType) (p : List Op) → Knows t types.now → state_of t p self.new
+            ≡ with_type_name at.now (state_of t p self.old)) }
     {
         match self.declarations.pop() {
             Some(declaration) => name_type(&mut self.names, types, at, declaration.declared),
@@ -278,7 +293,7 @@ impl State {
     /// A declaration ends. Constant time.
     #[tactic(auto, unfolding(crate::specs::Shown::state_of))]
     fn let_go(&mut self)
-        ensures { (t : ℕ → CType) → state_of t self.new ≡ let_go (state_of t self.old) }
+        ensures { (t : ℕ → CType) (p : List Op) → state_of t p self.new ≡ let_go (state_of t p self.old) }
     {
         let _declaration = self.declarations.pop();
     }
@@ -288,22 +303,34 @@ impl State {
         &mut self,
         spelling: &Spelling,
         types: &mut Types,
+        implicit: &ImplicitTypes,
+        tape: &[Op],
+        at: usize,
         op: DeclrOp,
     ) -> Result<(), NoMemory>
-        requires { IsShown types.old self.old }
+        requires shown { IsShown types.old self.old }
+        requires implicit { AreImplicit types.old implicit.now }
+        requires within { at ≤ length tape.now }
         ensures shown { OnOk result
-            ((t : ℕ → CType) → Knows t types.new → state_of t self.new
-            ≡ declarator_step (spelling_of spelling.now) (state_of t self.old) op) }
+            ((t : ℕ → CType) → Knows t types.new → state_at t tape.now at self.new
+            ≡ declarator_step (spelling_of spelling.now) (state_at t tape.now at self.old) op) }
         ensures grown { OnOk result (Grows types.old types.new) }
     {
         match op {
             DeclrOp::DeclName { token, name } => self.set_name(token, name),
             DeclrOp::ParamsBegin { is_own } => self.begin_parameters(spelling, is_own),
             DeclrOp::Param => self.add_parameter(spelling, types),
-            DeclrOp::ParamsEnd => self.end_parameters(),
-            DeclrOp::Pointer | DeclrOp::Array => self.point(types),
+            DeclrOp::ParamsEnd => self.end_parameters(spelling, types),
+            DeclrOp::Pointer => self.point(types),
+            DeclrOp::Array => self.point(types),
             DeclrOp::Function { has_ellipsis } => self.call(types, has_ellipsis),
             DeclrOp::Declare => self.declare(spelling, types),
+            DeclrOp::AutoBegin => self.begin_part(at),
+            DeclrOp::AutoEnd { token } => {
+                self.end_auto(spelling, types, implicit, tape, at, token)
+            }
+            DeclrOp::Identifier { token, name } => self.add_identifier(spelling, token, name),
+            DeclrOp::OldParam => self.declare_identifier(spelling, types),
             DeclrOp::Member => self.declare_member(spelling, types),
             DeclrOp::TypeName { first } => self.name_type(types, &spelling.place(first)),
             DeclrOp::DeclarationEnd => {

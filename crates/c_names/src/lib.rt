@@ -2,6 +2,9 @@
 #![tactic(auto)]
 
 mod declarator;
+mod identifiers;
+mod old;
+mod part;
 mod run;
 mod specifier;
 mod stack;

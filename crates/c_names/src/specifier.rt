@@ -1,13 +1,15 @@
 //! Specifiers (C99, 6.7.1 to 6.7.3).
 
-ghost use Rattle.std.specs.Prelude.{◌≡◌, ◌<◌, ℕ, OnOk, length};
+ghost use Rattle.std.specs.Prelude.{◌≡◌, ◌≤◌, ◌<◌, ℕ, OnOk, length, List, []};
+ghost use Rattle.tape_ops.specs.declared.op.Op.{Op};
 ghost use Rattle.type_table.specs.Types.{CType};
 ghost use Rattle.name_types.specs.Known.{Knows, Grows, so_far_type};
 ghost use Rattle.name_rules.specs.Declaring.{tag_type, tag_used, tag_begun, untagged_begun};
 ghost use Rattle.name_steps.specs.State.{no_specifiers};
 ghost use Rattle.name_steps.specs.Steps.{body, declaration, with_type, with_word, untagged_by, without_tag, with_tag, with_body, body_ended, specifiers_ended, with_unnamed_member, specifier_step};
 ghost use Rattle.unit_spelling.specs.Spelled.{spelling_of};
-ghost use Rattle.c_names.specs.Shown.{state_of, specifiers_of, IsShown};
+ghost use Rattle.unit_shapes.specs.Views.{AreImplicit};
+ghost use Rattle.c_names.specs.Shown.{state_of, state_at, specifiers_of, IsShown};
 
 use crate::state::{OpenBody, OpenDeclaration, Specifiers, State};
 use name_scopes::Place;
@@ -18,7 +20,8 @@ use name_uses::{
 use qual_base::{NameId, NoMemory, Numbered, StructId, TokenId, TypeId};
 use std::alloc::Global;
 use std::mem;
-use tape_ops::{SpecOp, TagKind};
+use tape_ops::{Op, SpecOp, TagKind};
+use unit_shapes::ImplicitTypes;
 use unit_spelling::Spelling;
 
 /// Specifiers of which no word was read. Takes no memory.
@@ -59,8 +62,8 @@ impl State {
     #[tactic(auto, unfolding(crate::specs::Shown::state_of))]
     fn add_word(&mut self, spelling: &Spelling, token: TokenId) -> Result<(), NoMemory>
         ensures { OnOk result
-            ((t : ℕ → CType) → state_of t self.new
-            ≡ with_word (spelling_of spelling.now) token (state_of t self.old)) }
+            ((t : ℕ → CType) (p : List Op) → state_of t p self.new
+            ≡ with_word (spelling_of spelling.now) token (state_of t p self.old)) }
     {
         if spelling.annotates(token) {
             self.specifiers.words.push(spelling.place(token))?;
@@ -78,9 +81,9 @@ impl State {
         token: TokenId,
         name: NameId,
     ) -> Result<(), NoMemory>
-        ensures { OnOk result ((t : ℕ → CType) → state_of t self.new
+        ensures { OnOk result ((t : ℕ → CType) (p : List Op) → state_of t p self.new
             ≡ with_tag kind (tag_used (spelling_of spelling.now) is_alone kind token name
-            (state_of t self.old).names) (state_of t self.old)) }
+            (state_of t p self.old).names) (state_of t p self.old)) }
     {
         let number = use_tag(&mut self.names, spelling, is_alone, kind, token, name)?;
         self.specifiers.so_far = tag_type(kind, number, &self.specifiers.so_far);
@@ -90,12 +93,12 @@ impl State {
     /// A body is a word of the specifiers, and begins. Constant time but for growth.
     #[tactic(auto, unfolding(crate::specs::Shown::state_of))]
     fn open_body(&mut self, kind: TagKind, begun: &Begun) -> Result<(), NoMemory>
-        ensures { OnOk result ((t : ℕ → CType) → state_of t self.new
+        ensures { OnOk result ((t : ℕ → CType) (p : List Op) → state_of t p self.new
             ≡ with_body kind (record {
               number = begun.now.number;
               members_of = begun.now.members_of;
-              names = (state_of t self.old).names;
-            }) (state_of t self.old)) }
+              names = (state_of t p self.old).names;
+            }) (state_of t p self.old)) }
     {
         let mut outer = mem::replace(&mut self.specifiers, no_specifiers(self.alloc));
         outer.so_far = tag_type(kind, begun.number, &outer.so_far);
@@ -114,9 +117,9 @@ impl State {
         token: TokenId,
         name: NameId,
     ) -> Result<(), NoMemory>
-        ensures { OnOk result ((t : ℕ → CType) → state_of t self.new
+        ensures { OnOk result ((t : ℕ → CType) (p : List Op) → state_of t p self.new
             ≡ with_body kind (tag_begun (spelling_of spelling.now) kind token name
-            (state_of t self.old).names) (state_of t self.old)) }
+            (state_of t p self.old).names) (state_of t p self.old)) }
     {
         let begun = begin_tag(&mut self.names, spelling, kind, token, name)?;
         self.open_body(kind, &begun)
@@ -125,9 +128,9 @@ impl State {
     /// A body without a tag begins. Constant time but for growth.
     #[tactic(auto, unfolding(crate::specs::Shown::state_of))]
     fn begin_untagged(&mut self, kind: TagKind, at: &Place) -> Result<(), NoMemory>
-        ensures { OnOk result ((t : ℕ → CType) → state_of t self.new
-            ≡ with_body kind (untagged_begun at.now kind (state_of t self.old).names)
-            (without_tag kind (state_of t self.old))) }
+        ensures { OnOk result ((t : ℕ → CType) (p : List Op) → state_of t p self.new
+            ≡ with_body kind (untagged_begun at.now kind (state_of t p self.old).names)
+            (without_tag kind (state_of t p self.old))) }
     {
         let begun = begin_untagged(&mut self.names, kind, at)?;
         self.specifiers.is_untagged = untagged_by(kind, self.specifiers.is_untagged);
@@ -137,7 +140,7 @@ impl State {
     /// The innermost body ends. Constant time.
     #[tactic(auto, unfolding(crate::specs::Shown::state_of))]
     fn end_body(&mut self)
-        ensures { (t : ℕ → CType) → state_of t self.new ≡ body_ended (state_of t self.old) }
+        ensures { (t : ℕ → CType) (p : List Op) → state_of t p self.new ≡ body_ended (state_of t p self.old) }
     {
         self.specifiers = match self.bodies.pop() {
             Some(body) => body.outer,
@@ -148,7 +151,7 @@ impl State {
     /// The struct whose members stand in the innermost body.
     #[tactic(auto, unfolding(crate::specs::Shown::state_of))]
     pub(crate) fn members_of(&self) -> StructId
-        ensures { (t : ℕ → CType) → result ≡ (body (state_of t self.now)).members_of }
+        ensures { (t : ℕ → CType) → result ≡ (body (state_of t [] self.now)).members_of }
     {
         match self.bodies.top() {
             Some(body) => body.members_of,
@@ -161,8 +164,8 @@ impl State {
     fn end_specifiers(&mut self, types: &mut Types) -> Result<(), NoMemory>
         requires { IsShown types.old self.old }
         ensures shown { OnOk result
-            ((t : ℕ → CType) → Knows t types.new → state_of t self.new
-            ≡ specifiers_ended (state_of t self.old)) }
+            ((t : ℕ → CType) (p : List Op) → Knows t types.new → state_of t p self.new
+            ≡ specifiers_ended (state_of t p self.old)) }
         ensures grown { OnOk result (Grows types.old types.new) }
     {
         let Specifiers {
@@ -186,8 +189,8 @@ impl State {
     fn add_unnamed(&mut self, types: &Types, at: &Place) -> Result<(), NoMemory>
         requires { IsShown types.now self.old }
         ensures { OnOk result
-            ((t : ℕ → CType) → Knows t types.now → state_of t self.new
-            ≡ with_unnamed_member at.now (state_of t self.old)) }
+            ((t : ℕ → CType) (p : List Op) → Knows t types.now → state_of t p self.new
+            ≡ with_unnamed_member at.now (state_of t p self.old)) }
     {
         let ty = self.declared_type(types);
         let number = self.members_of();
@@ -196,11 +199,11 @@ impl State {
 
     /// The type of the specifiers of the innermost declaration.
     #[tactic(auto, unfolding(crate::specs::Shown::state_of))]
-    fn declared_type(&self, types: &Types) -> TypeId
+    pub(crate) fn declared_type(&self, types: &Types) -> TypeId
         requires { IsShown types.now self.now }
         ensures low { result < length types.now }
         ensures is { (t : ℕ → CType) → Knows t types.now → t result
-            ≡ (declaration (state_of t self.now)).type }
+            ≡ (declaration (state_of t [] self.now)).type }
     {
         match self.declarations.top() {
             Some(declaration) => declaration.ty,
@@ -214,12 +217,17 @@ impl State {
         &mut self,
         spelling: &Spelling,
         types: &mut Types,
+        implicit: &ImplicitTypes,
+        tape: &[Op],
+        at: usize,
         op: SpecOp,
     ) -> Result<(), NoMemory>
-        requires { IsShown types.old self.old }
+        requires shown { IsShown types.old self.old }
+        requires implicit { AreImplicit types.old implicit.now }
+        requires within { at ≤ length tape.now }
         ensures shown { OnOk result
-            ((t : ℕ → CType) → Knows t types.new → state_of t self.new
-            ≡ specifier_step (spelling_of spelling.now) (state_of t self.old) op) }
+            ((t : ℕ → CType) → Knows t types.new → state_at t tape.now at self.new
+            ≡ specifier_step (spelling_of spelling.now) (state_at t tape.now at self.old) op) }
         ensures grown { OnOk result (Grows types.old types.new) }
     {
         match op {
@@ -252,6 +260,14 @@ impl State {
                 spelling.key(name),
             ),
             SpecOp::UnnamedMember { token } => self.add_unnamed(types, &spelling.place(token)),
+            SpecOp::PartBegin => self.begin_part(at),
+            SpecOp::TypeofEnd { token } => {
+                self.end_typeof(spelling, types, implicit, tape, at, token)
+            }
+            SpecOp::TypeEnd => {
+                self.end_type();
+                Ok(())
+            }
             SpecOp::SpecsEnd => self.end_specifiers(types),
         }
     }

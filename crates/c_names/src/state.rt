@@ -1,5 +1,6 @@
 //! What is known at a place of a tape.
 
+use crate::identifiers::Identifiers;
 use crate::stack::Stack;
 use c_words::Keyword;
 use name_scopes::Place;
@@ -37,11 +38,20 @@ pub(crate) struct OpenDeclaration {
     pub(crate) declared: TypeId,
 }
 
-/// A list of parameters: the function whose own they are, and their types so far.
+/// A list of parameters: the function whose own they are, and their types so far; where it is a list of identifiers, these.
 #[derive(Drop)]
 pub(crate) struct OpenParameters {
     pub(crate) own: Option<Place>,
     pub(crate) types: Vec<TypeId>,
+    pub(crate) identifiers: Identifiers,
+}
+
+/// A type by what stands in parentheses, or one by an initialiser, that is begun: the specifiers outside, and how many ops of the tape
+/// are before it.
+#[derive(Drop)]
+pub(crate) struct OpenPart {
+    pub(crate) outer: Specifiers,
+    pub(crate) from: usize,
 }
 
 /// What is known at a place of a tape: names, and what is begun and not yet at its end.
@@ -56,4 +66,5 @@ pub(crate) struct State {
     pub(crate) declarations: Stack<OpenDeclaration>,
     pub(crate) parameters: Stack<OpenParameters>,
     pub(crate) finished: Stack<Vec<TypeId>>,
+    pub(crate) parts: Stack<OpenPart>,
 }

@@ -10,11 +10,13 @@ use std::test::Fail;
 use tape_ops::{DeclrOp, ExprOp, Op, SpecOp, StmtOp, TagKind};
 use type_table::Shape;
 use unit_names::Names;
+use unit_shapes::ImplicitTypes;
 use unit_spelling::Spelling;
 
 /// A spelling without annotations.
 fn plain(alloc: Global) -> Spelling {
     Spelling {
+        wide: false,
         unit: UnitNo::new(1),
         annotates: Vec::new(alloc),
         is_naught: Vec::new(alloc),
@@ -145,7 +147,8 @@ fn a_function_owns_its_parameters_and_a_typedef_is_one_type(rt: HostRuntime) -> 
         declare(),
         end(),
     ];
-    let names = resolve_names(alloc, &plain(alloc), &mut types, &tape)?;
+    let implicit = ImplicitTypes::push(alloc, &mut types)?;
+    let names = resolve_names(alloc, &plain(alloc), &mut types, &implicit, &tape)?;
     let declared = names.declared();
     assert_eq!(rt; declared.len(), 5);
     assert_eq!(rt;
@@ -204,7 +207,8 @@ fn a_name_needs_a_declaration_unless_it_is_called(rt: HostRuntime) -> Result<(),
         used(12, 8, true),
         used(15, 9, false),
     ];
-    let names = resolve_names(alloc, &plain(alloc), &mut types, &tape)?;
+    let implicit = ImplicitTypes::push(alloc, &mut types)?;
+    let names = resolve_names(alloc, &plain(alloc), &mut types, &implicit, &tape)?;
     assert_eq!(rt; use_of(&names, 0), Some(Use::Means(at(5))));
     assert_eq!(rt; use_of(&names, 1), Some(Use::Means(at(1))));
     assert_eq!(rt; use_of(&names, 2), Some(Use::Called));
@@ -252,7 +256,8 @@ fn a_tag_has_one_body_and_the_members_of_an_unnamed_one(rt: HostRuntime) -> Resu
         specs_end(),
         end(),
     ];
-    let names = resolve_names(alloc, &plain(alloc), &mut types, &tape)?;
+    let implicit = ImplicitTypes::push(alloc, &mut types)?;
+    let names = resolve_names(alloc, &plain(alloc), &mut types, &implicit, &tape)?;
     assert_eq!(rt; names.aggregates().len(), 3);
     // m lies in the unnamed member, which is the first
     let known = members(alloc, &names)?;

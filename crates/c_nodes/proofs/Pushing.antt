@@ -3,6 +3,7 @@ use Rattle.std.proofs.Common.{◌≡◌, ℕ, ◌+◌, max, List, [], ◌∷◌,
 use Rattle.c_syntax.specs.declared.parts.Listed.{Listed}
 use Rattle.c_syntax.specs.declared.declaration.InitDeclr.{InitDeclr}
 use Rattle.c_syntax.specs.declared.declarator.Param.{Param}
+use Rattle.c_syntax.specs.declared.expression.Assoc.{Assoc}
 use Rattle.c_syntax.specs.declared.expression.Expr.{Expr}
 use Rattle.c_syntax.specs.declared.initialiser.Desig.{Desig}
 use Rattle.c_syntax.specs.declared.initialiser.InitItem.{InitItem}
@@ -29,6 +30,9 @@ module _ {A : Type 0} (all : List A → ℕ) (item : A → ℕ) (more : (x : A) 
 
 pub exprs_pushed : (es : List Expr) (e : Expr) → heights.of_exprs (es ++ e ∷ []) ≡ max (heights.of_exprs es) (expr_height (expr_of e))
 exprs_pushed es e = pushed heights.of_exprs (λ e. expr_height (expr_of e)) (λ x xs. refl) es e
+
+pub assocs_pushed : (xs : List Assoc) (x : Assoc) → heights.of_assocs (xs ++ x ∷ []) ≡ max (heights.of_assocs xs) (heights.of_assoc x)
+assocs_pushed xs x = pushed heights.of_assocs heights.of_assoc (λ x xs. refl) xs x
 
 pub words_pushed : (ws : List SpecWord) (w : SpecWord) → heights.of_words (ws ++ w ∷ []) ≡ max (heights.of_words ws) (heights.of_word w + 1)
 words_pushed ws w = pushed heights.of_words (λ w. heights.of_word w + 1) (λ x xs. refl) ws w

@@ -12,6 +12,7 @@ use Rattle.c_syntax.specs.declared.declaration.InitDeclr.{InitDeclr}
 use Rattle.c_syntax.specs.declared.declarator.ArraySize.{ArraySize}
 use Rattle.c_syntax.specs.declared.declarator.Declr.{Declr}
 use Rattle.c_syntax.specs.declared.declarator.Param.{Param}
+use Rattle.c_syntax.specs.declared.expression.Assoc.{Assoc}
 use Rattle.c_syntax.specs.declared.expression.Expr.{Expr}
 use Rattle.c_syntax.specs.declared.initialiser.Desig.{Desig}
 use Rattle.c_syntax.specs.declared.initialiser.Init.{Init}
@@ -23,10 +24,10 @@ use Rattle.c_syntax.specs.declared.specifier.StructItem.{StructItem}
 use Rattle.c_syntax.specs.declared.statement.BlockItem.{BlockItem}
 use Rattle.c_syntax.specs.declared.statement.ForStart.{ForStart}
 use Rattle.c_syntax.specs.declared.statement.Stmt.{Stmt}
-use Rattle.c_tree.specs.Height.{attrs_height, label_height, expr_height, some_expr_height, exprs_height, specs_height, spec_word_height, some_body_height, struct_items_height, struct_item_height, mem_declrs_height, mem_declr_height, some_value_height, some_enum_body_height, enumerators_height, declr_height, some_declr_height, some_size_height, params_height, init_height, init_items_height, desigs_height, desig_height, steps_height, step_height, some_init_height, init_declrs_height, declaration_height, block_height, block_item_height, stmt_height, some_else_height, for_start_height}
-use Rattle.c_tree.specs.View.{expr_of, spec_word_of, struct_item_of, mem_declr_of, declr_of, init_of, desig_of, declaration_of, block_item_of, stmt_of, for_start_of}
+use Rattle.c_tree.specs.Height.{assoc_height, assocs_height, attrs_height, label_height, expr_height, some_expr_height, exprs_height, specs_height, spec_word_height, some_body_height, struct_items_height, struct_item_height, mem_declrs_height, mem_declr_height, some_value_height, some_enum_body_height, enumerators_height, declr_height, some_declr_height, some_size_height, params_height, init_height, init_items_height, desigs_height, desig_height, steps_height, step_height, some_init_height, init_declrs_height, declaration_height, block_height, block_item_height, stmt_height, some_else_height, for_start_height}
+use Rattle.c_tree.specs.View.{assoc_of, expr_of, spec_word_of, struct_item_of, mem_declr_of, declr_of, init_of, desig_of, declaration_of, block_item_of, stmt_of, for_start_of}
 use Rattle.c_tree.specs.Unit.{spec_words_from, block_items_from}
-use Rattle.c_tree.specs.Lists.{exprs_from, some_expr_from, struct_items_from, some_body_from, mem_declrs_from, some_value_from, enumerators_from, some_enum_body_from, some_declr_from, some_size_from, params_from, desigs_from, init_items_from, some_init_from, init_declrs_from, some_else_from}
+use Rattle.c_tree.specs.Lists.{assocs_from, exprs_from, some_expr_from, struct_items_from, some_body_from, mem_declrs_from, some_value_from, enumerators_from, some_enum_body_from, some_declr_from, some_size_from, params_from, desigs_from, init_items_from, some_init_from, init_declrs_from, some_else_from}
 
 abbrev pub of_expr : Box Expr Global → ℕ
 of_expr e = expr_height (expr_of e.value)
@@ -36,6 +37,12 @@ of_some_expr e = some_expr_height (some_expr_from e)
 
 abbrev pub of_exprs : List Expr → ℕ
 of_exprs es = exprs_height (exprs_from es)
+
+abbrev pub of_assoc : Assoc → ℕ
+of_assoc x = assoc_height (assoc_of x)
+
+abbrev pub of_assocs : List Assoc → ℕ
+of_assocs xs = assocs_height (assocs_from xs)
 
 -- of specifiers, which count themselves
 abbrev pub of_words : List SpecWord → ℕ

@@ -11,12 +11,12 @@ ghost use Rattle.c_tree.specs.Tree as trees;
 ghost use Rattle.c_tree.specs.View.{declr_of, dots_of};
 ghost use Rattle.c_tree.specs.WellFormed.{is_named};
 
-use crate::heights::{above_both, greater, of_attrs, of_pointer_words};
+use crate::heights::{above, above_both, greater, of_attrs, of_pointer_words};
 use crate::sized::{
     PresentDeclr, SizedDeclr, SizedExpr, SizedParam, SizedParams, SizedSize, SizedSpecs,
     SizedTypeName,
 };
-use c_syntax::{ArraySize, ArrayWord, Attr, Declr, Ellipsis, Param, PointerWord};
+use c_syntax::{ArraySize, ArrayWord, Attr, Declr, Ellipsis, Identifier, Param, PointerWord};
 use qual_base::{NameId, NoMemory, TokenId};
 use std::alloc::Global;
 
@@ -39,7 +39,9 @@ pub fn is_named(declr: &Declr) -> bool
         | Declr::DeclName { .. }
         | Declr::DeclParen { .. }
         | Declr::Array { .. }
-        | Declr::Params { .. } => true,
+        | Declr::Params { .. }
+        | Declr::Identifiers { .. }
+        | Declr::BaseName { .. } => true,
         Declr::AbsPointer { .. }
         | Declr::AbsParen { .. }
         | Declr::AbsArray { .. }
@@ -83,6 +85,17 @@ pub fn declr_name(alloc: Global, token: TokenId, name: NameId) -> Result<SizedDe
     ensures { MakesDeclr result (trees.declr_name token name) }
 {
     let declr = boxed(alloc, Declr::DeclName { token, name })?;
+    Ok(SizedDeclr {
+        declr: Some(declr),
+        height: 1,
+    })
+}
+
+/// `DeclName` of a typedef that is a word of a basic type.
+pub fn base_name(alloc: Global, token: TokenId) -> Result<SizedDeclr, NoMemory>
+    ensures { MakesDeclr result (trees.base_name token) }
+{
+    let declr = boxed(alloc, Declr::BaseName { token })?;
     Ok(SizedDeclr {
         declr: Some(declr),
         height: 1,
@@ -248,6 +261,33 @@ pub fn with_params(
     let declr = boxed(
         alloc,
         params(inner.declr, opening, list.items, dots, closing),
+    )?;
+    Ok(SizedDeclr {
+        declr: Some(declr),
+        height,
+    })
+}
+
+/// `Params = direct ( Name (, Name)* )`, behind a name.
+pub fn with_identifiers(
+    alloc: Global,
+    inner: PresentDeclr,
+    opening: TokenId,
+    names: Vec<Identifier>,
+    closing: TokenId,
+) -> Result<SizedDeclr, NoMemory>
+    ensures { MakesDeclr result
+        (trees.identifiers (declr_of inner.declr.value) opening names.items closing) }
+{
+    let height = above(inner.height);
+    let declr = boxed(
+        alloc,
+        Declr::Identifiers {
+            inner: inner.declr,
+            open: opening,
+            names,
+            close: closing,
+        },
     )?;
     Ok(SizedDeclr {
         declr: Some(declr),

@@ -5,18 +5,18 @@
 ghost use Rattle.std.specs.Prelude.{◌≡◌, None, IfOk};
 ghost use Rattle.c_nodes.specs.Sized.{Makes, expr};
 ghost use Rattle.c_nodes.specs.Extended.{extended};
-ghost use Rattle.c_tree.specs.Lists.{exprs_from, some_expr_from, some_declr_from, desigs_from, init_items_from};
+ghost use Rattle.c_tree.specs.Lists.{assocs_from, exprs_from, some_expr_from, some_declr_from, desigs_from, init_items_from};
 ghost use Rattle.c_tree.specs.Tree as trees;
 ghost use Rattle.c_tree.specs.Unit.{spec_words_from, block_items_from};
-ghost use Rattle.c_tree.specs.View.{desig_of};
+ghost use Rattle.c_tree.specs.View.{assoc_of, desig_of};
 
-use crate::heights::{above, above_both};
+use crate::heights::{above, above_both, greater};
 use crate::making;
 use crate::sized::{
-    SizedBlock, SizedExpr, SizedExprs, SizedInitList, SizedSomeExpr, SizedStep, SizedSteps,
-    SizedTypeName,
+    SizedAssoc, SizedAssocs, SizedBlock, SizedExpr, SizedExprs, SizedInitList, SizedSomeExpr,
+    SizedStep, SizedSteps, SizedTypeName,
 };
-use c_syntax::{Block, Desig, Expr, Identifier, Specs, TypeName, Word};
+use c_syntax::{Assoc, Block, Desig, Expr, Identifier, Specs, TypeName, Word};
 use c_words::Punct;
 use qual_base::{NameId, NoMemory, TokenId};
 use std::alloc::Global;
@@ -429,6 +429,135 @@ pub fn offset(
         steps.items,
         closing,
     );
+    let tree = boxed(alloc, node)?;
+    Ok(SizedExpr { tree, height })
+}
+
+/// `Part = part cast`: the real or the imaginary part.
+pub fn complex_part(
+    alloc: Global,
+    keyword: TokenId,
+    operand: SizedExpr,
+) -> Result<SizedExpr, NoMemory>
+    ensures { Makes result (trees.complex_part keyword (expr operand)) }
+{
+    let height = above(operand.height);
+    let node = Expr::Part {
+        keyword,
+        operand: operand.tree,
+    };
+    let tree = boxed(alloc, node)?;
+    Ok(SizedExpr { tree, height })
+}
+
+/// `LabelUse = && Name`.
+pub fn label_use(alloc: Global, token: TokenId, label: Identifier) -> Result<SizedExpr, NoMemory>
+    ensures { Makes result (trees.label_use token label) }
+{
+    let tree = boxed(alloc, Expr::LabelUse { token, label })?;
+    Ok(SizedExpr { tree, height: 1 })
+}
+
+/// `Compat = __builtin_types_compatible_p ( TypeName , TypeName )`.
+pub fn compat(
+    alloc: Global,
+    keyword: TokenId,
+    opening: TokenId,
+    left: SizedTypeName,
+    comma: TokenId,
+    right: SizedTypeName,
+    closing: TokenId,
+) -> Result<SizedExpr, NoMemory>
+    ensures { Makes result (trees.compat keyword opening (spec_words_from left.words.items)
+        (some_declr_from left.declr) comma (spec_words_from right.words.items)
+        (some_declr_from right.declr) closing) }
+{
+    let height = above_both(left.height, right.height);
+    let left = TypeName {
+        specs: Specs { words: left.words },
+        declr: left.declr,
+    };
+    let right = TypeName {
+        specs: Specs { words: right.words },
+        declr: right.declr,
+    };
+    let node = making::compat(keyword, opening, left, comma, right, closing);
+    let tree = boxed(alloc, node)?;
+    Ok(SizedExpr { tree, height })
+}
+
+/// `Choose = __builtin_choose_expr ( assign , assign , assign )`.
+pub fn choose(
+    alloc: Global,
+    keyword: TokenId,
+    opening: TokenId,
+    condition: SizedExpr,
+    comma: TokenId,
+    first: SizedExpr,
+    second_comma: TokenId,
+    second: SizedExpr,
+    closing: TokenId,
+) -> Result<SizedExpr, NoMemory>
+    ensures { Makes result (trees.choose keyword opening (expr condition) comma (expr first)
+        second_comma (expr second) closing) }
+{
+    let height = above_both(condition.height, greater(first.height, second.height));
+    let node = Expr::Choose {
+        keyword,
+        open: opening,
+        condition: condition.tree,
+        comma,
+        first: first.tree,
+        second_comma,
+        second: second.tree,
+        close: closing,
+    };
+    let tree = boxed(alloc, node)?;
+    Ok(SizedExpr { tree, height })
+}
+
+/// `Assoc = TypeName : assign`.
+pub fn typed_assoc(of: SizedTypeName, colon: TokenId, value: SizedExpr) -> SizedAssoc
+    ensures { assoc_of result.assoc ≡ trees.typed_assoc (spec_words_from of.words.items)
+        (some_declr_from of.declr) colon (expr value) }
+{
+    let height = above_both(of.height, value.height);
+    let type_name = TypeName {
+        specs: Specs { words: of.words },
+        declr: of.declr,
+    };
+    let assoc = making::typed_assoc(type_name, colon, value.tree);
+    SizedAssoc { assoc, height }
+}
+
+/// `Assoc = default : assign`.
+pub fn default_assoc(keyword: TokenId, colon: TokenId, value: SizedExpr) -> SizedAssoc
+    ensures { assoc_of result.assoc ≡ trees.default_assoc keyword colon (expr value) }
+{
+    SizedAssoc {
+        assoc: Assoc::Default {
+            keyword,
+            colon,
+            value: value.tree,
+        },
+        height: above(value.height),
+    }
+}
+
+/// `Generic = _Generic ( assign , Assoc (, Assoc)* )`.
+pub fn generic(
+    alloc: Global,
+    keyword: TokenId,
+    opening: TokenId,
+    control: SizedExpr,
+    associations: SizedAssocs,
+    closing: TokenId,
+) -> Result<SizedExpr, NoMemory>
+    ensures { Makes result (trees.generic keyword opening (expr control)
+        (assocs_from associations.items.items) closing) }
+{
+    let height = above_both(control.height, associations.height);
+    let node = making::generic(keyword, opening, control.tree, associations.items, closing);
     let tree = boxed(alloc, node)?;
     Ok(SizedExpr { tree, height })
 }

@@ -6,10 +6,10 @@ ghost use Rattle.c_nodes.specs.Sized.{enumerator_of, member_of, param_of, init_i
 
 use crate::heights::{above, greater};
 use crate::sized::{
-    SizedBlockItem, SizedBlockItems, SizedDesig, SizedDesigs, SizedEnumerator, SizedEnumerators,
-    SizedExpr, SizedExprs, SizedInitDeclr, SizedInitDeclrs, SizedInitItem, SizedInitItems,
-    SizedMember, SizedMembers, SizedParam, SizedParams, SizedSpecs, SizedStep, SizedSteps,
-    SizedStructItem, SizedStructItems, SizedWord,
+    SizedAssoc, SizedAssocs, SizedBlockItem, SizedBlockItems, SizedDesig, SizedDesigs,
+    SizedEnumerator, SizedEnumerators, SizedExpr, SizedExprs, SizedInitDeclr, SizedInitDeclrs,
+    SizedInitItem, SizedInitItems, SizedMember, SizedMembers, SizedParam, SizedParams, SizedSpecs,
+    SizedStep, SizedSteps, SizedStructItem, SizedStructItems, SizedWord,
 };
 use c_syntax::{Enumerator, InitDeclr, InitItem, Listed, Param, Specs};
 use qual_base::NoMemory;
@@ -34,6 +34,34 @@ impl SizedExprs {
     {
         let height = greater(self.height, next.height);
         match self.items.push(Box::into_inner(next.tree)) {
+            Ok(()) => {
+                self.height = height;
+                Ok(())
+            }
+            Err(_) => Err(NoMemory),
+        }
+    }
+}
+
+impl SizedAssocs {
+    /// No associations. Takes no memory.
+    pub fn new(alloc: Global) -> Self
+        ensures { result.items.items ≡ [] }
+    {
+        SizedAssocs {
+            items: Vec::new(alloc),
+            height: 0,
+        }
+    }
+
+    /// One more at the end.
+    #[tactic(auto, using(crate::proofs::Pushing::assocs_pushed))]
+    pub fn push(&mut self, next: SizedAssoc) -> Result<(), NoMemory>
+        ensures { OnOk result
+            (self.new.items.items ≡ self.old.items.items ++ next.assoc ∷ []) }
+    {
+        let height = greater(self.height, next.height);
+        match self.items.push(next.assoc) {
             Ok(()) => {
                 self.height = height;
                 Ok(())

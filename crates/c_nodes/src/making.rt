@@ -2,12 +2,12 @@
 //! the parts.
 
 ghost use Rattle.std.specs.Prelude.{◌≡◌};
-ghost use Rattle.c_tree.specs.Lists.{some_declr_from, desigs_from, init_items_from};
+ghost use Rattle.c_tree.specs.Lists.{assocs_from, some_declr_from, desigs_from, init_items_from};
 ghost use Rattle.c_tree.specs.Tree as trees;
 ghost use Rattle.c_tree.specs.Unit.{spec_words_from, block_items_from};
-ghost use Rattle.c_tree.specs.View.{expr_of, init_list_of};
+ghost use Rattle.c_tree.specs.View.{expr_of, assoc_of, init_list_of};
 
-use c_syntax::{Block, Desig, Expr, Identifier, InitItem, InitList, TypeName};
+use c_syntax::{Assoc, Block, Desig, Expr, Identifier, InitItem, InitList, TypeName};
 use qual_base::TokenId;
 
 /// `InitList = { [InitItem (, InitItem)* [,]] }`.
@@ -93,5 +93,60 @@ pub(crate) fn offset(
         member,
         steps,
         close,
+    }
+}
+
+/// `Compat = __builtin_types_compatible_p ( TypeName , TypeName )`.
+pub(crate) fn compat(
+    keyword: TokenId,
+    open: TokenId,
+    left: TypeName,
+    comma: TokenId,
+    right: TypeName,
+    close: TokenId,
+) -> Expr
+    ensures { expr_of result ≡ trees.compat keyword «open»
+        (spec_words_from left.specs.words.items) (some_declr_from left.declr) comma
+        (spec_words_from right.specs.words.items) (some_declr_from right.declr) close }
+{
+    Expr::Compat {
+        keyword,
+        open,
+        left,
+        comma,
+        right,
+        close,
+    }
+}
+
+/// `Generic = _Generic ( assign , Assoc (, Assoc)* )`.
+pub(crate) fn generic(
+    keyword: TokenId,
+    open: TokenId,
+    control: Box<Expr>,
+    associations: Vec<Assoc>,
+    close: TokenId,
+) -> Expr
+    ensures { expr_of result ≡ trees.generic keyword «open» (expr_of control.value)
+        (assocs_from associations.items) close }
+{
+    Expr::Generic {
+        keyword,
+        open,
+        control,
+        associations,
+        close,
+    }
+}
+
+/// `Assoc = TypeName : assign`.
+pub(crate) fn typed_assoc(type_name: TypeName, colon: TokenId, value: Box<Expr>) -> Assoc
+    ensures { assoc_of result ≡ trees.typed_assoc (spec_words_from type_name.specs.words.items)
+        (some_declr_from type_name.declr) colon (expr_of value.value) }
+{
+    Assoc::Typed {
+        type_name,
+        colon,
+        value,
     }
 }

@@ -5,10 +5,10 @@
 
 ghost use Rattle.std.specs.Prelude.{◌≡◌};
 ghost use Rattle.c_tree.specs.Capped.{capped};
-ghost use Rattle.c_nodes.specs.Heights.{of_block, of_block_item, of_body, of_declaration, of_declr, of_desig, of_desigs, of_else, of_enum_body, of_enumerator, of_enumerators, of_expr, of_exprs, of_init, of_init_declr, of_init_declrs, of_init_item, of_init_items, of_init_list, of_mem_declr, of_member, of_members, of_param, of_params, of_size, of_some_declr, of_some_expr, of_some_init, of_start, of_step, of_steps, of_stmt, of_struct_item, of_struct_items, of_type_name, of_value, of_word, of_words};
+ghost use Rattle.c_nodes.specs.Heights.{of_assoc, of_assocs, of_block, of_block_item, of_body, of_declaration, of_declr, of_desig, of_desigs, of_else, of_enum_body, of_enumerator, of_enumerators, of_expr, of_exprs, of_init, of_init_declr, of_init_declrs, of_init_item, of_init_items, of_init_list, of_mem_declr, of_member, of_members, of_param, of_params, of_size, of_some_declr, of_some_expr, of_some_init, of_start, of_step, of_steps, of_stmt, of_struct_item, of_struct_items, of_type_name, of_value, of_word, of_words};
 
 use c_syntax::{
-    ArraySize, AsmLabel, Attr, BlockItem, Braced, BracedList, Declaration, Declr, Desig,
+    ArraySize, AsmLabel, Assoc, Attr, BlockItem, Braced, BracedList, Declaration, Declr, Desig,
     Enumerator, Expr, ForStart, Identifier, Init, InitDeclr, InitItem, Listed, Marked, MemDeclr,
     Param, SpecWord, Stmt, StructItem,
 };
@@ -36,6 +36,22 @@ pub struct SizedExprs {
     pub items: Vec<Expr>,
     pub height: u32,
     pub ghost sized: { height ≡ capped (of_exprs items.items) },
+}
+
+/// An association of a selection by a type, and its height.
+#[derive(Drop)]
+pub struct SizedAssoc {
+    pub assoc: Assoc,
+    pub height: u32,
+    pub ghost sized: { height ≡ capped (of_assoc assoc) },
+}
+
+/// Associations and the greatest of their heights.
+#[derive(Drop)]
+pub struct SizedAssocs {
+    pub items: Vec<Assoc>,
+    pub height: u32,
+    pub ghost sized: { height ≡ capped (of_assocs items.items) },
 }
 
 /// The name of a type, and its height.

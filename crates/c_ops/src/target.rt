@@ -31,6 +31,8 @@ pub(crate) fn is_unary(e: &Expr) -> bool
         Expr::CharUse { .. } | Expr::TextUse { .. } | Expr::Paren { .. } => true,
         Expr::StmtExpr { .. } | Expr::VaArg { .. } | Expr::VaStart { .. } => true,
         Expr::VaCopy { .. } | Expr::Offset { .. } => true,
+        Expr::Part { .. } | Expr::LabelUse { .. } | Expr::Compat { .. } => true,
+        Expr::Choose { .. } | Expr::Generic { .. } => true,
     }
 }
 

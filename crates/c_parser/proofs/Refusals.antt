@@ -1,6 +1,8 @@
 -- What the reader of units refuses is refused with the first bad token, and with a code that is allowed where that is proved.
-use Rattle.std.proofs.Common.{◌≡◌, ◌≢◌, ℕ, suc, ◌+◌, false, List, [], ◌∷◌, ◌++◌, take, Ok, Err, refl, ◌∙◌, sym, ap, subst}
+use Rattle.std.proofs.Common.{◌≡◌, ◌≢◌, ℕ, suc, ◌+◌, Bool, false, List, [], ◌∷◌, ◌++◌, take, Ok, Err, refl, ◌∙◌, sym, ap, subst}
+use Rattle.c_words.specs.declared.kinds.Keyword.TheVariants as keywords
 use Rattle.c_words.specs.declared.kinds.TokenKind.{TokenKind}
+use Rattle.c_words.specs.declared.kinds.TokenKind.TheVariants as kinds
 use Rattle.c_lexer.specs.declared.token.Token.{Token}
 use Rattle.c_lexer.specs.Tokens as tokens_end
 use Rattle.c_tree.specs.declared.lexeme.Lexeme.{Lexeme}
@@ -19,28 +21,38 @@ use Rattle.reader_base.specs.declared.fault.ReadError.TheVariants as errors
 use Rattle.reader_base.specs.Gives.{Fails}
 use Rattle.c_parser.specs.declared.parsing.ParseFault.{ParseFault}
 use Rattle.c_parser.specs.declared.parsing.ParseFault.TheVariants as faults
-use Rattle.c_parser.specs.Parsing.{numbered}
+use Rattle.c_parser.specs.Parsing.{numbered, opens, read_before}
 use Rattle.c_parser.specs.Refusing.{kinds_in, fault_named, token_of, is_for_height}
 
 -- the tokens with their numbers are those of their kinds
 numbered_kinds : (n : ℕ) (tokens : List Token) → numbered n tokens ≡ units.numbered_from n (kinds_in tokens)
 numbered_kinds n [] = refl
-numbered_kinds n (t ∷ tokens) = ap (λ (rest : List Lexeme). record { kind = t.kind; at = n } ∷ rest) (numbered_kinds (suc n) tokens)
+numbered_kinds n (t ∷ tokens) = ap (λ (rest : List Lexeme). record { kind = read_before t.kind (opens tokens); at = n } ∷ rest) (numbered_kinds (suc n) tokens)
 
-kinds_front : (front : List Token) (last : Token) → kinds_in (front ++ last ∷ []) ≡ kinds_in front ++ last.kind ∷ []
-kinds_front [] last = refl
-kinds_front (t ∷ front) last = ap (λ (rest : List TokenKind). t.kind ∷ rest) (kinds_front front last)
+-- before no parenthesis a token is read as it is
+as_it_is : (kind : TokenKind) → read_before kind false ≡ kind
+as_it_is (kinds.Keyword keywords.Atomic) = refl
+as_it_is kind = refl
+
+-- the last kind stands last, whatever those before it are read as
+kinds_front : (front : List Token) (last : Token) → (ks : List TokenKind) × (kinds_in (front ++ last ∷ []) ≡ ks ++ read_before last.kind false ∷ [])
+kinds_front [] last = ([], refl)
+kinds_front (t ∷ front) last =
+    let rest = kinds_front front last in
+    let first : TokenKind = read_before t.kind (opens (front ++ last ∷ [])) in
+    (first ∷ rest.0, ap (λ (kinds : List TokenKind). first ∷ kinds) rest.1)
 
 kinds_ended : (tokens : List Token) → tokens_end.IsEnded tokens → places.IsEnded (kinds_in tokens)
 kinds_ended tokens ended =
-    (kinds_in ended.0, ap kinds_in ended.2 ∙ kinds_front ended.0 ended.1 ∙ ap (λ (kind : TokenKind). kinds_in ended.0 ++ kind ∷ []) ended.3)
+    let found = kinds_front ended.0 ended.1 in
+    (found.0, ap kinds_in ended.2 ∙ found.1 ∙ ap (λ (kind : TokenKind). found.0 ++ kind ∷ []) (as_it_is ended.1.kind ∙ ended.3))
 
 -- what a fault stands for
-pub record IsRefused (tokens : List Token) (fault : ParseFault) : Type 0 where
+pub record IsRefused (wide : Bool) (tokens : List Token) (fault : ParseFault) : Type 0 where
   pub named : Fault
   pub token : ℕ
   pub is : fault ≡ fault_named named token
-  pub refused : unit_at (numbered 0 tokens) ≡ Err (named, token)
+  pub refused : unit_at wide (numbered 0 tokens) ≡ Err (named, token)
 
 token_is : (fault : Fault) (token : ℕ) → token_of (fault_named fault token) ≡ token
 token_is reading.Unexpected token = refl
@@ -70,30 +82,30 @@ deep_is reading.Redeclared one token e = absurd cc
 deep_is reading.BadMix one token e = absurd cc
 deep_is reading.BadTarget one token e = absurd cc
 
-module _ (tokens : List Token) (ended : tokens_end.IsEnded tokens) where
-  refuses : (named : Fault) (token : ℕ) → unit_at (numbered 0 tokens) ≡ Err (named, token) → places.Refuses (kinds_in tokens) named token
-  refuses named token e = ap unit_at (sym (numbered_kinds 0 tokens)) ∙ e
+module _ (wide : Bool) (tokens : List Token) (ended : tokens_end.IsEnded tokens) where
+  refuses : (named : Fault) (token : ℕ) → unit_at wide (numbered 0 tokens) ≡ Err (named, token) → places.Refuses wide (kinds_in tokens) named token
+  refuses named token e = ap (unit_at wide) (sym (numbered_kinds 0 tokens)) ∙ e
 
-  pub first_of : places.PlaceIsFirst → (fault : ParseFault) → IsRefused tokens fault → IsFirstBad (kinds_in tokens) (token_of fault)
+  pub first_of : places.PlaceIsFirst → (fault : ParseFault) → IsRefused wide tokens fault → IsFirstBad wide (kinds_in tokens) (token_of fault)
   first_of law fault r =
-      subst (IsFirstBad (kinds_in tokens)) (sym (ap token_of r.is ∙ token_is r.named r.token)) (law (kinds_in tokens) r.named r.token (kinds_ended tokens ended) (refuses r.named r.token r.refused))
+      subst (IsFirstBad wide (kinds_in tokens)) (sym (ap token_of r.is ∙ token_is r.named r.token)) (law wide (kinds_in tokens) r.named r.token (kinds_ended tokens ended) (refuses r.named r.token r.refused))
 
-  pub height_of : places.HeightAlone → (fault : ParseFault) → IsRefused tokens fault → is_for_height fault ≡ false → ¬ BeginsUnitOfAnyHeight (take (token_of fault + 1) (kinds_in tokens))
+  pub height_of : places.HeightAlone → (fault : ParseFault) → IsRefused wide tokens fault → is_for_height fault ≡ false → ¬ BeginsUnitOfAnyHeight wide (take (token_of fault + 1) (kinds_in tokens))
   height_of law fault r low =
-      subst (λ (token : ℕ). ¬ BeginsUnitOfAnyHeight (take (token + 1) (kinds_in tokens))) (sym (ap token_of r.is ∙ token_is r.named r.token))
-      (law (kinds_in tokens) r.named r.token (kinds_ended tokens ended) (refuses r.named r.token r.refused) (not_deep r.named r.token (ap is_for_height (sym r.is) ∙ low)))
+      subst (λ (token : ℕ). ¬ BeginsUnitOfAnyHeight wide (take (token + 1) (kinds_in tokens))) (sym (ap token_of r.is ∙ token_is r.named r.token))
+      (law wide (kinds_in tokens) r.named r.token (kinds_ended tokens ended) (refuses r.named r.token r.refused) (not_deep r.named r.token (ap is_for_height (sym r.is) ∙ low)))
 
-  pub allowed_of : places.SyntaxIsAllowed → (token : ℕ) → IsRefused tokens (faults.Syntax token) → IsAllowed (kinds_in tokens) token syntax
+  pub allowed_of : places.SyntaxIsAllowed → (token : ℕ) → IsRefused wide tokens (faults.Syntax token) → IsAllowed wide (kinds_in tokens) token syntax
   allowed_of law token r =
       let s = syntax_is r.named r.token token r.is in
-      subst (λ (token : ℕ). IsAllowed (kinds_in tokens) token syntax) (sym s.1)
-      (law (kinds_in tokens) r.token (kinds_ended tokens ended) (refuses reading.Unexpected r.token (subst (λ (named : Fault). unit_at (numbered 0 tokens) ≡ Err (named, r.token)) s.0 r.refused)))
+      subst (λ (token : ℕ). IsAllowed wide (kinds_in tokens) token syntax) (sym s.1)
+      (law wide (kinds_in tokens) r.token (kinds_ended tokens ended) (refuses reading.Unexpected r.token (subst (λ (named : Fault). unit_at wide (numbered 0 tokens) ≡ Err (named, r.token)) s.0 r.refused)))
 
-  pub deep_of : OnlyTheHeight → (token : ℕ) → IsRefused tokens (faults.TooDeep token) → IsAllowed (kinds_in tokens) token too_deep
+  pub deep_of : OnlyTheHeight → (token : ℕ) → IsRefused wide tokens (faults.TooDeep token) → IsAllowed wide (kinds_in tokens) token too_deep
   deep_of law token r =
       let d = deep_is r.named r.token token r.is in
-      subst (λ (token : ℕ). IsAllowed (kinds_in tokens) token too_deep) (sym d.1)
-      (law (kinds_in tokens) r.token (kinds_ended tokens ended) (refuses reading.TooDeep r.token (subst (λ (named : Fault). unit_at (numbered 0 tokens) ≡ Err (named, r.token)) d.0 r.refused)))
+      subst (λ (token : ℕ). IsAllowed wide (kinds_in tokens) token too_deep) (sym d.1)
+      (law wide (kinds_in tokens) r.token (kinds_ended tokens ended) (refuses reading.TooDeep r.token (subst (λ (named : Fault). unit_at wide (numbered 0 tokens) ≡ Err (named, r.token)) d.0 r.refused)))
 
 -- the reader's error, as a refusal
 pub refusal_of : (read : Read (List Item)) (error : ReadError) (named : Fault) (token : ℕ) → error ≡ errors.Fault named token → Fails error read → read ≡ Err (named, token)

@@ -88,32 +88,32 @@ module _ (depth room : ℕ) where
   unfolding tapes_at items_with repeated run
   taped_run s ts = taped_turns (suc (length ts)) [] s ts
 
-taped_alone : (items : List Item) (rest : List Lexeme) → tape_alone (tape_of items) rest ≡ taped (alone items rest)
-taped_alone items [] = refl
-taped_alone items (t ∷ ts) = refl
+taped_alone : (wide : Bool) (items : List Item) (rest : List Lexeme) → tape_alone wide (tape_of items) rest ≡ taped (alone wide items rest)
+taped_alone wide items [] = refl
+taped_alone wide items (t ∷ ts) = refl
 
 -- a unit that is read
-pub taped_unit : (all : List Lexeme) → tape_at all ≡ taped (unit_at all)
+pub taped_unit : (wide : Bool) (all : List Lexeme) → tape_at wide all ≡ taped (unit_at wide all)
 unfolding tape_at unit_at and_then
-taped_unit all = rw (taped_run most (most - 1) file_scope all) (by_items (items_with (knot most) (most - 1) file_scope all))
+taped_unit wide all = rw (taped_run most (most - 1) (file_scope wide) all) (by_items (items_with (knot most) (most - 1) (file_scope wide) all))
   where
     by_end : (x : Found (List Item)) (last : Read ℕ) →
-        and_then last (λ last. tape_alone (tape_of x.tree) last.rest) ≡ taped (and_then last (λ last. alone x.tree last.rest))
+        and_then last (λ last. tape_alone wide (tape_of x.tree) last.rest) ≡ taped (and_then last (λ last. alone wide x.tree last.rest))
     by_end x (Err e) = refl
-    by_end x (Ok last) = taped_alone x.tree last.rest
+    by_end x (Ok last) = taped_alone wide x.tree last.rest
 
     by_items : (r : Read (List Item)) →
-        and_then (taped r) (λ ops. and_then (token_at is_end ops.scopes ops.rest) (λ last. tape_alone ops.tree last.rest))
-        ≡ taped (and_then r (λ items. and_then (token_at is_end items.scopes items.rest) (λ last. alone items.tree last.rest)))
+        and_then (taped r) (λ ops. and_then (token_at is_end ops.scopes ops.rest) (λ last. tape_alone wide ops.tree last.rest))
+        ≡ taped (and_then r (λ items. and_then (token_at is_end items.scopes items.rest) (λ last. alone wide items.tree last.rest)))
     by_items (Err e) = refl
     by_items (Ok x) = by_end x (token_at is_end x.scopes x.rest)
 
 -- where the tape of a whole unit was read, so were its trees
-pub whole : (read : Read (List Item)) (ops : List Op) → taped read ≡ Ok (tape_found ops) →
-    (items : List Item) × (read ≡ Ok (unit_found items)) × (ops ≡ tape_of items)
-whole (Err e) ops is = absurd cc
-whole (Ok x) ops is =
-    let same : ◌≡◌ {A = Found (List Op)} (record { tree = tape_of x.tree; scopes = x.scopes; rest = x.rest }) (tape_found ops) = cc in
+pub whole : (wide : Bool) (read : Read (List Item)) (ops : List Op) → taped read ≡ Ok (tape_found wide ops) →
+    (items : List Item) × (read ≡ Ok (unit_found wide items)) × (ops ≡ tape_of items)
+whole wide (Err e) ops is = absurd cc
+whole wide (Ok x) ops is =
+    let same : ◌≡◌ {A = Found (List Op)} (record { tree = tape_of x.tree; scopes = x.scopes; rest = x.rest }) (tape_found wide ops) = cc in
     (x.tree, ap (λ (z : Found (List Op)). let f : Found (List Item) = record { tree = x.tree; scopes = z.scopes; rest = z.rest } in let r : Read (List Item) = Ok f in r) same, sym (ap (λ (z : Found (List Op)). z.tree) same))
 
 -- and where it was refused, so were they
@@ -122,6 +122,6 @@ refused_alike (Err f) e is = cc
 refused_alike (Ok x) e is = absurd cc
 
 -- an error of the reader of tapes is one of the reader of trees
-pub fails_alike : (error : ReadError) (all : List Lexeme) → Fails error (tape_at all) → Fails error (unit_at all)
-fails_alike (errors.Fault fault token) all is = refused_alike (unit_at all) (fault, token) (sym (taped_unit all) ∙ is)
-fails_alike errors.NoMemory all is = tt
+pub fails_alike : (wide : Bool) (error : ReadError) (all : List Lexeme) → Fails error (tape_at wide all) → Fails error (unit_at wide all)
+fails_alike wide (errors.Fault fault token) all is = refused_alike (unit_at wide all) (fault, token) (sym (taped_unit wide all) ∙ is)
+fails_alike wide errors.NoMemory all is = tt

@@ -1,5 +1,5 @@
 -- What a fault says: its token, its code, and the kinds of the tokens that it is one of.
-use Rattle.std.specs.Prelude.{◌≡◌, ℕ, ◌+◌, Bool, true, false, List, map, take}
+use Rattle.std.specs.Prelude.{◌≡◌, ℕ, ◌+◌, Bool, true, false, List, [], ◌∷◌, take}
 use Rattle.c_words.specs.declared.kinds.TokenKind.{TokenKind}
 use Rattle.c_lexer.specs.declared.token.Token.{Token}
 use Rattle.c_lexer.specs.Tokens.{Lexed}
@@ -11,10 +11,12 @@ use Rattle.c_reading.specs.declared.kinds.Fault.{Fault}
 use Rattle.c_reading.specs.declared.kinds.Fault.TheVariants.{Unexpected, TooDeep, Redeclared, BadMix, BadTarget}
 use Rattle.c_parser.specs.declared.parsing.ParseFault.{ParseFault}
 use Rattle.c_parser.specs.declared.parsing.ParseFault.TheVariants as faults
-use Rattle.c_parser.specs.Parsing.{lexemes_of}
+use Rattle.c_parser.specs.Parsing.{opens, read_before, lexemes_of}
 
+-- the kinds of tokens as the readers see them
 abbrev pub kinds_in : List Token → List TokenKind
-kinds_in tokens = map (λ (token : Token). token.kind) tokens
+kinds_in [] = []
+kinds_in (t ∷ ts) = read_before t.kind (opens ts) ∷ kinds_in ts
 
 abbrev pub kinds_of : Lexed → List TokenKind
 kinds_of lexed = kinds_in lexed.tokens
@@ -48,8 +50,8 @@ is_for_height faults.NoMemory = false
 -- Why these tokens are refused: they are those of no well-formed unit, the token is the first up to which none begins so, and
 -- the code is one that may be answered there. Where the fault is not the height, no unit of any height begins so either.
 pub record IsUnitRefusal (tokens : Lexed) (fault : ParseFault) : Type 0 where
-  pub none : (items : List Item) → IsWellFormed (lexemes_of tokens) items → ⊥
-  pub first : IsFirstBad (kinds_of tokens) (token_of fault)
-  pub height : is_for_height fault ≡ false → ¬ BeginsUnitOfAnyHeight (take (token_of fault + 1) (kinds_of tokens))
-  pub allowed : (token : ℕ) → fault ≡ faults.Syntax token → IsAllowed (kinds_of tokens) token syntax
-  pub deep : (token : ℕ) → fault ≡ faults.TooDeep token → IsAllowed (kinds_of tokens) token too_deep
+  pub none : (items : List Item) → IsWellFormed tokens.wide (lexemes_of tokens) items → ⊥
+  pub first : IsFirstBad tokens.wide (kinds_of tokens) (token_of fault)
+  pub height : is_for_height fault ≡ false → ¬ BeginsUnitOfAnyHeight tokens.wide (take (token_of fault + 1) (kinds_of tokens))
+  pub allowed : (token : ℕ) → fault ≡ faults.Syntax token → IsAllowed tokens.wide (kinds_of tokens) token syntax
+  pub deep : (token : ℕ) → fault ≡ faults.TooDeep token → IsAllowed tokens.wide (kinds_of tokens) token too_deep

@@ -1,5 +1,5 @@
 -- The tape of a unit, read item by item: the readers of lists with the ops of an item in the place of its tree.
-use Rattle.std.specs.Prelude.{◌≡◌, ℕ, ◌-◌, List, [], ◌∷◌, ◌++◌, Some, None, if◌then◌else◌}
+use Rattle.std.specs.Prelude.{◌≡◌, ℕ, ◌-◌, List, [], ◌∷◌, ◌++◌, Some, None, if◌then◌else◌, Bool}
 use Rattle.tape_ops.specs.declared.op.Op.{Op}
 use Rattle.c_lexer.specs.Tokens.{Lexed}
 use Rattle.c_tree.specs.declared.lexeme.Lexeme.{Lexeme}
@@ -25,23 +25,23 @@ unfoldable pub tapes_at : ℕ → ℕ → Reader (List Op)
 tapes_at depth room s ts = run (tape_turn depth room) [] s ts
 
 -- nothing stands behind the end
-abbrev pub tape_alone : List Op → List Lexeme → Read (List Op)
-tape_alone ops [] = ends ops file_scope []
-tape_alone ops (t ∷ ts) = refuses Unexpected (t ∷ ts)
+abbrev pub tape_alone : Bool → List Op → List Lexeme → Read (List Op)
+tape_alone wide ops [] = ends ops (file_scope wide) []
+tape_alone wide ops (t ∷ ts) = refuses Unexpected (t ∷ ts)
 
 -- the ops of the unit whose tokens these are
-unfoldable pub tape_at : List Lexeme → Read (List Op)
-tape_at all = do
-  ops ← tapes_at most (most - 1) file_scope all
+unfoldable pub tape_at : Bool → List Lexeme → Read (List Op)
+tape_at wide all = do
+  ops ← tapes_at most (most - 1) (file_scope wide) all
   last ← token_at is_end ops.scopes ops.rest
-  tape_alone ops.tree last.rest
+  tape_alone wide ops.tree last.rest
 
 -- the ops of a whole unit: nothing stands behind them
-abbrev pub tape_found : List Op → Found (List Op)
-tape_found ops = record { tree = ops; scopes = file_scope; rest = [] }
+abbrev pub tape_found : Bool → List Op → Found (List Op)
+tape_found wide ops = record { tree = ops; scopes = file_scope wide; rest = [] }
 
 -- the tape of the well-formed unit that has these tokens
 pub record IsTapeOf (tokens : Lexed) (ops : List Op) : Type 0 where
   pub items : List Item
-  pub formed : IsWellFormed (lexemes_of tokens) items
+  pub formed : IsWellFormed tokens.wide (lexemes_of tokens) items
   pub taped : ops ≡ tape_of items

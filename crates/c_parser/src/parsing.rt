@@ -1,6 +1,6 @@
 //! Units read from their tokens.
 
-ghost use Rattle.std.specs.Prelude.{◌≡◌, ◌≢◌, ℕ, List, Err, IfOk};
+ghost use Rattle.std.specs.Prelude.{◌≡◌, ◌≢◌, ℕ, List, drop, Err, IfOk};
 ghost use Rattle.c_tree.specs.Unit.{Item, items_of};
 ghost use Rattle.c_units.specs.Units.{IsWellFormed};
 ghost use Rattle.c_reading.specs.Knot.{unit_at};
@@ -9,7 +9,7 @@ ghost use Rattle.reader_base.specs.Lent.{ReadsAsked, asked_at};
 ghost use Rattle.reader_base.specs.declared.fault.ReadError.TheVariants as errors;
 ghost use Rattle.c_parser.specs.declared.parsing.ParseFault.{ParseFault};
 ghost use Rattle.c_parser.specs.declared.parsing.ParseFault.TheVariants as faults;
-ghost use Rattle.c_parser.specs.Parsing.{lexemes_of};
+ghost use Rattle.c_parser.specs.Parsing.{is_atomic, opens, read_before, lexemes_of};
 ghost use Rattle.c_parser.specs.Taping.{IsTapeOf};
 ghost use Rattle.c_parser.specs.Whole.{unit_found};
 ghost use Rattle.c_parser.specs.Refusing.{fault_named, IsUnitRefusal};
@@ -20,10 +20,11 @@ use c_lexer::Tokens;
 use c_reading::{Fault, unit_is_well_formed, well_formed_is_read};
 use c_syntax::Unit;
 use c_tree::Lexeme;
+use c_words::{Keyword, TokenKind};
 use depth_laws::only_the_height;
 use held_scopes::Scopes;
 use qual_base::{NoMemory, Numbered, TokenId};
-use reader_base::{Ask, Place, ReadError, end, refused};
+use reader_base::{Ask, Place, ReadError, end, is_open_paren, refused};
 use std::alloc::Global;
 use tape_ops::Op;
 use unit_forms::items;
@@ -49,6 +50,36 @@ pub enum ParseFault {
 /// The number of the readers of a unit, and the greatest height of its tree.
 const MOST: u32 = 500;
 
+/// Whether a token of a kind is `_Atomic`.
+fn is_atomic(kind: TokenKind) -> bool
+    ensures { result ≡ is_atomic kind }
+{
+    match kind {
+        TokenKind::Keyword(Keyword::Atomic) => true,
+        _ => false,
+    }
+}
+
+/// What a token is before `(` or not: `_Atomic` begins the name of a type there.
+#[tactic(auto, using(crate::proofs::Numbering::read_is))]
+fn read_before(kind: &TokenKind, before: bool) -> TokenKind
+    ensures { result ≡ read_before kind.now before }
+{
+    if before && is_atomic(*kind) {
+        TokenKind::Keyword(Keyword::AtomicType)
+    } else {
+        *kind
+    }
+}
+
+/// Whether `(` stands at a number.
+#[tactic(auto, using(crate::proofs::Numbering::opens_is, crate::proofs::Numbering::opens_none))]
+fn opens_at(tokens: &Tokens, number: u32) -> bool
+    ensures { result ≡ opens (drop number tokens.now.tokens) }
+{
+    number < tokens.len() && is_open_paren(tokens.kind(TokenId::new(number)))
+}
+
 /// The tokens of a unit with their numbers. Linear in the tokens.
 #[tactic(auto, using(crate::proofs::Numbering::lexemes_on))]
 fn lexemes(alloc: Global, tokens: &Tokens) -> Result<Vec<Lexeme>, NoMemory>
@@ -58,6 +89,7 @@ fn lexemes(alloc: Global, tokens: &Tokens) -> Result<Vec<Lexeme>, NoMemory>
     for number in 0..tokens.len() {
         let at = TokenId::new(number);
         let kind = tokens.kind(at);
+        let kind = read_before(&kind, opens_at(tokens, number + 1));
         match all.push(Lexeme { kind, at }) {
             Ok(()) => {}
             Err(_) => return Err(NoMemory),
@@ -68,10 +100,10 @@ fn lexemes(alloc: Global, tokens: &Tokens) -> Result<Vec<Lexeme>, NoMemory>
 
 /// The unit of these tokens, or the token that is refused.
 #[tactic(auto, unfolding(c_reading::specs::Knot::unit_at, c_reading::specs::Reading::and_then))]
-fn unit(alloc: Global, all: &[Lexeme]) -> Result<Unit, ReadError>
-    ensures { Gives (λ x. unit_found (items_of x)) result (unit_at all.now) }
+fn unit(alloc: Global, wide: bool, all: &[Lexeme]) -> Result<Unit, ReadError>
+    ensures { Gives (λ x. unit_found wide (items_of x)) result (unit_at wide all.now) }
 {
-    let scopes = Scopes::new(alloc)?;
+    let scopes = Scopes::new(alloc, wide)?;
     let mut place = Place {
         alloc,
         rest: all,
@@ -114,7 +146,7 @@ fn fault_of(error: ReadError) -> ParseFault
 
 /// Why the readers of a unit refused these tokens.
 fn refusal(tokens: &Tokens, error: ReadError) -> ParseFault
-    requires { Fails error (unit_at (lexemes_of tokens.now)) }
+    requires { Fails error (unit_at tokens.now.wide (lexemes_of tokens.now)) }
     ensures { result ≢ faults.NoMemory → IsUnitRefusal tokens.now result }
 {
     well_formed_is_read();
@@ -131,8 +163,8 @@ fn refusal(tokens: &Tokens, error: ReadError) -> ParseFault
 /// Time and memory are linear in the tokens. Trees above a height of 500 are refused, so the recursion is bounded. That a
 /// refusal for the syntax or for the height is allowed is proved; of the other three it is tested.
 pub fn parse(alloc: Global, tokens: &Tokens) -> Result<Unit, ParseFault>
-    ensures unit { IfOk result (λ unit. IsWellFormed (lexemes_of tokens.now) (items_of unit)) }
-    ensures only { (items : List Item) → IsWellFormed (lexemes_of tokens.now) items →
+    ensures unit { IfOk result (λ unit. IsWellFormed tokens.now.wide (lexemes_of tokens.now) (items_of unit)) }
+    ensures only { (items : List Item) → IsWellFormed tokens.now.wide (lexemes_of tokens.now) items →
         IfOk result (λ unit. items_of unit ≡ items) }
     ensures refused { (fault : ParseFault) → result ≡ Err fault → fault ≢ faults.NoMemory →
         IsUnitRefusal tokens.now fault }
@@ -142,7 +174,7 @@ pub fn parse(alloc: Global, tokens: &Tokens) -> Result<Unit, ParseFault>
     let Ok(all) = lexemes(alloc, tokens) else {
         return Err(ParseFault::NoMemory);
     };
-    match unit(alloc, all.as_slice()) {
+    match unit(alloc, tokens.is_wide(), all.as_slice()) {
         Ok(found) => Ok(found),
         Err(error) => Err(refusal(tokens, error)),
     }
@@ -161,7 +193,7 @@ pub fn parse_tape(alloc: Global, tokens: &Tokens) -> Result<Vec<Op>, ParseFault>
     let Ok(all) = lexemes(alloc, tokens) else {
         return Err(ParseFault::NoMemory);
     };
-    match unit_tape(alloc, all.as_slice()) {
+    match unit_tape(alloc, tokens.is_wide(), all.as_slice()) {
         Ok(ops) => Ok(ops),
         Err(error) => Err(refusal(tokens, error)),
     }

@@ -98,10 +98,10 @@ where
 
 /// The ops of the unit of these tokens, or the token that is refused.
 #[tactic(auto, unfolding(crate::specs::Taping::tape_at, c_reading::specs::Reading::and_then))]
-pub(crate) fn unit_tape(alloc: Global, all: &[Lexeme]) -> Result<Vec<Op>, ReadError>
-    ensures { Gives (λ ops. tape_found ops.items) result (tape_at all.now) }
+pub(crate) fn unit_tape(alloc: Global, wide: bool, all: &[Lexeme]) -> Result<Vec<Op>, ReadError>
+    ensures { Gives (λ ops. tape_found wide ops.items) result (tape_at wide all.now) }
 {
-    let scopes = Scopes::new(alloc)?;
+    let scopes = Scopes::new(alloc, wide)?;
     let mut place = Place {
         alloc,
         rest: all,

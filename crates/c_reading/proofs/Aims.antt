@@ -5,7 +5,9 @@
 use Rattle.std.proofs.Common.{◌≡◌, ℕ, suc, ◌<◌, ◌≤◌, Bool, true, false, List, [], ◌∷◌, Option, Some, None}
 use Rattle.std.specs.Prelude.{if◌then◌else◌, ◌+◌, max, not, ◌&&◌, ◌||◌, ◌⊎◌, is_some, option_map, All}
 use Rattle.c_words.specs.declared.kinds.TokenKind.{TokenKind}
+use Rattle.c_words.specs.declared.kinds.TokenKind.TheVariants as kinds
 use Rattle.c_words.specs.declared.kinds.Punct.{Punct}
+use Rattle.c_words.specs.declared.kinds.Keyword.TheVariants as keywords
 use Rattle.c_words.specs.declared.kinds.Punct.TheVariants as puncts
 use Rattle.c_tree.specs.declared.lexeme.Lexeme.{Lexeme}
 use Rattle.c_syntax.specs.declared.parts.Attr.{Attr}
@@ -16,24 +18,27 @@ use Rattle.c_syntax.specs.declared.parts.PointerWord.{PointerWord}
 use Rattle.c_syntax.specs.declared.parts.PointerWord.TheVariants as pointer_words
 use Rattle.c_syntax.specs.declared.parts.ArrayWord.{ArrayWord}
 use Rattle.c_syntax.specs.declared.parts.Word.{Word}
-use Rattle.c_tree.specs.Tree.{Expr, operation, extension, prefix, SpecWords, no_words, StructItem, MemDeclr, SomeValue, Declr, SomeDeclr, no_declr, some_declr, Init, InitList, Desig, SomeInit, Declaration, BlockItem, Stmt}
-use Rattle.c_tree.specs.Text.{sign_text, group_text, attrs_text, assert_text, quals_text, pointer_words_text, array_words_text, words_text, extensions_text, texts_text, identifier_text, label_text, expr_text, operator_text, spec_words_text, struct_item_text, mem_declr_text, some_value_text, declr_text, some_declr_text, init_text, init_list_text, desigs_text, desig_text, some_sign_text, some_init_text, declaration_text, block_items_text, block_item_text, stmt_text}
-use Rattle.c_tree.specs.Height.{attrs_height, label_height, expr_height, specs_height, struct_item_height, mem_declr_height, some_value_height, declr_height, some_declr_height, init_height, init_list_height, desigs_height, desig_height, step_height, some_init_height, declaration_height, block_height, block_item_height, stmt_height}
+use Rattle.c_tree.specs.Tree.{Assoc, Expr, operation, extension, prefix, SpecWords, no_words, StructItem, MemDeclr, SomeValue, Declr, SomeDeclr, no_declr, some_declr, Init, InitList, Desig, old_desig, SomeInit, Declaration, BlockItem, Stmt}
+use Rattle.c_tree.specs.Text.{sign_text, keyword_text, group_text, attrs_text, assert_text, quals_text, pointer_words_text, array_words_text, words_text, extensions_text, texts_text, identifier_text, label_text, expr_text, assoc_text, operator_text, spec_words_text, struct_item_text, mem_declr_text, some_value_text, declr_text, some_declr_text, init_text, init_list_text, desigs_text, desig_text, some_sign_text, some_init_text, declaration_text, block_items_text, block_item_text, stmt_text}
+use Rattle.c_tree.specs.Height.{attrs_height, label_height, expr_height, assoc_height, specs_height, struct_item_height, mem_declr_height, some_value_height, declr_height, some_declr_height, init_height, init_list_height, desigs_height, desig_height, step_height, some_init_height, declaration_height, block_height, block_item_height, stmt_height}
 use Rattle.c_tree.specs.Levels.{expr_level}
 use Rattle.c_tree.specs.Groups.{IsGroup}
 use Rattle.c_tree.specs.Specifiers.{IsMix}
-use Rattle.c_tree.specs.WellFormed.{is_asm_word, IsQual, IsPointerWord, IsArrayWord, AreAttrs, IsLabel, is_named, ends_starred, IsParamEnd, IsExpr, AreTypeWords, AreSpecWords, IsStructItem, IsMemDeclr, IsSomeValue, IsDeclr, IsSomeAbstract, IsSomeDeclr, IsInit, IsInitList, AreDesigs, IsDesig, IsStep, IsDesignated, IsSomeInit, IsDeclaration, AreBlockItems, IsBlockItem, IsStmt, takes_else}
+use Rattle.c_tree.specs.WellFormed.{is_asm_word, IsQual, IsWordQual, has_auto, lists_identifiers, some_lists_identifiers, begins_base, IsAssoc, IsPointerWord, IsArrayWord, AreAttrs, IsLabel, is_named, ends_starred, IsParamEnd, IsExpr, AreTypeWords, AreSpecWords, IsStructItem, IsMemDeclr, IsSomeValue, IsDeclr, IsSomeAbstract, IsSomeDeclr, IsInit, IsInitList, AreDesigs, IsDesig, IsStep, IsDesignated, IsSomeInit, IsDeclaration, AreBlockItems, AreLabelsFirst, IsBlockItem, IsStmt, takes_else}
 use Rattle.c_tree.specs.Unit.{Item, item_text, item_height, IsItem}
 use Rattle.c_specs.specs.Reading.{append_words}
+use Rattle.c_specs.specs.declared.mix.Class.TheVariants as classes
+use Rattle.c_specs.specs.Mix.{goes_on}
 use Rattle.typedef_scope.specs.declared.kind.Kind.{Kind}
 use Rattle.typedef_scope.specs.declared.kind.Kind.TheVariants.{Constant, Value}
-use Rattle.c_units.specs.HeldScopes.{HeldScopes, HeldScope, enter, innermost, release, declare}
-use Rattle.c_units.specs.Scoping.{behind, in_own_scope, at_name, where_true, expr_scopes, spec_words_scopes, struct_item_scopes, mem_declr_scopes, some_value_scopes, declr_scopes, some_declr_scopes, some_shows_no_type, params_scopes, init_scopes, init_list_scopes, desigs_scopes, desig_scopes, some_init_scopes, declaration_scopes, block_items_scopes, block_item_scopes, stmt_scopes}
+use Rattle.c_units.specs.HeldScopes.{HeldScopes, HeldScope, is_typedef, enter, innermost, release, declare}
+use Rattle.c_units.specs.Scoping.{behind, in_own_scope, at_name, where_true, expr_scopes, assoc_scopes, spec_words_scopes, struct_item_scopes, mem_declr_scopes, some_value_scopes, declr_scopes, some_declr_scopes, some_shows_no_type, params_scopes, init_scopes, init_list_scopes, desigs_scopes, desig_scopes, some_init_scopes, declaration_scopes, block_items_scopes, block_item_scopes, stmt_scopes}
 use Rattle.c_units.specs.Units.{OwnParams, own_params, item_scopes}
+use Rattle.c_reading.specs.declared.kinds.SpecStart.TheVariants as starts
 use Rattle.c_reading.specs.declared.kinds.Reach.{Reach}
 use Rattle.c_reading.specs.declared.kinds.Reach.TheVariants.{Whole, Assigned, Conditional, Castable, Unary}
 use Rattle.c_reading.specs.declared.kinds.Role.{Role}
-use Rattle.c_reading.specs.declared.kinds.Role.TheVariants.{Declaring, Naming}
+use Rattle.c_reading.specs.declared.kinds.Role.TheVariants.{Declaring, Typed, Naming}
 use Rattle.c_reading.specs.declared.kinds.Mode.{Mode}
 use Rattle.c_reading.specs.declared.kinds.Mode.TheVariants.{Named, Abstract, Either}
 use Rattle.c_reading.specs.declared.kinds.PostfixForm.{PostfixForm}
@@ -41,9 +46,9 @@ use Rattle.c_reading.specs.declared.kinds.PostfixForm.TheVariants as forms
 use Rattle.c_reading.specs.declared.kinds.Infix.{Infix}
 use Rattle.c_reading.specs.declared.kinds.Infix.TheVariants as infixes
 use Rattle.c_reading.specs.Reading.{Found, Reader, kind_at, IsTail}
-use Rattle.c_reading.specs.Tokens.{is_open_paren, is_open_bracket, is_open_brace, is_star, is_colon, is_asm, is_attribute, is_extension, is_else, is_text, spelled_name, is_made, qual_of, array_word_of, asm_word_of, begins_pointer_word, extensions_at, texts_at, quals_at, array_words_at, asm_words_at, group_at, attr_at, attrs_at, pointer_words_at, assert_at}
+use Rattle.c_reading.specs.Tokens.{is_open_paren, is_open_bracket, is_open_brace, is_star, is_colon, is_asm, is_attribute, is_extension, is_else, is_text, spelled_name, is_made, qual_of, word_qual_of, is_base_word, array_word_of, asm_word_of, begins_pointer_word, extensions_at, texts_at, quals_at, array_words_at, asm_words_at, group_at, align_at, attr_at, attrs_at, pointer_words_at, assert_at}
 use Rattle.c_reading.specs.Parts.{Begun, nothing, extensions, star, TypeName, type_name_height, Block, Declared, Inner, MemberItem, EnumItem, ParamItem, ListItem, DeclrItem}
-use Rattle.c_reading.specs.Specifying.{is_start, start_at, begins_specs}
+use Rattle.c_reading.specs.Specifying.{is_start, may_stand, start_at, begins_specs, ends_before as words_end}
 use Rattle.c_reading.specs.Declaring.{takes_name}
 use Rattle.c_reading.specs.Expressing.{form_of, infix_of, begins_expr}
 use Rattle.c_reading.proofs.Binding.{found, done}
@@ -75,6 +80,13 @@ ends_expr reach kind = ends_unary kind && ends_before reach (infix_of kind)
 -- specifiers in which a type stands
 abbrev pub ends_specs : TokenKind → Bool
 ends_specs kind = not (is_start (start_at [] true kind)) && not (is_open_brace kind)
+
+-- in wider C a base word ends the words of a `typedef` that it does not continue: it is the name there
+abbrev pub IsBaseEnd : HeldScopes → SpecWords → TokenKind → Type 0
+IsBaseEnd s ws kind = (is_base_word kind ≡ true) × (words_end s ws (starts.Basic keywords.BaseWord) ≡ true)
+
+abbrev pub EndsWords : HeldScopes → SpecWords → TokenKind → Type 0
+EndsWords s ws kind = (ends_specs kind ≡ true) ⊎ IsBaseEnd s ws kind
 
 -- a declarator that does not end with a star; none; one that ends with a star
 abbrev pub ends_suffix : TokenKind → Bool
@@ -113,7 +125,7 @@ ends_stmt t kind = not (takes_else t && is_else kind)
 
 -- a first token of a declarator with a name, and of one without
 abbrev pub begins_named : TokenKind → Bool
-begins_named kind = is_star kind || is_open_paren kind || is_some (spelled_name kind)
+begins_named kind = is_star kind || is_open_paren kind || is_some (spelled_name kind) || is_base_word kind
 
 abbrev pub begins_abstract : TokenKind → Bool
 begins_abstract kind = is_star kind || is_open_paren kind || is_open_bracket kind
@@ -200,6 +212,14 @@ IsBegun nothing e = Unit {0}
 IsBegun (extensions tokens) e = exts_begin tokens e
 IsBegun (star token) e = star_begins token e
 
+abbrev pub is_old : Desig → Bool
+is_old (old_desig name colon) = true
+is_old d = false
+
+-- an item of an initialiser, which goes on with no colon
+abbrev pub ends_item : TokenKind → Bool
+ends_item kind = ends_expr Assigned kind && not (is_colon kind)
+
 module _ (all : List Lexeme) where
   -- the tokens behind what was read
   abbrev pub behind_exts : List ℕ → Expr → List Lexeme → List Lexeme
@@ -227,7 +247,7 @@ module _ (all : List Lexeme) where
   texts_form = record { text = texts_text; Fits = λ xs. Unit {0}; scopes = λ xs s. Some s; height = λ xs. 0 }
 
   abbrev pub quals_form : Form (List Qual)
-  quals_form = record { text = quals_text all; Fits = All (IsQual all); scopes = λ xs s. Some s; height = λ xs. 0 }
+  quals_form = record { text = quals_text all; Fits = All (IsWordQual all); scopes = λ xs s. Some s; height = λ xs. 0 }
 
   abbrev pub array_words_form : Form (List ArrayWord)
   array_words_form = record { text = array_words_text all; Fits = All (IsArrayWord all); scopes = λ xs s. Some s; height = λ xs. 0 }
@@ -241,6 +261,9 @@ module _ (all : List Lexeme) where
   abbrev pub attrs_form : Form (List Attr)
   attrs_form = record { text = attrs_text all; Fits = AreAttrs all; scopes = λ xs s. Some s; height = least_with }
 
+  abbrev pub align_form : Form Attr
+  align_form = record { text = λ a k. keyword_text keywords.Alignas a.keyword (group_text all a.group k); Fits = λ a. IsGroup all a.group; scopes = λ a s. Some s; height = λ a. 0 }
+
   abbrev pub pointer_words_form : Form (List PointerWord)
   pointer_words_form = record { text = pointer_words_text all; Fits = All (IsPointerWord all); scopes = λ xs s. Some s; height = least_pointer_words }
 
@@ -249,6 +272,9 @@ module _ (all : List Lexeme) where
 
   abbrev pub expr_form : Reach → Form Expr
   expr_form reach = record { text = expr_text all; Fits = λ e. IsExpr all e × (reach_level reach ≤ expr_level e); scopes = expr_scopes; height = expr_height }
+
+  abbrev pub assoc_form : Form Assoc
+  assoc_form = record { text = assoc_text all; Fits = IsAssoc all; scopes = assoc_scopes; height = assoc_height }
 
   abbrev pub type_name_form : Form TypeName
   type_name_form = record {
@@ -286,7 +312,7 @@ module _ (all : List Lexeme) where
   abbrev pub param_form : Form ParamItem
   param_form = record {
     text = λ x k. spec_words_text all x.words (some_declr_text all x.declr (attrs_text all x.attrs k));
-    Fits = λ x. IsMix x.words × AreSpecWords all x.words × IsSomeDeclr all x.declr × AreAttrs all x.attrs × IsParamEnd x.declr x.attrs;
+    Fits = λ x. IsMix x.words × AreSpecWords all x.words × (has_auto x.words ≡ false) × IsSomeDeclr all x.declr × AreAttrs all x.attrs × IsParamEnd x.declr x.attrs × (some_lists_identifiers x.declr ≡ false);
     scopes = λ x s. param_scopes x.words x.declr s;
     height = λ x. max (specs_height x.words) (max (some_declr_height x.declr) (attrs_height x.attrs)) + 1;
   }
@@ -297,8 +323,9 @@ module _ (all : List Lexeme) where
   abbrev pub init_list_form : Form InitList
   init_list_form = record { text = init_list_text all; Fits = IsInitList all; scopes = init_list_scopes; height = init_list_height }
 
+  -- of a row of designators, of which an `m:` is none
   abbrev pub desig_form : Form Desig
-  desig_form = record { text = desig_text all; Fits = IsDesig all; scopes = desig_scopes; height = desig_height }
+  desig_form = record { text = desig_text all; Fits = λ d. IsDesig all d × (is_old d ≡ false); scopes = desig_scopes; height = desig_height }
 
   abbrev pub step_form : Form Desig
   step_form = record { text = desig_text all; Fits = IsStep all; scopes = desig_scopes; height = step_height }
@@ -317,7 +344,7 @@ module _ (all : List Lexeme) where
   abbrev pub declr_item_form : Kind → Form DeclrItem
   declr_item_form kind = record {
     text = λ x k. attrs_text all x.before (declr_text all x.declr (label_text all x.label (attrs_text all x.attrs (some_init_text all x.init k))));
-    Fits = λ x. AreAttrs all x.before × IsDeclr all x.declr × (is_named x.declr ≡ true) × IsLabel all x.label × AreAttrs all x.attrs × IsSomeInit all x.init;
+    Fits = λ x. AreAttrs all x.before × IsDeclr all x.declr × (is_named x.declr ≡ true) × IsLabel all x.label × AreAttrs all x.attrs × IsSomeInit all x.init × (lists_identifiers x.declr ≡ false);
     scopes = λ x s. behind (declr_scopes (Some kind) x.declr s) (λ t. some_init_scopes x.init (release kind t));
     height = λ x. max (attrs_height x.before) (max (declr_height x.declr) (max (label_height x.label) (max (attrs_height x.attrs) (some_init_height x.init)))) + 1;
   }
@@ -328,7 +355,7 @@ module _ (all : List Lexeme) where
   abbrev pub block_form : Form Block
   block_form = record {
     text = λ b k. sign_text puncts.OpenBrace b.opening (block_items_text all b.items (sign_text puncts.CloseBrace b.closing k));
-    Fits = λ b. AreBlockItems all b.items;
+    Fits = λ b. AreBlockItems all b.items × AreLabelsFirst b.items;
     scopes = λ b s. in_own_scope (block_items_scopes b.items) s;
     height = λ b. block_height b.items;
   }
@@ -353,7 +380,7 @@ module _ (all : List Lexeme) where
     pub texts_complete : (room : ℕ) → IsComplete texts_form (λ xs kind. not (is_text kind)) room texts_at
     pub quals_falls : Falls quals_at
     pub quals_sound : (room : ℕ) → IsSound all quals_form room quals_at
-    pub quals_complete : (room : ℕ) → IsComplete quals_form (λ xs kind. not (is_made (qual_of kind))) room quals_at
+    pub quals_complete : (room : ℕ) → IsComplete quals_form (λ xs kind. not (is_made (word_qual_of kind))) room quals_at
     pub array_words_falls : Falls array_words_at
     pub array_words_sound : (room : ℕ) → IsSound all array_words_form room array_words_at
     pub array_words_complete : (room : ℕ) → IsComplete array_words_form (λ xs kind. not (is_made (array_word_of kind))) room array_words_at
@@ -366,6 +393,10 @@ module _ (all : List Lexeme) where
     pub attr_shrinks : Shrinks attr_at
     pub attr_sound : (room : ℕ) (s : HeldScopes) (ts : List Lexeme) (x : Found Attr) → IsTail all ts → attr_at s ts ≡ done x → Takes all attrs_form 2 s ts (found (x.tree ∷ []) x.scopes x.rest)
     pub attr_complete : (a : Attr) (s : HeldScopes) (k : List Lexeme) → IsGroup all a.group → attr_at s (attrs_text all (a ∷ []) k) ≡ done (found a s k)
+    pub align_shrinks : Shrinks align_at
+    pub align_sound : (room : ℕ) (s : HeldScopes) (ts : List Lexeme) (x : Found Attr) → IsTail all ts → kind_at ts ≡ kinds.Keyword keywords.Alignas → align_at s ts ≡ done x →
+        Takes all align_form room s ts x
+    pub align_complete : (room : ℕ) → IsComplete align_form always room align_at
     pub attrs_falls : (room : ℕ) → Falls (attrs_at room)
     pub attrs_sound : (room : ℕ) → IsSound all attrs_form room (attrs_at room)
     pub attrs_complete : (room : ℕ) → IsComplete attrs_form (λ xs kind. not (is_attribute kind)) room (attrs_at room)
@@ -378,13 +409,21 @@ module _ (all : List Lexeme) where
 
   -- First tokens.
 
+  abbrev pub FitsRole : Role → SpecWords → Type 0
+  FitsRole Declaring ws = AreSpecWords all ws
+  FitsRole Typed ws = AreSpecWords all ws × (has_auto ws ≡ false)
+  FitsRole Naming ws = AreTypeWords all ws
+
   pub record FirstLaws : Type 0 where
     pub words_begin : (ws : SpecWords) (s s' : HeldScopes) (k : List Lexeme) → IsMix ws → AreSpecWords all ws → spec_words_scopes ws s ≡ Some s' →
         begins_specs s (kind_at (spec_words_text all ws k)) ≡ true
     pub type_words_begin : (ws : SpecWords) (s s' : HeldScopes) (k : List Lexeme) → IsMix ws → AreTypeWords all ws → spec_words_scopes ws s ≡ Some s' →
         begins_specs s (kind_at (spec_words_text all ws k)) ≡ true
+    pub words_stand : (role : Role) (ws : SpecWords) (s s' : HeldScopes) (k : List Lexeme) → IsMix ws → FitsRole role ws → spec_words_scopes ws s ≡ Some s' →
+        may_stand role (start_at s false (kind_at (spec_words_text all ws k))) ≡ true
     pub expr_begins : (e : Expr) (s s' : HeldScopes) (k : List Lexeme) → IsExpr all e → expr_scopes e s ≡ Some s' → begins_expr s (kind_at (expr_text all e k)) ≡ true
     pub named_begins : (d : Declr) (k : List Lexeme) → IsDeclr all d → is_named d ≡ true → begins_named (kind_at (declr_text all d k)) ≡ true
+    pub named_base : (d : Declr) (k : List Lexeme) → IsDeclr all d → is_named d ≡ true → is_base_word (kind_at (declr_text all d k)) ≡ begins_base d
     pub abstract_begins : (d : Declr) (k : List Lexeme) → IsDeclr all d → is_named d ≡ false → begins_abstract (kind_at (declr_text all d k)) ≡ true
 
   -- Expressions.
@@ -415,10 +454,6 @@ module _ (all : List Lexeme) where
 
   -- Specifiers, behind words that were read already.
 
-  abbrev pub FitsRole : Role → SpecWords → Type 0
-  FitsRole Declaring ws = AreSpecWords all ws
-  FitsRole Naming ws = AreTypeWords all ws
-
   -- What was read behind words that stood already: they are a mix with these. The room is asked for where a word was read.
   pub record TakesWords (role : Role) (words : SpecWords) (room : ℕ) (s : HeldScopes) (ts : List Lexeme) (x : Found SpecWords) : Type 0 where
     pub rest : SpecWords
@@ -426,6 +461,7 @@ module _ (all : List Lexeme) where
     pub mix : IsMix x.tree
     pub spelled : ts ≡ spec_words_text all rest x.rest
     pub fits : FitsRole role rest
+    pub stops : is_base_word (kind_at x.rest) ≡ true → goes_on x.tree (classes.Spells keywords.BaseWord) ≡ false
     pub named : spec_words_scopes rest s ≡ Some x.scopes
     pub low : (rest ≡ no_words) ⊎ (specs_height x.tree ≤ room)
     pub left : IsTail all x.rest
@@ -436,7 +472,7 @@ module _ (all : List Lexeme) where
     pub sound : (role : Role) (words : SpecWords) (room : ℕ) (s : HeldScopes) (ts : List Lexeme) (x : Found SpecWords) → IsTail all ts → specs role words room s ts ≡ done x →
         TakesWords role words room s ts x
     pub complete : (role : Role) (words rest : SpecWords) (room : ℕ) → room < n → (s s' : HeldScopes) (k : List Lexeme) → IsMix (append_words words rest) → FitsRole role rest →
-        spec_words_scopes rest s ≡ Some s' → (rest ≡ no_words) ⊎ (specs_height (append_words words rest) ≤ room) → ends_specs (kind_at k) ≡ true →
+        spec_words_scopes rest s ≡ Some s' → (rest ≡ no_words) ⊎ (specs_height (append_words words rest) ≤ room) → EndsWords s' (append_words words rest) (kind_at k) →
         specs role words room s (spec_words_text all rest k) ≡ done (found (append_words words rest) s' k)
 
   -- Declarators.
@@ -450,9 +486,16 @@ module _ (all : List Lexeme) where
   FitsMode Abstract d s = IsSomeAbstract all d
   FitsMode Either d s = IsSomeDeclr all d × (some_shows_no_type s d ≡ true)
 
+  -- a typedef name is declared only where a name must come
+  abbrev pub MayName : Mode → Option Kind → Type 0
+  MayName Named wanted = Unit {0}
+  MayName Abstract wanted = is_typedef wanted ≡ false
+  MayName Either wanted = is_typedef wanted ≡ false
+
   pub record TakesDeclr (mode : Mode) (wanted : Option Kind) (flag : Bool) (room : ℕ) (s : HeldScopes) (ts : List Lexeme) (x : Found Declared) : Type 0 where
     pub spelled : ts ≡ some_declr_text all x.tree.declr x.rest
     pub fits : FitsMode mode x.tree.declr s
+    pub plain : flag ≡ false → some_lists_identifiers x.tree.declr ≡ false
     pub named : some_declr_scopes wanted x.tree.declr s ≡ Some x.scopes
     pub closed : x.tree.closed ≡ closed_of wanted x.tree.declr s
     pub low : some_declr_height x.tree.declr ≤ declr_room flag x.tree.closed room
@@ -463,7 +506,7 @@ module _ (all : List Lexeme) where
     pub shrinks : (wanted : Option Kind) (flag : Bool) (room : ℕ) → Shrinks (declr Named wanted flag room)
     pub sound : (mode : Mode) (wanted : Option Kind) (flag : Bool) (room : ℕ) (s : HeldScopes) (ts : List Lexeme) (x : Found Declared) → IsTail all ts → declr mode wanted flag room s ts ≡ done x →
         TakesDeclr mode wanted flag room s ts x
-    pub complete : (mode : Mode) (wanted : Option Kind) (flag : Bool) (room : ℕ) → declr_number flag room < n → (d : SomeDeclr) (s s' : HeldScopes) (k : List Lexeme) → FitsMode mode d s →
+    pub complete : (mode : Mode) (wanted : Option Kind) (flag : Bool) (room : ℕ) → declr_number flag room < n → MayName mode wanted → (d : SomeDeclr) (s s' : HeldScopes) (k : List Lexeme) → FitsMode mode d s → (flag ≡ true) ⊎ (some_lists_identifiers d ≡ false) →
         some_declr_scopes wanted d s ≡ Some s' → some_declr_height d ≤ declr_room flag (closed_of wanted d s) room → ends_declr mode d (kind_at k) ≡ true →
         declr mode wanted flag room s (some_declr_text all d k) ≡ done (found (declared_as wanted d s) s' k)
 

@@ -24,6 +24,10 @@ unfolding and_then
 bind_ok {r = Ok x} {f = f} {y = y} e = (x, refl, e)
 bind_ok {r = Err d} {f = f} {y = y} e = absurd cc
 
+-- the same in a long chain of steps: what was read at each is a variable, so that terms stay short
+pub bind_in : {A B P : Type 0} {r : Result A Refusal} {f : A → Result B Refusal} {y : B} → and_then r f ≡ done y → ((x : A) → r ≡ done x → f x ≡ done y → P) → P
+bind_in e then_so = let b = bind_ok e in then_so b.0 b.1 b.2
+
 -- a step that goes well goes on
 pub bind_is : {A B : Type 0} {r : Result A Refusal} (f : A → Result B Refusal) {x : A} {y : Result B Refusal} → r ≡ done x → f x ≡ y → and_then r f ≡ y
 unfolding and_then

@@ -62,11 +62,11 @@ module _ (all : List Lexeme) where
 
     pub declrs_fit : (xs : List DeclrItem) → AllFit (declr_item_form all kind) xs → AreInitDeclrs all (init_declrs_from xs)
     declrs_fit [] h = tt
-    declrs_fit (x ∷ xs) h = (h.0.0, h.0.1, h.0.2, h.0.3, h.0.4, h.0.5, declrs_fit xs h.1)
+    declrs_fit (x ∷ xs) h = (h.0.0, h.0.1, h.0.2, h.0.3, h.0.4, h.0.5, declrs_fit xs h.1, h.0.6)
 
     pub declrs_fit_back : (xs : InitDeclrs) → AreInitDeclrs all xs → AllFit (declr_item_form all kind) (declrs_items xs)
     declrs_fit_back no_init_declrs h = tt
-    declrs_fit_back (more_init_declrs attrs d asm_label attrs2 init ds) h = ((h.0, h.1, h.2, h.3, h.4, h.5), declrs_fit_back ds h.6)
+    declrs_fit_back (more_init_declrs attrs d asm_label attrs2 init ds) h = ((h.0, h.1, h.2, h.3, h.4, h.5, h.7), declrs_fit_back ds h.6)
 
     pub declrs_named : (xs : List DeclrItem) (s : HeldScopes) → row_scopes (declr_item_form all kind) xs s ≡ init_declrs_scopes kind (init_declrs_from xs) s
     declrs_named [] s = refl

@@ -1,32 +1,41 @@
 -- What the readers of declarations take is spelled so and well formed.
-use Rattle.std.proofs.Common.{◌≡◌, ℕ, ◌<◌, ◌≤◌, true, List, [], ◌∷◌, length, Option, Some, None, inl, inr, refl, sym, ◌∙◌, ap, subst, arith}
+use Rattle.std.proofs.Common.{◌≡◌, ℕ, ◌<◌, ◌≤◌, Bool, true, false, List, [], ◌∷◌, length, Option, Some, None, inl, inr, refl, sym, ◌∙◌, ap, subst, arith}
 use Rattle.std.specs.Prelude.{◌+◌, ◌-◌, max, ◌⊎◌, if◌then◌else◌}
+use Rattle.c_words.specs.declared.kinds.TokenKind.{TokenKind}
 use Rattle.c_words.specs.declared.kinds.TokenKind.TheVariants as kinds
 use Rattle.c_words.specs.declared.kinds.Punct.TheVariants as puncts
 use Rattle.c_words.specs.declared.kinds.Keyword.TheVariants as keywords
 use Rattle.c_tree.specs.declared.lexeme.Lexeme.{Lexeme}
 use Rattle.c_syntax.specs.declared.parts.Attr.{Attr}
 use Rattle.c_syntax.specs.declared.parts.AsmLabel.{AsmLabel}
-use Rattle.c_tree.specs.Tree.{SpecWords, no_words, more_words, Declr, SomeInit, no_init, some_init, Declaration, declaration, declr_name, InitDeclrs}
-use Rattle.c_tree.specs.Text.{sign_text, keyword_text, attrs_text, label_text, declr_text, spec_word_text, spec_words_text, init_declrs_text, extensions_text}
-use Rattle.c_tree.specs.Height.{attrs_height, label_height, declr_height, some_init_height, specs_height, init_declrs_height}
-use Rattle.c_tree.specs.Specifiers.{IsMix}
-use Rattle.c_tree.specs.WellFormed.{AreSpecWords, AreAttrs, IsLabel, IsDeclr, is_named, IsInitStart, AreInitDeclrs, IsDeclaration}
+use Rattle.c_tree.specs.Tree.{Expr, SpecWords, no_words, more_words, Declr, some_declr, init_value, SomeInit, no_init, some_init, Declaration, declaration, declr_name, InitDeclrs, no_init_declrs, more_init_declrs}
+use Rattle.c_tree.specs.Text.{sign_text, keyword_text, name_text, expr_text, attrs_text, label_text, declr_text, spec_word_text, spec_words_text, init_declrs_text, extensions_text}
+use Rattle.c_tree.specs.Height.{attrs_height, expr_height, label_height, declr_height, some_init_height, specs_height, init_declrs_height}
+use Rattle.c_tree.specs.Specifiers.{IsMix, storage_words}
+use Rattle.c_tree.specs.WellFormed.{AreSpecWords, AreAttrs, IsLabel, IsDeclr, is_named, lists_identifiers, has_auto, IsAutoDeclr, IsAutoWhere, IsInitStart, AreInitDeclrs, IsDeclaration}
 use Rattle.typedef_scope.specs.declared.kind.Kind.{Kind}
+use Rattle.typedef_scope.specs.declared.kind.Kind.TheVariants.{Value}
+use Rattle.c_specs.specs.declared.mix.Class.TheVariants as classes
+use Rattle.c_specs.specs.Mix.{goes_on}
+use Rattle.c_specs.specs.Laws.{MixesGoOn}
+use Rattle.c_reading.specs.declared.kinds.Reach.TheVariants.{Assigned}
+use Rattle.c_reading.specs.Declaring.{name_held}
+use Rattle.c_reading.specs.Specifying.{present}
+use Rattle.c_reading.proofs.BaseWords.{words_declrs_scopes, base_start, no_typedef, among_typedef}
 use Rattle.c_specs.specs.Reading.{append_words}
 use Rattle.c_reading.specs.declared.kinds.Role.TheVariants.{Declaring}
 use Rattle.c_units.specs.HeldScopes.{HeldScopes, release}
-use Rattle.c_units.specs.Scoping.{declared_kind, spec_word_scopes, spec_words_scopes, declr_scopes, init_scopes, some_init_scopes, init_declrs_scopes, declaration_scopes}
-use Rattle.c_reading.specs.Reading.{Found, Read, Reader, kind_at, Next, one_more, CommaList, IsNumbered, IsTail, listed}
-use Rattle.c_reading.specs.Tokens.{is_semicolon, is_equal, is_asm}
-use Rattle.c_reading.specs.Parts.{Inner, DeclrItem, init_declrs_from}
-use Rattle.c_reading.specs.Stating.{label_at, some_init_with, declr_behind, init_declr_with, next_init_declr, declrs_with, bare_declaration, declaration_behind, declaration_with, declaration_from}
+use Rattle.c_units.specs.Scoping.{behind, at_name, is_base, has_typedef_word, expr_scopes, auto_declrs_scopes, declared_kind, spec_word_scopes, spec_words_scopes, declr_scopes, init_scopes, some_init_scopes, init_declrs_scopes, declaration_scopes}
+use Rattle.c_reading.specs.Reading.{Found, Read, Reader, and_then, kind_at, Next, one_more, CommaList, IsNumbered, IsTail, listed}
+use Rattle.c_reading.specs.Tokens.{is_semicolon, is_equal, is_asm, is_base_word, spelled_name}
+use Rattle.c_reading.specs.Parts.{Inner, Declared, DeclrItem, init_declrs_from}
+use Rattle.c_reading.specs.Stating.{label_at, some_init_with, declr_behind, init_declr_with, next_init_declr, declrs_with, bare_declaration, auto_declr, auto_name, auto_declarator, auto_behind, declaration_behind, declaration_with, declaration_from}
 use Rattle.c_reading.proofs.Binding.{found, done, ok_is, bind_ok, fits_ok, if_ok}
-use Rattle.c_reading.proofs.Forms.{Takes, IsSound, at_end, behind_is, behind_ok, through, took, took_token}
+use Rattle.c_reading.proofs.Forms.{Takes, IsSound, at_end, behind_is, behind_ok, through, took, took_token, name_kind}
 use Rattle.c_reading.proofs.Commas.{NextTakes, no_ending, ending_text, HasItem, listed_sound_from, listed_keeps}
 use Rattle.c_reading.proofs.KindFacts.{equal_kind, asm_kind, semicolon_kind}
 use Rattle.c_reading.proofs.Aims.{declr_item_form, some_init_form, declaration_form, TakesWords, TokenLaws, Laws}
-use Rattle.c_reading.proofs.Shared.{specs_here_sound, named_declr_sound, init_sound}
+use Rattle.c_reading.proofs.Shared.{specs_here_sound, specs_here_stops, named_declr_sound, init_sound}
 use Rattle.c_reading.proofs.StmtFalls.{next_declr_shrinks}
 use Rattle.c_reading.proofs.DeclLists.{attrs_room, declrs_are, no_end, declrs_fit, declrs_named, declrs_high}
 
@@ -100,11 +109,11 @@ module _ (all : List Lexeme) (numbered : IsNumbered all) (tokens : TokenLaws all
   label_low (Some l) d room a b = omega (arith, a, b)
 
   -- What stands behind a declarator, whose name is declared there, with the declarator and what stands before it.
-  pub declr_behind_sound : (before : List Attr) (d : Declr) (kind : Kind) (room : ℕ) (s u : HeldScopes) (ts : List Lexeme) (x : Found DeclrItem) → AreAttrs all before → attrs_height before ≤ room - 1 → IsDeclr all d → is_named d ≡ true →
+  pub declr_behind_sound : (before : List Attr) (d : Declr) (kind : Kind) (room : ℕ) (s u : HeldScopes) (ts : List Lexeme) (x : Found DeclrItem) → AreAttrs all before → attrs_height before ≤ room - 1 → IsDeclr all d → is_named d ≡ true → lists_identifiers d ≡ false →
       declr_scopes (Some kind) d s ≡ Some u → declr_height d ≤ room - 1 → IsTail all ts → declr_behind inner before d room (release kind u) ts ≡ done x →
       Takes all (declr_item_form all kind) room s (attrs_text all before (declr_text all d ts)) x
   unfolding declr_behind
-  declr_behind_sound before d kind room s u ts x attrs_fit attrs_low fit is_name named low tail e =
+  declr_behind_sound before d kind room s u ts x attrs_fit attrs_low fit is_name plain named low tail e =
       let a = bind_ok e in
       let b = bind_ok a.2 in
       let c = bind_ok b.2 in
@@ -113,7 +122,7 @@ module _ (all : List Lexeme) (numbered : IsNumbered all) (tokens : TokenLaws all
       let j = some_init_sound room b.0.scopes b.0.rest c.0 i.left c.1 in
       at_end (Takes all (declr_item_form all kind) room s (attrs_text all before (declr_text all d ts))) c.2 (record {
         spelled = ap (λ (k : List Lexeme). attrs_text all before (declr_text all d k)) (o.spelled ∙ ap (label_text all a.0.tree) (i.spelled ∙ ap (attrs_text all b.0.tree) j.spelled));
-        fits = (attrs_fit, fit, is_name, o.fits, i.fits, j.fits);
+        fits = (attrs_fit, fit, is_name, o.fits, i.fits, j.fits, plain);
         named = behind_is (λ t. some_init_scopes c.0.tree (release kind t)) named (through (some_init_scopes c.0.tree) (some_scopes a.0.scopes b.0.scopes i.named ∙ o.same) j.named refl);
         low = item_low (attrs_height before) (declr_height d) (label_height a.0.tree) (attrs_height b.0.tree) (some_init_height c.0.tree) room attrs_low low (label_low a.0.tree (declr_height d) room low (declr_high d)) (attrs_room b.0.tree room i.low) j.low (declr_high d);
         left = j.left;
@@ -134,7 +143,7 @@ module _ (all : List Lexeme) (numbered : IsNumbered all) (tokens : TokenLaws all
       let a = bind_ok e in
       let i = named_declr_sound all n inner laws (Some kind) (room - 1) s ts a.0 tail a.1 in
       let is : attrs_text all before ts ≡ attrs_text all before (declr_text all a.0.tree a.0.rest) = ap (attrs_text all before) i.spelled in
-      rw is (declr_behind_sound before a.0.tree kind room s a.0.scopes a.0.rest x fit low i.fits.0 i.fits.1 i.named i.low i.left a.2)
+      rw is (declr_behind_sound before a.0.tree kind room s a.0.scopes a.0.rest x fit low i.fits.0 i.fits.1 i.fits.2 i.named i.low i.left a.2)
 
   next_declr_sound : (kind : Kind) (room token : ℕ) (s : HeldScopes) (ts : List Lexeme) (x : Found (Next DeclrItem ⊥)) → IsTail all ts → next_init_declr inner kind room token s ts ≡ done x →
       NextTakes all (declr_item_form all kind) no_ending room token s ts x.tree x.scopes x.rest
@@ -226,16 +235,24 @@ module _ (all : List Lexeme) (numbered : IsNumbered all) (tokens : TokenLaws all
     pub spelled : ts ≡ init_declrs_text all declrs (sign_text puncts.Semicolon semi x.rest)
     pub fits : AreInitDeclrs all declrs
     pub starts : IsInitStart declrs
-    pub named : init_declrs_scopes (declared_kind words) declrs s ≡ Some x.scopes
+    pub named : words_declrs_scopes words declrs s ≡ Some x.scopes
+    pub auto : IsAutoWhere (has_auto words) words declrs
     pub low : init_declrs_height declrs ≤ room - 1
     pub words_low : (specs_height words ≤ room - 1) ⊎ (2 ≤ room - 1)
     pub some : 1 ≤ room
     pub left : IsTail all x.rest
 
-  pub bare_sound : (exts : List ℕ) (words : SpecWords) (room : ℕ) (s : HeldScopes) (ts : List Lexeme) (x : Found Declaration) → IsTail all ts → kind_at ts ≡ kinds.Punct puncts.Semicolon → bare_declaration inner exts words room s ts ≡ done x →
+  -- where no word is `__auto_type`
+  pub no_auto : (words : SpecWords) (ds : InitDeclrs) → has_auto words ≡ false → IsAutoWhere (has_auto words) words ds
+  no_auto words ds is = rw is tt
+
+  pub plain_scopes : (words : SpecWords) (ds : InitDeclrs) (s t : HeldScopes) → has_auto words ≡ false → init_declrs_scopes (declared_kind words) ds s ≡ Some t → words_declrs_scopes words ds s ≡ Some t
+  plain_scopes words ds s t is named = rw is named
+
+  pub bare_sound : (exts : List ℕ) (words : SpecWords) (room : ℕ) (s : HeldScopes) (ts : List Lexeme) (x : Found Declaration) → has_auto words ≡ false → IsTail all ts → kind_at ts ≡ kinds.Punct puncts.Semicolon → bare_declaration inner exts words room s ts ≡ done x →
       TookBehind exts words room s ts x
   unfolding bare_declaration
-  bare_sound exts words room s ts x tail is e =
+  bare_sound exts words room s ts x plain tail is e =
       let r = fits_ok _ _ _ e in
       let a = bind_ok r.1 in
       let o = took all (kinds.Punct puncts.Semicolon) s ts a.0 tail is a.1 in
@@ -246,7 +263,8 @@ module _ (all : List Lexeme) (numbered : IsNumbered all) (tokens : TokenLaws all
         spelled = o.spelled;
         fits = tt;
         starts = tt;
-        named = ap Some (sym o.same);
+        named = plain_scopes words (init_declrs_from []) s a.0.scopes plain (ap Some (sym o.same));
+        auto = no_auto words (init_declrs_from []) plain;
         low = omega arith;
         words_low = inl (asks_words (specs_height words) room r.0);
         some = asks_one (specs_height words) room r.0;
@@ -259,20 +277,113 @@ module _ (all : List Lexeme) (numbered : IsNumbered all) (tokens : TokenLaws all
       asks_one : (h room : ℕ) → 1 + h ≤ room → 1 ≤ room
       asks_one h room a = omega (arith, a)
 
+  -- the one name behind words with `__auto_type`, or a base word in its place behind `typedef`
+  record TookAuto (words : SpecWords) (room : ℕ) (s : HeldScopes) (ts : List Lexeme) (x : Found Declr) : Type 0 where
+    spelled : ts ≡ declr_text all x.tree x.rest
+    fits : IsDeclr all x.tree
+    is_name : is_named x.tree ≡ true
+    plain : lists_identifiers x.tree ≡ false
+    auto : (attrs : List Attr) (equal : ℕ) (e : Expr) → IsAutoDeclr words (more_init_declrs [] x.tree None attrs (some_init equal (init_value e)) no_init_declrs)
+    named : (if is_base x.tree then Some s else declr_scopes (Some Value) x.tree s) ≡ Some x.scopes
+    one : declr_height x.tree ≡ 1
+    some : 1 ≤ room
+    left : IsTail all x.rest
+
+  auto_name_sound : (words : SpecWords) → has_typedef_word (storage_words words) ≡ false → (o : Option ℕ) (room : ℕ) (s : HeldScopes) (ts : List Lexeme) (x : Found Declr) → spelled_name (kind_at ts) ≡ o → IsTail all ts →
+      auto_name inner o room s ts ≡ done x → TookAuto words room s ts x
+  auto_name_sound words typed None room s ts x is tail e = absurd cc
+  auto_name_sound words typed (Some name) room s ts x is tail e = by_held (at_name (Some Value) name s) refl e
+    where
+      by_held : (o : Option HeldScopes) → at_name (Some Value) name s ≡ o → and_then (name_held name room o s ts) (λ d. present d.tree.declr d.scopes d.rest) ≡ done x → TookAuto words room s ts x
+      by_held None held e = let a = bind_ok e in let b : name_held name room None s ts ≡ done a.0 = a.1 in absurd cc
+      by_held (Some t) held e =
+          let a = bind_ok e in
+          let r = fits_ok _ _ _ a.1 in
+          let b = bind_ok r.1 in
+          let o = took all (kinds.Name name) s ts b.0 tail (name_kind all (kind_at ts) name is) b.1 in
+          let same = ok_is b.2 in
+          let last : present (some_declr (declr_name b.0.tree name)) t b.0.rest ≡ done x = subst (λ (d : Found Declared). present d.tree.declr d.scopes d.rest ≡ done x) (sym same) a.2 in
+          at_end (TookAuto words room s ts) last (record { spelled = o.spelled; fits = tt; is_name = refl; plain = refl; auto = λ attrs equal e. no_typedef (storage_words words) typed; named = held; one = refl; some = r.0; left = o.left })
+
+  auto_base_sound : (words : SpecWords) → has_typedef_word (storage_words words) ≡ true → (room : ℕ) (s : HeldScopes) (ts : List Lexeme) (x : Found Declr) → IsTail all ts → auto_declarator inner true room s ts ≡ done x → TookAuto words room s ts x
+  auto_base_sound words typed room s ts x tail e =
+      if_ok (is_base_word (kind_at ts)) e (λ is e.
+      let r = fits_ok _ _ _ e in
+      let b = bind_ok r.1 in
+      let o = took all (kinds.Keyword keywords.BaseWord) s ts b.0 tail (base_kind (kind_at ts) is) b.1 in
+      at_end (TookAuto words room s ts) b.2 (record { spelled = o.spelled; fits = tt; is_name = refl; plain = refl; auto = λ attrs equal e. among_typedef (storage_words words) typed; named = ap Some (sym o.same); one = refl; some = r.0; left = o.left })) (λ is e.
+      absurd cc)
+    where
+      base_kind : (kind : TokenKind) → is_base_word kind ≡ true → kind ≡ kinds.Keyword keywords.BaseWord
+      base_kind (kinds.Keyword keywords.BaseWord) is = refl
+      base_kind kind is = absurd cc
+
+  auto_declarator_sound : (words : SpecWords) (room : ℕ) (s : HeldScopes) (ts : List Lexeme) (x : Found Declr) → IsTail all ts → auto_declarator inner (has_typedef_word (storage_words words)) room s ts ≡ done x → TookAuto words room s ts x
+  auto_declarator_sound words room s ts x tail e = by_typedef (has_typedef_word (storage_words words)) refl e
+    where
+      by_typedef : (typed : Bool) → has_typedef_word (storage_words words) ≡ typed → auto_declarator inner typed room s ts ≡ done x → TookAuto words room s ts x
+      by_typedef true is e = auto_base_sound words is room s ts x tail e
+      by_typedef false is e = auto_name_sound words is (spelled_name (kind_at ts)) room s ts x refl tail e
+
+  auto_low : (d a h room : ℕ) → d ≡ 1 → a ≤ room - 1 - 1 → h ≤ room - 1 - 1 → 1 ≤ room - 2 → max (max 0 (max d (max 0 (max a h))) + 1) 0 ≤ room - 1
+  auto_low d a h room one p q r = omega (arith, one, p, q, r)
+
+  auto_two : (room : ℕ) → 1 ≤ room - 2 → 2 ≤ room - 1
+  auto_two room a = omega (arith, a)
+
+  auto_one : (room : ℕ) → 1 ≤ room - 2 → 1 ≤ room
+  auto_one room a = omega (arith, a)
+
+  auto_sound : (exts : List ℕ) (words : SpecWords) (room : ℕ) (s : HeldScopes) (ts : List Lexeme) (x : Found Declaration) → has_auto words ≡ true → IsTail all ts → auto_behind inner exts words room s ts ≡ done x →
+      TookBehind exts words room s ts x
+  unfolding auto_behind auto_declr
+  auto_sound exts words room s ts x auto tail e =
+      let a = bind_ok e in
+      let d = auto_declarator_sound words (room - 2) s ts a.0 tail a.1 in
+      let b = bind_ok a.2 in
+      let c = bind_ok b.2 in
+      let f = bind_ok c.2 in
+      let g = bind_ok f.2 in
+      let i = tokens.attrs_sound (room - 1) a.0.scopes a.0.rest b.0 d.left b.1 in
+      let o = took_token all is_equal (kinds.Punct puncts.Equal) equal_kind b.0.scopes b.0.rest c.0 i.left c.1 in
+      let j = laws.exprs.sound Assigned (room - 1 - 1) c.0.scopes c.0.rest f.0 o.left f.1 in
+      let q = took_token all is_semicolon (kinds.Punct puncts.Semicolon) semicolon_kind (release Value f.0.scopes) f.0.rest g.0 j.left g.1 in
+      let init = some_init c.0.tree (init_value f.0.tree) in
+      let ds = more_init_declrs [] a.0.tree None b.0.tree init no_init_declrs in
+      let first = if is_base a.0.tree then Some s else declr_scopes (Some Value) a.0.tree s in
+      let held : behind first (some_init_scopes init) ≡ Some f.0.scopes =
+      behind_is (some_init_scopes init) d.named (through (expr_scopes f.0.tree) (o.same ∙ some_scopes a.0.scopes b.0.scopes i.named) j.named refl) in
+      let named : auto_declrs_scopes ds s ≡ Some g.0.scopes = behind_is (auto_declrs_scopes no_init_declrs) (behind_is (λ t. Some (release Value t)) held refl) (ap Some (sym q.same)) in
+      at_end (TookBehind exts words room s ts) g.2 (record {
+        declrs = ds;
+        semi = g.0.tree;
+        is = refl;
+        spelled = d.spelled ∙ ap (declr_text all a.0.tree) (i.spelled ∙ ap (attrs_text all b.0.tree) (o.spelled ∙ ap (sign_text puncts.Equal c.0.tree) (j.spelled ∙ ap (expr_text all f.0.tree) q.spelled)));
+        fits = (no_attrs all, d.fits, d.is_name, tt, i.fits, (j.fits.0, j.fits.1), tt, d.plain);
+        starts = refl;
+        named = rw auto named;
+        auto = rw auto (d.auto b.0.tree c.0.tree f.0.tree);
+        low = auto_low (declr_height a.0.tree) (attrs_height b.0.tree) (expr_height f.0.tree) room d.one (attrs_room b.0.tree (room - 1) i.low) j.low d.some;
+        words_low = inr (auto_two room d.some);
+        some = auto_one room d.some;
+        left = q.left;
+      })
+
   pub behind_sound : (exts : List ℕ) (words : SpecWords) (room : ℕ) (s : HeldScopes) (ts : List Lexeme) (x : Found Declaration) → IsTail all ts → declaration_behind inner exts words room s ts ≡ done x → TookBehind exts words room s ts x
   unfolding declaration_behind init_declr_with
   behind_sound exts words room s ts x tail e =
-      if_ok (is_semicolon (kind_at ts)) e (λ is e. bare_sound exts words room s ts x tail (semicolon_kind (kind_at ts) is) e) (λ is e.
-      of_declrs (declrs_sound exts words (declared_kind words) room (init_declr_with inner [] (declared_kind words) (room - 1)) s ts s ts x
-      (λ a e. init_declr_sound [] (declared_kind words) (room - 1) s ts a (no_attrs all) (omega arith) tail e) (λ a e. bare_first a e) e))
+      if_ok (has_auto words) e (λ auto e. auto_sound exts words room s ts x auto tail e) (λ plain e.
+      if_ok (is_semicolon (kind_at ts)) e (λ is e. bare_sound exts words room s ts x plain tail (semicolon_kind (kind_at ts) is) e) (λ is e.
+      of_declrs plain (declrs_sound exts words (declared_kind words) room (init_declr_with inner [] (declared_kind words) (room - 1)) s ts s ts x
+      (λ a e. init_declr_sound [] (declared_kind words) (room - 1) s ts a (no_attrs all) (omega arith) tail e) (λ a e. bare_first a e) e)))
     where
       bare_first : (a : Found DeclrItem) → init_declr_with inner [] (declared_kind words) (room - 1) s ts ≡ done a → a.tree.before ≡ []
       bare_first a e =
           let d = bind_ok e in
           behind_first [] d.0.tree (room - 1) (release (declared_kind words) d.0.scopes) d.0.rest a d.2
 
-      of_declrs : TookDeclrs exts words (declared_kind words) room s ts x → TookBehind exts words room s ts x
-      of_declrs t = record { declrs = t.declrs; semi = t.semi; is = t.is; spelled = t.spelled; fits = t.fits; starts = t.starts; named = t.named; low = t.low; words_low = inr t.two; some = one_room room t.some; left = t.left }
+      of_declrs : has_auto words ≡ false → TookDeclrs exts words (declared_kind words) room s ts x → TookBehind exts words room s ts x
+      of_declrs plain t = record { declrs = t.declrs; semi = t.semi; is = t.is; spelled = t.spelled; fits = t.fits; starts = t.starts; named = plain_scopes words t.declrs s x.scopes plain t.named; auto = no_auto words t.declrs plain; low = t.low; words_low = inr t.two; some = one_room room t.some; left = t.left }
         where
           one_room : (room : ℕ) → 1 ≤ room - 1 → 1 ≤ room
           one_room room a = omega (arith, a)
@@ -285,9 +396,9 @@ module _ (all : List Lexeme) (numbered : IsNumbered all) (tokens : TokenLaws all
   declaration_low : (a b room : ℕ) → 1 ≤ room → a ≤ room - 1 → b ≤ room - 1 → max a b + 1 ≤ room
   declaration_low a b room o p q = omega (arith, o, p, q)
 
-  pub assembled : (exts : List ℕ) (words : SpecWords) (room : ℕ) (s t : HeldScopes) (ts ts₁ : List Lexeme) (x : Found Declaration) → ts ≡ extensions_text exts (spec_words_text all words ts₁) → IsMix words → AreSpecWords all words →
-      spec_words_scopes words s ≡ Some t → specs_height words ≤ room - 1 → TookBehind exts words room t ts₁ x → Takes all (declaration_form all) room s ts x
-  assembled exts words room s t ts ts₁ x spelled mix fit named low b =
+  pub assembled : (goes : MixesGoOn) (exts : List ℕ) (words : SpecWords) (room : ℕ) (s t : HeldScopes) (ts ts₁ : List Lexeme) (x : Found Declaration) → ts ≡ extensions_text exts (spec_words_text all words ts₁) → IsMix words → AreSpecWords all words →
+      (is_base_word (kind_at ts₁) ≡ true → goes_on words (classes.Spells keywords.BaseWord) ≡ false) → spec_words_scopes words s ≡ Some t → specs_height words ≤ room - 1 → TookBehind exts words room t ts₁ x → Takes all (declaration_form all) room s ts x
+  assembled goes exts words room s t ts ts₁ x spelled mix fit stops named low b =
       subst (λ (d : Declaration). ts ≡ (declaration_form all).text d x.rest → IsDeclaration all d → declaration_scopes d s ≡ Some x.scopes → (declaration_form all).height d ≤ room → Takes all (declaration_form all) room s ts (found d x.scopes x.rest)) (sym b.is)
       (λ a c d f. record { spelled = a; fits = c; named = d; low = f; left = b.left }) at_tree_text at_tree_fits at_tree_named at_tree_low
     where
@@ -295,38 +406,38 @@ module _ (all : List Lexeme) (numbered : IsNumbered all) (tokens : TokenLaws all
       at_tree_text = rw b.is (spelled ∙ ap (λ (k : List Lexeme). extensions_text exts (spec_words_text all words k)) b.spelled)
 
       at_tree_fits : IsDeclaration all x.tree
-      at_tree_fits = rw b.is (mix, fit, b.starts, b.fits)
+      at_tree_fits = rw b.is (mix, fit, b.starts, b.fits, b.auto, base_start all goes words b.declrs (sign_text puncts.Semicolon b.semi x.rest) (λ base. stops (rw b.spelled base)) b.starts b.fits)
 
       at_tree_named : declaration_scopes x.tree s ≡ Some x.scopes
-      at_tree_named = rw b.is (behind_is (init_declrs_scopes (declared_kind words) b.declrs) named b.named)
+      at_tree_named = rw b.is (behind_is (words_declrs_scopes words b.declrs) named b.named)
 
       at_tree_low : (declaration_form all).height x.tree ≤ room
       at_tree_low = rw b.is (declaration_low (specs_height words) (init_declrs_height b.declrs) room b.some low b.low)
 
-  pub declaration_sound : (exts : List ℕ) (room : ℕ) (s : HeldScopes) (ts : List Lexeme) (x : Found Declaration) → IsTail all ts → declaration_with inner exts room s ts ≡ done x → Takes all (declaration_form all) room s (extensions_text exts ts) x
+  pub declaration_sound : (goes : MixesGoOn) (exts : List ℕ) (room : ℕ) (s : HeldScopes) (ts : List Lexeme) (x : Found Declaration) → IsTail all ts → declaration_with inner exts room s ts ≡ done x → Takes all (declaration_form all) room s (extensions_text exts ts) x
   unfolding declaration_with
-  declaration_sound exts room s ts x tail e =
+  declaration_sound goes exts room s ts x tail e =
       let a = bind_ok e in
-      let i = specs_here_sound all n inner laws room s ts a.0 tail a.1 in
-      assembled exts a.0.tree room s a.0.scopes (extensions_text exts ts) a.0.rest x (ap (extensions_text exts) i.spelled) i.fits.0 i.fits.1 i.named (inside (specs_height a.0.tree) room i.low) (behind_sound exts a.0.tree room a.0.scopes a.0.rest x i.left a.2)
+      let i = specs_here_sound all n inner laws Declaring room s ts a.0 tail a.1 in
+      assembled goes exts a.0.tree room s a.0.scopes (extensions_text exts ts) a.0.rest x (ap (extensions_text exts) i.spelled) i.fits.0 i.fits.1 (specs_here_stops all n inner laws Declaring room s ts a.0 tail a.1) i.named (inside (specs_height a.0.tree) room i.low) (behind_sound exts a.0.tree room a.0.scopes a.0.rest x i.left a.2)
     where
       inside : (h room : ℕ) → h + 1 ≤ room → h ≤ room - 1
       inside h room a = omega (arith, a)
 
   -- the same behind words that were read already, of two levels at most
-  pub declaration_from_sound : (known : SpecWords) (room : ℕ) (s₀ s : HeldScopes) (ts : List Lexeme) (x : Found Declaration) → AreSpecWords all known → spec_words_scopes known s₀ ≡ Some s → specs_height known ≤ 2 → IsTail all ts →
+  pub declaration_from_sound : (goes : MixesGoOn) (known : SpecWords) (room : ℕ) (s₀ s : HeldScopes) (ts : List Lexeme) (x : Found Declaration) → AreSpecWords all known → spec_words_scopes known s₀ ≡ Some s → specs_height known ≤ 2 → IsTail all ts →
       declaration_from inner known room s ts ≡ done x → Takes all (declaration_form all) room s₀ (spec_words_text all known ts) x
   unfolding declaration_from
-  declaration_from_sound known room s₀ s ts x fit named two tail e =
+  declaration_from_sound goes known room s₀ s ts x fit named two tail e =
       let a = bind_ok e in
       of_words a.0 (laws.words.sound Declaring known (room - 1) s ts a.0 tail a.1) a.2
     where
       of_words : (a : Found SpecWords) → TakesWords all Declaring known (room - 1) s ts a → declaration_behind inner [] a.tree room a.scopes a.rest ≡ done x → Takes all (declaration_form all) room s₀ (spec_words_text all known ts) x
       of_words a w e =
           let b = behind_sound [] a.tree room a.scopes a.rest x w.left e in
-          assembled [] a.tree room s₀ a.scopes (spec_words_text all known ts) a.rest x
+          assembled goes [] a.tree room s₀ a.scopes (spec_words_text all known ts) a.rest x
           (ap (spec_words_text all known) w.spelled ∙ sym (append_text all known w.rest a.rest) ∙ ap (λ (ws : SpecWords). spec_words_text all ws a.rest) (sym w.words_are))
-          w.mix (subst (AreSpecWords all) (sym w.words_are) (append_fits all known w.rest fit w.fits)) (ap (λ (ws : SpecWords). spec_words_scopes ws s₀) w.words_are ∙ append_scopes known w.rest s₀ s a.scopes named w.named)
+          w.mix (subst (AreSpecWords all) (sym w.words_are) (append_fits all known w.rest fit w.fits)) w.stops (ap (λ (ws : SpecWords). spec_words_scopes ws s₀) w.words_are ∙ append_scopes known w.rest s₀ s a.scopes named w.named)
           (by_low w.low b.words_low) b
         where
           by_low : (w.rest ≡ no_words) ⊎ (specs_height a.tree ≤ room - 1) → (specs_height a.tree ≤ room - 1) ⊎ (2 ≤ room - 1) → specs_height a.tree ≤ room - 1

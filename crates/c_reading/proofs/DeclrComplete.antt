@@ -1,5 +1,5 @@
 -- The text of a declarator that fits is read as this.
-use Rattle.std.proofs.Common.{◌≡◌, ℕ, suc, ◌<◌, ◌≤◌, Bool, true, false, List, [], ◌∷◌, Option, Some, None, inl, inr, refl, sym, ◌∙◌, ap, subst, arith}
+use Rattle.std.proofs.Common.{◌≡◌, ℕ, suc, ◌<◌, ◌≤◌, ◌≢◌, Bool, true, false, List, [], ◌∷◌, Option, Some, None, inl, inr, refl, sym, ◌∙◌, ap, subst, arith}
 use Rattle.std.specs.Prelude.{◌+◌, ◌-◌, max, not, ◌&&◌, ◌||◌, ◌⊎◌, All, is_some, option_map, if◌then◌else◌}
 use Rattle.c_words.specs.declared.kinds.TokenKind.{TokenKind}
 use Rattle.c_words.specs.declared.kinds.TokenKind.TheVariants as kinds
@@ -7,39 +7,43 @@ use Rattle.c_words.specs.declared.kinds.Keyword.TheVariants as keywords
 use Rattle.c_words.specs.declared.kinds.Punct.TheVariants as puncts
 use Rattle.c_tree.specs.declared.lexeme.Lexeme.{Lexeme}
 use Rattle.c_syntax.specs.declared.parts.Attr.{Attr}
+use Rattle.c_syntax.specs.declared.parts.Identifier.{Identifier}
 use Rattle.c_syntax.specs.declared.parts.PointerWord.{PointerWord}
 use Rattle.c_syntax.specs.declared.parts.PointerWord.TheVariants as pointer_words
 use Rattle.c_syntax.specs.declared.parts.ArrayWord.{ArrayWord}
-use Rattle.c_tree.specs.Tree.{Dots, Declr, pointer, declr_name, declr_paren, array, params, abs_pointer, abs_paren, abs_array, abs_params, SomeDeclr, no_declr, some_declr, SomeSize, Params, no_params, more_params, size_value, some_size, size_star, no_size}
-use Rattle.c_tree.specs.Text.{sign_text, attrs_text, pointer_words_text, array_words_text, spec_words_text, declr_text, some_declr_text, some_size_text, params_text, other_params_text, dots_text, expr_text}
+use Rattle.c_tree.specs.Tree.{Dots, Declr, pointer, declr_name, declr_paren, array, params, abs_pointer, abs_paren, abs_array, abs_params, identifiers, base_name, SomeDeclr, no_declr, some_declr, SomeSize, Params, no_params, more_params, size_value, some_size, size_star, no_size}
+use Rattle.c_tree.specs.Text.{sign_text, attrs_text, pointer_words_text, array_words_text, spec_words_text, declr_text, some_declr_text, some_size_text, identifier_text, names_text, params_text, other_params_text, dots_text, expr_text}
 use Rattle.c_tree.specs.Height.{attrs_height, specs_height, pointer_words_height, declr_height, some_declr_height, some_size_height, params_height}
-use Rattle.c_tree.specs.WellFormed.{AreAttrs, AreParams, IsArrayWord, IsEllipsis, IsDeclr, IsSize, is_named, is_direct, ends_starred}
+use Rattle.c_tree.specs.WellFormed.{AreAttrs, AreParams, IsArrayWord, IsEllipsis, IsDeclr, IsSize, is_named, is_bare_name, is_direct, ends_starred, begins_base, lists_identifiers}
 use Rattle.c_specs.specs.Laws.{MixesGoOn}
 use Rattle.typedef_scope.specs.declared.kind.Kind.{Kind}
-use Rattle.c_units.specs.HeldScopes.{HeldScopes, HeldScope, enter, leave, innermost}
-use Rattle.c_units.specs.Scoping.{behind, in_own_scope, at_name, first_name, begins_with_type, shows_no_type, some_shows_no_type, declr_scopes, some_declr_scopes, some_size_scopes, params_scopes, spec_words_scopes, where_true}
-use Rattle.c_units.specs.Units.{OwnParams, own_params}
+use Rattle.c_units.specs.HeldScopes.{HeldScopes, HeldScope, is_wide, names_type, new_scope, enter, leave, innermost}
+use Rattle.c_units.specs.Scoping.{behind, identifiers_scopes, in_own_scope, at_name, first_name, begins_with_type, shows_no_type, some_shows_no_type, declr_scopes, some_declr_scopes, some_size_scopes, params_scopes, spec_words_scopes, where_true}
+use Rattle.c_units.specs.Units.{OwnParams, own_params, bare_name}
 use Rattle.c_reading.specs.declared.kinds.Mode.{Mode}
 use Rattle.c_reading.specs.declared.kinds.Mode.TheVariants.{Named, Abstract, Either}
 use Rattle.c_reading.specs.Reading.{IsNumbered, fits, kind_at, run}
-use Rattle.c_reading.specs.Tokens.{is_open_paren, is_close_paren, is_open_bracket, is_star, is_attribute, is_made, qual_of, spelled_name, begins_pointer_word, array_word_of, attrs_at}
+use Rattle.c_reading.specs.Tokens.{is_base_word, is_open_paren, is_close_paren, is_open_bracket, is_star, is_attribute, is_made, qual_of, spelled_name, begins_pointer_word, array_word_of, attrs_at}
 use Rattle.c_reading.specs.Parts.{Inner, Declared}
-use Rattle.c_reading.specs.Specifying.{begins_specs}
-use Rattle.c_reading.specs.Declaring.{takes_name, least_pointer, with_pointer, with_paren, with_array, with_params, is_bare, closed_by, room_at, are_none, words_of_attrs, opens_params, opens_declr, array_with, prototype_with, params_behind, suffix_turn, paren_with, named_paren, opened_by, opened_with, core_with, direct_with, pointer_with, declr_with, params_with}
+use Rattle.c_reading.specs.declared.kinds.SpecStart.TheVariants as starts
+use Rattle.c_reading.specs.Specifying.{begins_specs, is_start}
+use Rattle.c_reading.specs.Declaring.{begins_identifiers, identifier_at, identifiers_with, list_behind, names_base, takes_name, least_pointer, with_pointer, with_paren, with_array, with_params, is_bare, closed_by, room_at, are_none, words_of_attrs, opens_params, opens_declr, array_with, prototype_with, params_behind, suffix_turn, paren_with, named_paren, opened_by, opened_with, core_with, direct_with, pointer_with, declr_with, params_with}
 use Rattle.c_reading.proofs.Binding.{found, done, bind_is, fits_is}
 use Rattle.c_reading.proofs.Loops.{run_on}
 use Rattle.c_reading.proofs.Forms.{behind_ok}
 use Rattle.c_reading.proofs.KindFacts.{both_left, both_right, not_true, not_false, named_no_attribute, abstract_no_attribute, named_no_close_paren, abstract_no_close_paren, name_begins_not, open_paren_kind, and_false}
-use Rattle.c_reading.proofs.Firsts.{first_laws}
-use Rattle.c_reading.proofs.DeclrFalls.{suffix_shrinks}
+use Rattle.c_reading.proofs.Firsts.{where_holds, first_laws}
+use Rattle.c_reading.proofs.Shared.{no_base}
+use Rattle.c_reading.proofs.NameLists.{names_complete}
+use Rattle.c_reading.proofs.DeclrFalls.{identifier_shrinks, suffix_shrinks}
 use Rattle.c_reading.proofs.DeclrLists.{params_items, params_back}
 use Rattle.c_reading.proofs.DeclrSoundParams.{specs_high}
-use Rattle.c_reading.proofs.DeclrOwn.{own_none, own_paren, own_array, closed_with_params}
-use Rattle.c_reading.proofs.DeclrSound.{array_room, params_room}
+use Rattle.c_reading.proofs.DeclrOwn.{closed_with_identifiers, own_none, own_paren, own_array, closed_with_params}
+use Rattle.c_reading.proofs.DeclrSound.{identifier_scopes, identifiers_are, unnamed_plain, array_room, params_room}
 use Rattle.c_reading.proofs.DeclrCompleteParams.{lead_attrs, behind_attrs, whole_split, attrs_split, lead_attrs_fit, lead_attrs_spelled, lead_attrs_end, no_params_complete, params_complete}
 use Rattle.c_reading.proofs.DeclrCompleteSizes.{size_complete}
-use Rattle.c_reading.proofs.Aims.{least_with, least_pointer_words, ends_suffix, ends_star, ends_declr, begins_named, begins_abstract, own_scope_in, closed_of, declared_as, declr_room, declr_number, FitsMode, TokenLaws, FirstLaws, Laws}
-use Rattle.typedef_scope.specs.declared.kind.Kind.TheVariants.{Value}
+use Rattle.c_reading.proofs.Aims.{least_with, least_pointer_words, ends_suffix, ends_star, ends_declr, begins_named, begins_abstract, own_scope_in, closed_of, declared_as, declr_room, declr_number, FitsMode, MayName, TokenLaws, FirstLaws, Laws}
+use Rattle.typedef_scope.specs.declared.kind.Kind.TheVariants.{Typedef, Value, Constant}
 use Rattle.std.proofs.lemmas.List.Elements.{All-nil}
 use Rattle.c_reading.specs.Expressing.{begins_expr}
 use Rattle.c_tree.specs.Groups.{IsGroup}
@@ -50,6 +54,7 @@ pub named_no_pointer_word : (kind : TokenKind) → begins_named kind ≡ true �
 named_no_pointer_word (kinds.Punct puncts.Star) e = refl
 named_no_pointer_word (kinds.Punct puncts.OpenParen) e = refl
 named_no_pointer_word (kinds.Name name) e = refl
+named_no_pointer_word (kinds.Keyword keywords.BaseWord) e = refl
 named_no_pointer_word kind e = absurd cc
 
 pub abstract_no_pointer_word : (kind : TokenKind) → begins_abstract kind ≡ true → begins_pointer_word kind ≡ false
@@ -70,11 +75,33 @@ abstract_opens mode (kinds.Punct puncts.OpenParen) e = refl
 abstract_opens mode (kinds.Punct puncts.OpenBracket) e = refl
 abstract_opens mode kind e = absurd cc
 
-named_opens : (mode : Mode) (kind : TokenKind) → takes_name mode ≡ true → begins_named kind ≡ true → opens_declr mode kind ≡ true
-named_opens mode (kinds.Punct puncts.Star) takes e = refl
-named_opens mode (kinds.Punct puncts.OpenParen) takes e = refl
-named_opens mode (kinds.Name name) takes e = rw takes refl
-named_opens mode kind takes e = absurd cc
+named_opens : (mode : Mode) (kind : TokenKind) → takes_name mode ≡ true → begins_named kind ≡ true → is_base_word kind ≡ false → opens_declr mode kind ≡ true
+named_opens mode (kinds.Punct puncts.Star) takes e base = refl
+named_opens mode (kinds.Punct puncts.OpenParen) takes e base = refl
+named_opens mode (kinds.Name name) takes e base = rw takes refl
+named_opens mode (kinds.Keyword keywords.BaseWord) takes e base = absurd cc
+named_opens mode kind takes e base = absurd cc
+
+-- a base word is a name only where one must come
+names_base_no : (s : HeldScopes) (mode : Mode) (wanted : Option Kind) (kind : TokenKind) → is_base_word kind ≡ false → names_base s mode wanted kind ≡ false
+names_base_no s Named (Some Typedef) kind e = rw e (and_false (is_wide s))
+names_base_no s Named (Some Value) kind e = refl
+names_base_no s Named (Some Constant) kind e = refl
+names_base_no s Named None kind e = refl
+names_base_no s Abstract wanted kind e = refl
+names_base_no s Either wanted kind e = refl
+
+-- what begins specifiers begins no list of identifiers
+specs_no_identifier : (s : HeldScopes) (kind : TokenKind) → begins_specs s kind ≡ true → begins_identifiers s kind ≡ false
+specs_no_identifier s (kinds.Name name) e = by_type (names_type s name) e
+  where
+    by_type : (b : Bool) → is_start (if b && true then starts.Name name else starts.Nothing) ≡ true → (is_wide s && not b) ≡ false
+    by_type true e = and_false (is_wide s)
+    by_type false e = absurd cc
+specs_no_identifier s (kinds.Keyword keyword) e = and_false (is_wide s)
+specs_no_identifier s (kinds.Qual lattice elem) e = and_false (is_wide s)
+specs_no_identifier s kinds.Index e = and_false (is_wide s)
+specs_no_identifier s kind e = and_false (is_wide s)
 
 pub declr_high : (d : Declr) → 1 ≤ declr_height d
 declr_high (pointer star words d) = omega arith
@@ -86,6 +113,8 @@ declr_high (abs_pointer star words d) = omega arith
 declr_high (abs_paren opening attrs d closing) = omega arith
 declr_high (abs_array d opening words size closing) = omega arith
 declr_high (abs_params d opening ps dots closing) = omega arith
+declr_high (identifiers d opening names closing) = omega arith
+declr_high (base_name token) = omega arith
 
 -- a declarator with parameters around its name is two high
 own_high : (d : Declr) → is_some (own_params d) ≡ true → 2 ≤ declr_height d
@@ -94,6 +123,8 @@ own_high (declr_name token name) e = absurd cc
 own_high (declr_paren opening attrs d closing) e = let h = own_high d e in omega (arith, h)
 own_high (array d opening words size closing) e = let h = own_high d e in omega (arith, h)
 own_high (params d opening ps dots closing) e = let h = declr_high d in omega (arith, h)
+own_high (identifiers d opening names closing) e = let h = declr_high d in omega (arith, h)
+own_high (base_name token) e = absurd cc
 own_high (abs_pointer star words d) e = absurd cc
 own_high (abs_paren opening attrs d closing) e = absurd cc
 own_high (abs_array d opening words size closing) e = absurd cc
@@ -114,6 +145,8 @@ direct_ends (declr_name token name) e = refl
 direct_ends (declr_paren opening attrs d closing) e = refl
 direct_ends (array d opening words size closing) e = refl
 direct_ends (params d opening ps dots closing) e = refl
+direct_ends (identifiers d opening names closing) e = refl
+direct_ends (base_name token) e = refl
 direct_ends (abs_pointer star words d) e = absurd cc
 direct_ends (abs_paren opening attrs d closing) e = refl
 direct_ends (abs_array d opening words size closing) e = refl
@@ -236,14 +269,59 @@ module _ (all : List Lexeme) where
   mode_fits Abstract d s h = (h.0, rw h.1 tt, tt)
   mode_fits Either d s h = (h.0, tt, h.1)
 
+  -- a name, parentheses aside: its forms
+  pub bare_has_name : (d : Declr) → is_bare_name d ≡ true → is_named d ≡ true
+  bare_has_name (declr_name token name) e = refl
+  bare_has_name (declr_paren opening attrs d closing) e = refl
+  bare_has_name (pointer star words d) e = refl
+  bare_has_name (array d opening words size closing) e = refl
+  bare_has_name (params d opening ps dots closing) e = refl
+  bare_has_name (identifiers d opening names closing) e = refl
+  bare_has_name (base_name token) e = refl
+  bare_has_name (abs_pointer star words d) e = absurd cc
+  bare_has_name (abs_paren opening attrs d closing) e = absurd cc
+  bare_has_name (abs_array d opening words size closing) e = absurd cc
+  bare_has_name (abs_params d opening ps dots closing) e = absurd cc
+
+  pub bare_direct : (d : Declr) → is_bare_name d ≡ true → is_direct d ≡ true
+  bare_direct (declr_name token name) e = refl
+  bare_direct (declr_paren opening attrs d closing) e = refl
+  bare_direct (pointer star words d) e = absurd cc
+  bare_direct (array d opening words size closing) e = refl
+  bare_direct (params d opening ps dots closing) e = refl
+  bare_direct (identifiers d opening names closing) e = refl
+  bare_direct (base_name token) e = refl
+  bare_direct (abs_pointer star words d) e = absurd cc
+  bare_direct (abs_paren opening attrs d closing) e = refl
+  bare_direct (abs_array d opening words size closing) e = refl
+  bare_direct (abs_params d opening ps dots closing) e = refl
+
+  pub bare_back : (d : Declr) → is_bare_name d ≡ true → is_some (bare_name d) ≡ true
+  bare_back (declr_name token name) e = refl
+  bare_back (declr_paren opening attrs d closing) e = bare_back d e
+  bare_back (pointer star words d) e = absurd cc
+  bare_back (array d opening words size closing) e = absurd cc
+  bare_back (params d opening ps dots closing) e = absurd cc
+  bare_back (identifiers d opening names closing) e = absurd cc
+  bare_back (base_name token) e = absurd cc
+  bare_back (abs_pointer star words d) e = absurd cc
+  bare_back (abs_paren opening attrs d closing) e = absurd cc
+  bare_back (abs_array d opening words size closing) e = absurd cc
+  bare_back (abs_params d opening ps dots closing) e = absurd cc
+
   -- the first token of a declarator with a name that is no typedef name begins no specifiers
-  first_no_specs : (d : Declr) (s : HeldScopes) (k : List Lexeme) → IsDeclr all d → is_named d ≡ true → begins_with_type s (first_name d) ≡ false → begins_specs s (kind_at (declr_text all d k)) ≡ false
-  first_no_specs (pointer star words d) s k fits is free = refl
-  first_no_specs (declr_name token name) s k fits is free = name_begins_not s name free
-  first_no_specs (declr_paren opening attrs d closing) s k fits is free = refl
-  first_no_specs (array d opening words size closing) s k fits is free = first_no_specs d s _ fits.0 fits.1 free
-  first_no_specs (params d opening ps dots closing) s k fits is free = first_no_specs d s _ fits.0 fits.1 free
-  first_no_specs d s k fits is free = absurd cc
+  first_no_specs : (d : Declr) (s : HeldScopes) (k : List Lexeme) → IsDeclr all d → is_named d ≡ true → begins_base d ≡ false → begins_with_type s (first_name d) ≡ false → begins_specs s (kind_at (declr_text all d k)) ≡ false
+  first_no_specs (pointer star words d) s k fits is base free = refl
+  first_no_specs (declr_name token name) s k fits is base free = name_begins_not s name free
+  first_no_specs (declr_paren opening attrs d closing) s k fits is base free = refl
+  first_no_specs (array d opening words size closing) s k fits is base free = first_no_specs d s _ fits.0 fits.1 base free
+  first_no_specs (params d opening ps dots closing) s k fits is base free = first_no_specs d s _ fits.0 fits.1 base free
+  first_no_specs (identifiers d opening names closing) s k fits is base free = first_no_specs d s _ fits.0 (bare_has_name d fits.1) base free
+  first_no_specs (base_name token) s k fits is base free = absurd cc
+  first_no_specs (abs_pointer star words d) s k fits is base free = absurd cc
+  first_no_specs (abs_paren opening attrs d closing) s k fits is base free = absurd cc
+  first_no_specs (abs_array d opening words size closing) s k fits is base free = absurd cc
+  first_no_specs (abs_params d opening ps dots closing) s k fits is base free = absurd cc
 
 module _ (all : List Lexeme) (numbered : IsNumbered all) (tokens : TokenLaws all) (goes : MixesGoOn) (n : ℕ) (inner : Inner) (laws : Laws all n inner) where
   firsts : FirstLaws all
@@ -279,6 +357,9 @@ module _ (all : List Lexeme) (numbered : IsNumbered all) (tokens : TokenLaws all
           expr_no_array_word s (kinds.Keyword keywords.Volatile) e = absurd cc
           expr_no_array_word s (kinds.Keyword keywords.Restrict) e = absurd cc
           expr_no_array_word s (kinds.Keyword keywords.Static) e = absurd cc
+          expr_no_array_word s (kinds.Keyword keywords.Atomic) e = absurd cc
+          expr_no_array_word s (kinds.Keyword keywords.AtomicType) e = absurd cc
+          expr_no_array_word s (kinds.Keyword keywords.Seg) e = absurd cc
           expr_no_array_word s (kinds.Qual lattice elem) e = absurd cc
           expr_no_array_word s kinds.Index e = absurd cc
           expr_no_array_word s kind e = refl
@@ -337,19 +418,95 @@ module _ (all : List Lexeme) (numbered : IsNumbered all) (tokens : TokenLaws all
       room_is : room_at flag room (declared_as wanted d s) (kinds.Punct puncts.OpenParen) ≡ r
       room_is = params_room all numbered tokens n inner laws flag room (declared_as wanted d s) (kinds.Punct puncts.OpenParen) (innermost u) refl ∙ ap (λ (c : Option HeldScope). declr_room flag c room) closed_is
 
-      read : params_behind inner (declared_as wanted d s) r s1 text ≡ done (found (declared_as wanted (some_declr (with_params d opening ps dots closing)) s) (leave u) k)
+      -- no list of identifiers begins there
+      no_names : (ps : Params) (dots : Option Dots) → AreParams all ps → IsEllipsis all ps dots → params_scopes ps (enter s1) ≡ Some u →
+          begins_identifiers s1 (kind_at (params_text all ps (dots_text all dots (sign_text puncts.CloseParen closing k)))) ≡ false
+      no_names no_params None fits ended inside = and_false (is_wide s1)
+      no_names no_params (Some dots) fits ended inside = absurd ended
+      no_names (more_params ws d attrs ps) dots fits ended inside =
+          let a = behind_ok (behind (behind (spec_words_scopes ws (enter s1)) (λ t. where_true (some_shows_no_type t d) t)) (some_declr_scopes (Some Value) d)) _ u inside in
+          let b = behind_ok (behind (spec_words_scopes ws (enter s1)) (λ t. where_true (some_shows_no_type t d) t)) (some_declr_scopes (Some Value) d) a.0 a.1 in
+          let c = behind_ok (spec_words_scopes ws (enter s1)) (λ t. where_true (some_shows_no_type t d) t) b.0 b.1 in
+          let more = some_declr_text all d (attrs_text all attrs (other_params_text all ps (dots_text all dots (sign_text puncts.CloseParen closing k)))) in
+          specs_no_identifier s1 (kind_at (spec_words_text all ws more)) (firsts.words_begin ws (enter s1) c.0 more fits.0 fits.1 c.1)
+
+      as_list : (flag b : Bool) → list_behind inner (flag && b && begins_identifiers s1 (kind_at (params_text all ps (dots_text all dots (sign_text puncts.CloseParen closing k))))) (declared_as wanted d s) opening r s1
+          (params_text all ps (dots_text all dots (sign_text puncts.CloseParen closing k))) ≡
+          prototype_with inner (declared_as wanted d s) opening [] r s1 (params_text all ps (dots_text all dots (sign_text puncts.CloseParen closing k)))
+      as_list true true = rw (no_names ps dots fits ended inside) refl
+      as_list true false = refl
+      as_list false b = refl
+
+      read : params_behind inner flag (declared_as wanted d s) r s1 text ≡ done (found (declared_as wanted (some_declr (with_params d opening ps dots closing)) s) (leave u) k)
       read =
           let p = prototype_is (declared_as wanted d s) opening [] ps dots r s1 u closing k (params_text all ps (dots_text all dots (sign_text puncts.CloseParen closing k)))
           (list_read ps dots (r - 1) (omega (arith, most)) (enter s1) u closing k fits ended inside (omega (arith, low))) in
-          bind_is _ refl (p ∙ ap (λ (c : Option HeldScope). done (found (record { declr = some_declr (with_params d opening ps dots closing); closed = c }) (leave u) k)) closed_is)
+          bind_is _ refl (as_list flag (is_bare d) ∙ p ∙ ap (λ (c : Option HeldScope). done (found (record { declr = some_declr (with_params d opening ps dots closing); closed = c }) (leave u) k)) closed_is)
+
+  -- a name that is no typedef name is read
+  identifier_complete : (x : Identifier) (s t : HeldScopes) (k : List Lexeme) → identifier_scopes x s ≡ Some t → identifier_at s (identifier_text x k) ≡ done (found x t k)
+  identifier_complete x s t k named = by_type (names_type s x.name) refl named
+    where
+      by_type : (b : Bool) → names_type s x.name ≡ b → where_true (not b) s ≡ Some t → identifier_at s (identifier_text x k) ≡ done (found x t k)
+      by_type true is named = absurd cc
+      by_type false is named =
+          let same : s ≡ t = cc in
+          rw is (ap (λ (t : HeldScopes). done (found x t k)) same)
+
+  -- identifiers behind a name
+  identifiers_on : (wanted : Option Kind) (room : ℕ) (d : Declr) (opening : ℕ) (names : List Identifier) (closing : ℕ) (s s1 s2 : HeldScopes) (k : List Lexeme) →
+      is_some (bare_name d) ≡ true → names ≢ [] → declr_scopes wanted d s ≡ Some s1 → is_wide s1 ≡ true → identifiers_scopes names s1 ≡ Some s2 →
+      declr_height d + 1 ≤ declr_room true (closed_of wanted (some_declr (identifiers d opening names closing)) s) room →
+      run (suffix_turn inner true room) (declared_as wanted (some_declr d) s) s1 (sign_text puncts.OpenParen opening (names_text names (sign_text puncts.CloseParen closing k))) ≡
+      run (suffix_turn inner true room) (declared_as wanted (some_declr (identifiers d opening names closing)) s) s2 k
+  unfolding identifiers_with
+  identifiers_on wanted room d opening names closing s s1 s2 k bare some named wide inside low =
+      run_on (suffix_turn inner true room) (suffix_shrinks all tokens n inner laws true room) (declared_as wanted (some_declr d) s) s1 text (found (declared_as wanted (some_declr (identifiers d opening names closing)) s) s2 k)
+      (ap Some (rw room_is (fits_is (suc (declr_height d)) r text _ (omega (arith, low)) ∙ bind_is _ refl (as_list (is_bare (some_declr d)) bare (begins names some inside) ∙ read))))
+    where
+      c : Option HeldScope
+      c = closed_of wanted (some_declr (identifiers d opening names closing)) s
+
+      r : ℕ
+      r = declr_room true c room
+
+      tail : List Lexeme
+      tail = sign_text puncts.CloseParen closing k
+
+      text : List Lexeme
+      text = sign_text puncts.OpenParen opening (names_text names tail)
+
+      closed_is : Some (new_scope (is_wide s1)) ≡ c
+      closed_is = closed_with_identifiers wanted d opening names closing s s1 bare named
+
+      room_is : room_at true room (declared_as wanted (some_declr d) s) (kinds.Punct puncts.OpenParen) ≡ r
+      room_is = params_room all numbered tokens n inner laws true room (declared_as wanted (some_declr d) s) (kinds.Punct puncts.OpenParen) (new_scope (is_wide s1)) refl
+          ∙ ap (λ (c : Option HeldScope). declr_room true c room) (rw bare closed_is)
+
+      begins : (names : List Identifier) → names ≢ [] → identifiers_scopes names s1 ≡ Some s2 → begins_identifiers s1 (kind_at (names_text names tail)) ≡ true
+      begins [] some inside = absurd (some refl)
+      begins (x ∷ names) some inside =
+          let a = behind_ok (where_true (not (names_type s1 x.name)) s1) (identifiers_scopes names) s2 inside in
+          rw (wide, where_holds (not (names_type s1 x.name)) s1 a.0 a.1) refl
+
+      as_list : (b : Bool) → b ≡ true → begins_identifiers s1 (kind_at (names_text names tail)) ≡ true →
+          list_behind inner (true && b && begins_identifiers s1 (kind_at (names_text names tail))) (declared_as wanted (some_declr d) s) opening r s1 (names_text names tail) ≡
+          identifiers_with inner d opening s1 (names_text names tail)
+      as_list true is e = rw e refl
+      as_list false is e = absurd cc
+
+      read : identifiers_with inner d opening s1 (names_text names tail) ≡ done (found (declared_as wanted (some_declr (identifiers d opening names closing)) s) s2 k)
+      read =
+          let l = names_complete identifier_scopes identifier_at identifier_shrinks identifier_complete names s1 s2 tail some (identifiers_are names s1 ∙ inside) refl in
+          bind_is _ l (bind_is _ refl (ap (λ (c : Option HeldScope). done (found (record { declr = some_declr (identifiers d opening names closing); closed = c }) s2 k)) closed_is))
 
   -- a declarator in parentheses, behind the parenthesis and its attributes
-  inside_paren : (mode : Mode) (wanted : Option Kind) (flag : Bool) (opening : ℕ) (attrs : List Attr) (room : ℕ) → declr_number flag (room - 1) < n → (d : Declr) (s s' : HeldScopes) (closing : ℕ) (k : List Lexeme) → FitsMode all mode (some_declr d) s →
+  inside_paren : (mode : Mode) (wanted : Option Kind) (flag : Bool) (opening : ℕ) (attrs : List Attr) (room : ℕ) → declr_number flag (room - 1) < n → MayName all mode wanted → (d : Declr) (s s' : HeldScopes) (closing : ℕ) (k : List Lexeme) → FitsMode all mode (some_declr d) s → (flag ≡ true) ⊎ (lists_identifiers d ≡ false) →
       declr_scopes wanted d s ≡ Some s' → declr_height d ≤ declr_room flag (closed_of wanted (some_declr d) s) (room - 1) →
       paren_with inner mode wanted flag opening attrs room s (declr_text all d (sign_text puncts.CloseParen closing k)) ≡ done (found (declared_as wanted (some_declr (with_paren opening attrs d closing)) s) s' k)
   unfolding paren_with
-  inside_paren mode wanted flag opening attrs room less d s s' closing k fits named low =
-      bind_is _ (laws.declrs.complete mode wanted flag (room - 1) less (some_declr d) s s' (sign_text puncts.CloseParen closing k) fits named low (close_ends mode d))
+  inside_paren mode wanted flag opening attrs room less may d s s' closing k fits plain named low =
+      bind_is _ (laws.declrs.complete mode wanted flag (room - 1) less may (some_declr d) s s' (sign_text puncts.CloseParen closing k) fits plain named low (close_ends mode d))
       (bind_is _ refl (bind_is _ refl (ap (λ (o : Option OwnParams). done (found (record { declr = some_declr (with_paren opening attrs d closing); closed = option_map innermost (own_scope_in wanted o s) }) s' k)) (sym (own_paren opening attrs d closing)))))
 
   -- the room of a declarator in parentheses
@@ -381,15 +538,15 @@ module _ (all : List Lexeme) (numbered : IsNumbered all) (tokens : TokenLaws all
     opens_no_params : opens_params attrs s kind ≡ false
     opens : opens_declr mode kind ≡ true
 
-  inside_is : (mode : Mode) (attrs : List Attr) (s : HeldScopes) (d : Declr) (k : List Lexeme) (b : Bool) → is_named d ≡ b → IsDeclr all d → Suits mode b → (b ≡ true → begins_with_type s (first_name d) ≡ false) → Inside mode attrs s (kind_at (declr_text all d k))
-  inside_is mode attrs s d k true is fits suits free =
+  inside_is : (mode : Mode) (attrs : List Attr) (s : HeldScopes) (d : Declr) (k : List Lexeme) (b : Bool) → is_named d ≡ b → IsDeclr all d → Suits mode b → (b ≡ true → begins_base d ≡ false) → (b ≡ true → begins_with_type s (first_name d) ≡ false) → Inside mode attrs s (kind_at (declr_text all d k))
+  inside_is mode attrs s d k true is fits suits base free =
       let begun = firsts.named_begins d k fits is in
       record {
         attrs_end = not_false (named_no_attribute (kind_at (declr_text all d k)) begun);
-        opens_no_params = rw (named_no_close_paren (kind_at (declr_text all d k)) begun, and_false (are_none attrs), first_no_specs all d s k fits is (free refl)) refl;
-        opens = named_opens mode (kind_at (declr_text all d k)) (named_takes mode suits) begun;
+        opens_no_params = rw (named_no_close_paren (kind_at (declr_text all d k)) begun, and_false (are_none attrs), first_no_specs all d s k fits is (base refl) (free refl)) refl;
+        opens = named_opens mode (kind_at (declr_text all d k)) (named_takes mode suits) begun (firsts.named_base d k fits is ∙ base refl);
       }
-  inside_is mode attrs s d k false is fits suits free =
+  inside_is mode attrs s d k false is fits suits base free =
       let begun = firsts.abstract_begins d k fits is in
       record {
         attrs_end = not_false (abstract_no_attribute (kind_at (declr_text all d k)) begun);
@@ -401,40 +558,40 @@ module _ (all : List Lexeme) (numbered : IsNumbered all) (tokens : TokenLaws all
   paren_text : ℕ → List Attr → Declr → ℕ → List Lexeme → List Lexeme
   paren_text opening attrs d closing k = sign_text puncts.OpenParen opening (attrs_text all attrs (declr_text all d (sign_text puncts.CloseParen closing k)))
 
-  opened_complete : (mode : Mode) (wanted : Option Kind) (flag : Bool) (room : ℕ) → declr_number flag room < suc n → (opening : ℕ) (attrs : List Attr) (d : Declr) (closing : ℕ) (s s' : HeldScopes) (k : List Lexeme) → AreAttrs all attrs →
-      FitsMode all mode (some_declr d) s → declr_scopes wanted d s ≡ Some s' → max (attrs_height attrs) (declr_height d) + 1 ≤ declr_room flag (closed_of wanted (some_declr d) s) room →
+  opened_complete : (mode : Mode) (wanted : Option Kind) (flag : Bool) (room : ℕ) → declr_number flag room < suc n → MayName all mode wanted → (opening : ℕ) (attrs : List Attr) (d : Declr) (closing : ℕ) (s s' : HeldScopes) (k : List Lexeme) → AreAttrs all attrs →
+      FitsMode all mode (some_declr d) s → (flag ≡ true) ⊎ (lists_identifiers d ≡ false) → declr_scopes wanted d s ≡ Some s' → max (attrs_height attrs) (declr_height d) + 1 ≤ declr_room flag (closed_of wanted (some_declr d) s) room →
       Inside mode attrs s (kind_at (declr_text all d (sign_text puncts.CloseParen closing k))) →
       opened_with inner mode wanted flag room s (paren_text opening attrs d closing k) ≡ done (found (declared_as wanted (some_declr (with_paren opening attrs d closing)) s) s' k)
   unfolding opened_with opened_by paren_text
-  opened_complete mode wanted flag room less opening attrs d closing s s' k attrs_fit fits named low first =
+  opened_complete mode wanted flag room less may opening attrs d closing s s' k attrs_fit fits plain named low first =
       let r = paren_room wanted flag attrs room less d s low in
       let a = tokens.attrs_complete room attrs s s (declr_text all d (sign_text puncts.CloseParen closing k)) attrs_fit refl r.lead first.attrs_end in
       fits_is 1 room (paren_text opening attrs d closing k) _ (omega (arith, r.enough)) ∙ bind_is _ refl (bind_is _ a (rw (first.opens_no_params, first.opens)
-      (inside_paren mode wanted flag opening attrs room r.number d s s' closing k fits named r.low)))
+      (inside_paren mode wanted flag opening attrs room r.number may d s s' closing k fits plain named r.low)))
 
   named_complete : (wanted : Option Kind) (flag : Bool) (room : ℕ) → declr_number flag room < suc n → (opening : ℕ) (attrs : List Attr) (d : Declr) (closing : ℕ) (s s' : HeldScopes) (k : List Lexeme) → AreAttrs all attrs →
-      FitsMode all Named (some_declr d) s → declr_scopes wanted d s ≡ Some s' → max (attrs_height attrs) (declr_height d) + 1 ≤ declr_room flag (closed_of wanted (some_declr d) s) room →
+      FitsMode all Named (some_declr d) s → (flag ≡ true) ⊎ (lists_identifiers d ≡ false) → declr_scopes wanted d s ≡ Some s' → max (attrs_height attrs) (declr_height d) + 1 ≤ declr_room flag (closed_of wanted (some_declr d) s) room →
       named_paren inner wanted flag room s (paren_text opening attrs d closing k) ≡ done (found (declared_as wanted (some_declr (with_paren opening attrs d closing)) s) s' k)
   unfolding named_paren paren_text
-  named_complete wanted flag room less opening attrs d closing s s' k attrs_fit fits named low =
+  named_complete wanted flag room less opening attrs d closing s s' k attrs_fit fits plain named low =
       let r = paren_room wanted flag attrs room less d s low in
       let begun = firsts.named_begins d (sign_text puncts.CloseParen closing k) fits.0 fits.1 in
       let a = tokens.attrs_complete room attrs s s (declr_text all d (sign_text puncts.CloseParen closing k)) attrs_fit refl r.lead (not_false (named_no_attribute (kind_at (declr_text all d (sign_text puncts.CloseParen closing k))) begun)) in
-      fits_is 2 room (paren_text opening attrs d closing k) _ r.enough ∙ bind_is _ refl (bind_is _ a (inside_paren Named wanted flag opening attrs room r.number d s s' closing k fits named r.low))
+      fits_is 2 room (paren_text opening attrs d closing k) _ r.enough ∙ bind_is _ refl (bind_is _ a (inside_paren Named wanted flag opening attrs room r.number tt d s s' closing k fits plain named r.low))
 
-  paren_core : (mode : Mode) (wanted : Option Kind) (flag : Bool) (room : ℕ) → declr_number flag room < suc n → (opening : ℕ) (attrs : List Attr) (d : Declr) (closing : ℕ) (s s' : HeldScopes) (k : List Lexeme) → AreAttrs all attrs → IsDeclr all d →
-      Suits mode (is_named d) → Shows mode s d → (takes_name mode ≡ true → is_named d ≡ true → begins_with_type s (first_name d) ≡ false ⊎ (mode ≡ Named)) → declr_scopes wanted d s ≡ Some s' →
+  paren_core : (mode : Mode) (wanted : Option Kind) (flag : Bool) (room : ℕ) → declr_number flag room < suc n → MayName all mode wanted → (opening : ℕ) (attrs : List Attr) (d : Declr) (closing : ℕ) (s s' : HeldScopes) (k : List Lexeme) → AreAttrs all attrs → IsDeclr all d →
+      Suits mode (is_named d) → Shows mode s d → (takes_name mode ≡ true → is_named d ≡ true → begins_with_type s (first_name d) ≡ false ⊎ (mode ≡ Named)) → (flag ≡ true) ⊎ (lists_identifiers d ≡ false) → declr_scopes wanted d s ≡ Some s' →
       max (attrs_height attrs) (declr_height d) + 1 ≤ declr_room flag (closed_of wanted (some_declr d) s) room →
       core_with inner mode wanted flag room s (paren_text opening attrs d closing k) ≡ done (found (declared_as wanted (some_declr (with_paren opening attrs d closing)) s) s' k)
   unfolding core_with paren_text
-  paren_core Named wanted flag room less opening attrs d closing s s' k attrs_fit fits suits shows free named low =
-      named_complete wanted flag room less opening attrs d closing s s' k attrs_fit (fits_mode all Named d s (is_named d) refl fits suits shows) named low
-  paren_core Abstract wanted flag room less opening attrs d closing s s' k attrs_fit fits suits shows free named low =
-      opened_complete Abstract wanted flag room less opening attrs d closing s s' k attrs_fit (fits_mode all Abstract d s (is_named d) refl fits suits shows) named low
-      (inside_is Abstract attrs s d (sign_text puncts.CloseParen closing k) (is_named d) refl fits suits (λ is. absurd (rw is at suits)))
-  paren_core Either wanted flag room less opening attrs d closing s s' k attrs_fit fits suits shows free named low =
-      opened_complete Either wanted flag room less opening attrs d closing s s' k attrs_fit (fits_mode all Either d s (is_named d) refl fits suits shows) named low
-      (inside_is Either attrs s d (sign_text puncts.CloseParen closing k) (is_named d) refl fits suits (λ is. by_free (free refl is)))
+  paren_core Named wanted flag room less may opening attrs d closing s s' k attrs_fit fits suits shows free plain named low =
+      named_complete wanted flag room less opening attrs d closing s s' k attrs_fit (fits_mode all Named d s (is_named d) refl fits suits shows) plain named low
+  paren_core Abstract wanted flag room less may opening attrs d closing s s' k attrs_fit fits suits shows free plain named low =
+      opened_complete Abstract wanted flag room less may opening attrs d closing s s' k attrs_fit (fits_mode all Abstract d s (is_named d) refl fits suits shows) plain named low
+      (inside_is Abstract attrs s d (sign_text puncts.CloseParen closing k) (is_named d) refl fits suits (λ is. no_base wanted may d s s' named) (λ is. absurd (rw is at suits)))
+  paren_core Either wanted flag room less may opening attrs d closing s s' k attrs_fit fits suits shows free plain named low =
+      opened_complete Either wanted flag room less may opening attrs d closing s s' k attrs_fit (fits_mode all Either d s (is_named d) refl fits suits shows) plain named low
+      (inside_is Either attrs s d (sign_text puncts.CloseParen closing k) (is_named d) refl fits suits (λ is. no_base wanted may d s s' named) (λ is. by_free (free refl is)))
     where
       by_free : begins_with_type s (first_name d) ≡ false ⊎ (Either ≡ Named) → begins_with_type s (first_name d) ≡ false
       by_free (inl h) = h
@@ -503,11 +660,46 @@ module _ (all : List Lexeme) (numbered : IsNumbered all) (tokens : TokenLaws all
       core_with inner mode wanted flag room s (declr_text all (declr_name token name) k) ≡ done (found (declared_as wanted (some_declr (declr_name token name)) s) s' k)
   unfolding core_with
   name_core mode wanted flag room token name s s' k suits named low =
-      rw (named_takes mode suits, named) (fits_is 1 room (declr_text all (declr_name token name) k) _ (low_room flag low) ∙ bind_is _ refl refl)
+      rw (names_base_no s mode wanted (kinds.Name name) refl, named_takes mode suits, named) (fits_is 1 room (declr_text all (declr_name token name) k) _ (low_room flag low) ∙ bind_is _ refl refl)
     where
       low_room : (flag : Bool) → 1 ≤ declr_room flag None room → 1 ≤ room
       low_room true h = h
       low_room false h = h
+
+  -- a base word that names a typedef
+  base_core : (mode : Mode) (wanted : Option Kind) (flag : Bool) (room token : ℕ) → MayName all mode wanted → (s s' : HeldScopes) (k : List Lexeme) → declr_scopes wanted (base_name token) s ≡ Some s' → 1 ≤ declr_room flag None room →
+      core_with inner mode wanted flag room s (declr_text all (base_name token) k) ≡ done (found (declared_as wanted (some_declr (base_name token)) s) s' k)
+  unfolding core_with
+  base_core mode wanted flag room token may s s' k named low = by_kind mode wanted may named
+    where
+      low_room : (flag : Bool) → 1 ≤ declr_room flag None room → 1 ≤ room
+      low_room true h = h
+      low_room false h = h
+
+      no_wide : (b : Bool) → where_true (b && false) s ≡ Some s' → ⊥
+      no_wide true e = absurd cc
+      no_wide false e = absurd cc
+
+      wide_is : (b : Bool) → where_true (b && true) s ≡ Some s' → (b ≡ true) × (s ≡ s')
+      wide_is true e = (refl, cc)
+      wide_is false e = absurd cc
+
+      by_kind : (mode : Mode) (wanted : Option Kind) → MayName all mode wanted → declr_scopes wanted (base_name token) s ≡ Some s' →
+          core_with inner mode wanted flag room s (declr_text all (base_name token) k) ≡ done (found (declared_as wanted (some_declr (base_name token)) s) s' k)
+      by_kind Named (Some Typedef) may named =
+          let w = wide_is (is_wide s) named in
+          rw w.0 (fits_is 1 room (declr_text all (base_name token) k) _ (low_room flag low) ∙ bind_is _ refl (ap (λ (t : HeldScopes). done (found (declared_as (Some Typedef) (some_declr (base_name token)) s) t k)) w.1))
+      by_kind Named (Some Value) may named = absurd (no_wide (is_wide s) named)
+      by_kind Named (Some Constant) may named = absurd (no_wide (is_wide s) named)
+      by_kind Named None may named = absurd (no_wide (is_wide s) named)
+      by_kind Abstract (Some Typedef) may named = absurd cc
+      by_kind Abstract (Some Value) may named = absurd (no_wide (is_wide s) named)
+      by_kind Abstract (Some Constant) may named = absurd (no_wide (is_wide s) named)
+      by_kind Abstract None may named = absurd (no_wide (is_wide s) named)
+      by_kind Either (Some Typedef) may named = absurd cc
+      by_kind Either (Some Value) may named = absurd (no_wide (is_wide s) named)
+      by_kind Either (Some Constant) may named = absurd (no_wide (is_wide s) named)
+      by_kind Either None may named = absurd (no_wide (is_wide s) named)
 
   bracket_core : (mode : Mode) (wanted : Option Kind) (flag : Bool) (room opening : ℕ) (s : HeldScopes) (k : List Lexeme) → Suits mode false →
       core_with inner mode wanted flag room s (sign_text puncts.OpenBracket opening k) ≡ done (found (declared_as wanted no_declr s) s (sign_text puncts.OpenBracket opening k))
@@ -532,6 +724,10 @@ module _ (all : List Lexeme) (numbered : IsNumbered all) (tokens : TokenLaws all
       low_room true h = h
       low_room false h = h
 
+  where_is : (b : Bool) (t u : HeldScopes) → where_true b t ≡ Some u → (b ≡ true) × (t ≡ u)
+  where_is true t u e = (refl, cc)
+  where_is false t u e = absurd cc
+
   in_own : (ps : Params) (s s' : HeldScopes) → in_own_scope (params_scopes ps) s ≡ Some s' → (u : HeldScopes) × (params_scopes ps (enter s) ≡ Some u) × (leave u ≡ s')
   in_own ps s s' e =
       let a = behind_ok (params_scopes ps (enter s)) (λ inner. Some (leave inner)) s' e in
@@ -544,64 +740,76 @@ module _ (all : List Lexeme) (numbered : IsNumbered all) (tokens : TokenLaws all
   abbrev pub LoopOf : Mode → Option Kind → Bool → ℕ → Declr → HeldScopes → HeldScopes → List Lexeme → Type 0
   LoopOf mode wanted flag room d s s' k = direct_with inner mode wanted flag room s (declr_text all d k) ≡ run (suffix_turn inner flag room) (declared_as wanted (some_declr d) s) s' k
 
-  pub direct_on : (mode : Mode) (wanted : Option Kind) (flag : Bool) (room : ℕ) → declr_number flag room < suc n → (d : Declr) (s s' : HeldScopes) (k : List Lexeme) → IsDeclr all d → is_direct d ≡ true → Suits mode (is_named d) → Shows mode s d →
+  pub direct_on : (mode : Mode) (wanted : Option Kind) (flag : Bool) (room : ℕ) → declr_number flag room < suc n → MayName all mode wanted → (d : Declr) (s s' : HeldScopes) (k : List Lexeme) → IsDeclr all d → is_direct d ≡ true → Suits mode (is_named d) → Shows mode s d → (flag ≡ true) ⊎ (lists_identifiers d ≡ false) →
       declr_scopes wanted d s ≡ Some s' → declr_height d ≤ declr_room flag (closed_of wanted (some_declr d) s) room → LoopOf mode wanted flag room d s s' k
   unfolding direct_with paren_text
-  direct_on mode wanted flag room less (pointer star words d) s s' k fits direct suits shows named low = absurd cc
-  direct_on mode wanted flag room less (abs_pointer star words d) s s' k fits direct suits shows named low = absurd cc
-  direct_on mode wanted flag room less (declr_name token name) s s' k fits direct suits shows named low = bind_is _ (name_core mode wanted flag room token name s s' k suits named low) refl
-  direct_on mode wanted flag room less (declr_paren opening attrs d closing) s s' k fits direct suits shows named low =
+  direct_on mode wanted flag room less may (pointer star words d) s s' k fits direct suits shows plain named low = absurd cc
+  direct_on mode wanted flag room less may (abs_pointer star words d) s s' k fits direct suits shows plain named low = absurd cc
+  direct_on mode wanted flag room less may (declr_name token name) s s' k fits direct suits shows plain named low = bind_is _ (name_core mode wanted flag room token name s s' k suits named low) refl
+  direct_on mode wanted flag room less may (declr_paren opening attrs d closing) s s' k fits direct suits shows plain named low =
       let low' : max (attrs_height attrs) (declr_height d) + 1 ≤ declr_room flag (closed_of wanted (some_declr d) s) room = low in
-      let core = paren_core mode wanted flag room less opening attrs d closing s s' k fits.0 fits.1 (subst (Suits mode) (sym fits.2) suits)
+      let core = paren_core mode wanted flag room less may opening attrs d closing s s' k fits.0 fits.1 (subst (Suits mode) (sym fits.2) suits)
       (shows_same mode s (declr_paren opening attrs d closing) d (both_right (not (begins_with_type s (first_name d))) (shows_no_type s d)) shows)
-      (λ takes is. shows_free mode s opening attrs d closing shows takes) named low' in
+      (λ takes is. shows_free mode s opening attrs d closing shows takes) plain named low' in
       let made : with_paren opening attrs d closing ≡ declr_paren opening attrs d closing = rw fits.2 refl in
       bind_is _ (core ∙ ap (λ (e : Declr). done (found (declared_as wanted (some_declr e) s) s' k)) made) refl
-  direct_on mode wanted flag room less (abs_paren opening attrs d closing) s s' k fits direct suits shows named low =
+  direct_on mode wanted flag room less may (abs_paren opening attrs d closing) s s' k fits direct suits shows plain named low =
       let low' : max (attrs_height attrs) (declr_height d) + 1 ≤ declr_room flag (closed_of wanted (some_declr d) s) room = rw (closed_none wanted d s fits.2) low in
-      let core = paren_core mode wanted flag room less opening attrs d closing s s' k fits.0 fits.1 (subst (Suits mode) (sym fits.2) suits)
-      (shows_same mode s (abs_paren opening attrs d closing) d (λ e. e) shows) (λ takes is. no_name fits.2 is) named low' in
+      let core = paren_core mode wanted flag room less may opening attrs d closing s s' k fits.0 fits.1 (subst (Suits mode) (sym fits.2) suits)
+      (shows_same mode s (abs_paren opening attrs d closing) d (λ e. e) shows) (λ takes is. no_name fits.2 is) (inr (unnamed_plain d fits.2)) named low' in
       let made : with_paren opening attrs d closing ≡ abs_paren opening attrs d closing = rw fits.2 refl in
       bind_is _ (core ∙ ap (λ (e : Declr). done (found (declared_as wanted (some_declr e) s) s' k)) made) refl
     where
       no_name : {P : Type 0} → is_named d ≡ false → is_named d ≡ true → P
       no_name not_named is = let wrong : true ≡ false = sym is ∙ not_named in absurd cc
-  direct_on mode wanted flag room less (array d opening words size closing) s s' k fits direct suits shows named low =
+  direct_on mode wanted flag room less may (array d opening words size closing) s s' k fits direct suits shows plain named low =
       let a = behind_ok (declr_scopes wanted d s) (some_size_scopes size) s' named in
       let low' : max (declr_height d) (some_size_height size) + 1 ≤ declr_room flag (closed_of wanted (some_declr d) s) room = low in
-      let first = direct_on mode wanted flag room less d s a.0 _ fits.0 fits.2 (subst (Suits mode) (sym fits.1) suits) (shows_same mode s (array d opening words size closing) d (λ e. e) shows) a.1 (omega (arith, low')) in
+      let first = direct_on mode wanted flag room less may d s a.0 _ fits.0 fits.2 (subst (Suits mode) (sym fits.1) suits) (shows_same mode s (array d opening words size closing) d (λ e. e) shows) plain a.1 (omega (arith, low')) in
       let made : with_array (some_declr d) opening words size closing ≡ array d opening words size closing = rw fits.1 refl in
       first ∙ array_on wanted flag room less (some_declr d) opening words size closing s a.0 s' k fits.3 fits.4 a.2 low' ∙ ap (λ (e : Declr). run (suffix_turn inner flag room) (declared_as wanted (some_declr e) s) s' k) made
-  direct_on mode wanted flag room less (params d opening ps dots closing) s s' k fits direct suits shows named low =
+  direct_on mode wanted flag room less may (params d opening ps dots closing) s s' k fits direct suits shows plain named low =
       let a = behind_ok (declr_scopes wanted d s) (in_own_scope (params_scopes ps)) s' named in
       let b = in_own ps a.0 s' a.2 in
       let made : with_params (some_declr d) opening ps dots closing ≡ params d opening ps dots closing = rw fits.1 refl in
       let low' : declr_height d ≤ declr_room flag (closed_of wanted (some_declr d) s) room =
       fewer_room flag (closed_of wanted (some_declr (params d opening ps dots closing)) s) (closed_of wanted (some_declr d) s) room (declr_height d) (max (declr_height d) (params_height ps) + 1) (omega arith) low in
-      let first = direct_on mode wanted flag room less d s a.0 _ fits.0 fits.2 (subst (Suits mode) (sym fits.1) suits) (shows_same mode s (params d opening ps dots closing) d (λ e. e) shows) a.1 low' in
+      let first = direct_on mode wanted flag room less may d s a.0 _ fits.0 fits.2 (subst (Suits mode) (sym fits.1) suits) (shows_same mode s (params d opening ps dots closing) d (λ e. e) shows) plain a.1 low' in
       first ∙ params_on wanted flag room less (some_declr d) opening ps dots closing s a.0 b.0 k fits.3 fits.4 a.1 b.1
       (subst (λ (e : Declr). max (declr_height d) (params_height ps) + 1 ≤ declr_room flag (closed_of wanted (some_declr e) s) room) (sym made) low)
       ∙ ap (λ (e : Declr). run (suffix_turn inner flag room) (declared_as wanted (some_declr e) s) (leave b.0) k) made
       ∙ ap (λ (t : HeldScopes). run (suffix_turn inner flag room) (declared_as wanted (some_declr (params d opening ps dots closing)) s) t k) b.2
-  direct_on mode wanted flag room less (abs_array no_declr opening words size closing) s s' k fits direct suits shows named low =
+  direct_on mode wanted flag room less may (base_name token) s s' k fits direct suits shows plain named low =
+      bind_is _ (base_core mode wanted flag room token may s s' k named low) refl
+  direct_on mode wanted false room less may (identifiers d opening names closing) s s' k fits direct suits shows (inl flagged) named low = absurd cc
+  direct_on mode wanted flag room less may (identifiers d opening names closing) s s' k fits direct suits shows (inr plain) named low = absurd cc
+  direct_on mode wanted true room less may (identifiers d opening names closing) s s' k fits direct suits shows (inl flagged) named low =
+      let a = behind_ok (declr_scopes wanted d s) (λ t. behind (where_true (is_wide t) t) (identifiers_scopes names)) s' named in
+      let b = behind_ok (where_true (is_wide a.0) a.0) (identifiers_scopes names) s' a.2 in
+      let wide = where_is (is_wide a.0) a.0 b.0 b.1 in
+      let low' : declr_height d ≤ declr_room true (closed_of wanted (some_declr d) s) room =
+      fewer_room true (closed_of wanted (some_declr (identifiers d opening names closing)) s) (closed_of wanted (some_declr d) s) room (declr_height d) (declr_height d + 1) (omega arith) low in
+      let first = direct_on mode wanted true room less may d s a.0 _ fits.0 (bare_direct all d fits.1) (subst (Suits mode) (sym (bare_has_name all d fits.1)) suits) (shows_same mode s (identifiers d opening names closing) d (λ e. e) shows) (inl refl) a.1 low' in
+      first ∙ identifiers_on wanted room d opening names closing s a.0 s' k (bare_back all d fits.1) fits.2 a.1 wide.0 (ap (identifiers_scopes names) wide.1 ∙ b.2) low
+  direct_on mode wanted flag room less may (abs_array no_declr opening words size closing) s s' k fits direct suits shows plain named low =
       bind_is _ (bracket_core mode wanted flag room opening s _ suits) (array_on wanted flag room less no_declr opening words size closing s s s' k fits.1 fits.2 named low)
-  direct_on mode wanted flag room less (abs_array (some_declr d) opening words size closing) s s' k fits direct suits shows named low =
+  direct_on mode wanted flag room less may (abs_array (some_declr d) opening words size closing) s s' k fits direct suits shows plain named low =
       let a = behind_ok (declr_scopes wanted d s) (some_size_scopes size) s' named in
       let low' : max (declr_height d) (some_size_height size) + 1 ≤ declr_room flag (closed_of wanted (some_declr d) s) room = rw (closed_none wanted d s fits.0.1) low in
-      let first = direct_on mode wanted flag room less d s a.0 _ fits.0.0 fits.0.2 (subst (Suits mode) (sym fits.0.1) suits) (shows_same mode s (abs_array (some_declr d) opening words size closing) d (λ e. e) shows) a.1 (omega (arith, low')) in
+      let first = direct_on mode wanted flag room less may d s a.0 _ fits.0.0 fits.0.2 (subst (Suits mode) (sym fits.0.1) suits) (shows_same mode s (abs_array (some_declr d) opening words size closing) d (λ e. e) shows) (inr (unnamed_plain d fits.0.1)) a.1 (omega (arith, low')) in
       let made : with_array (some_declr d) opening words size closing ≡ abs_array (some_declr d) opening words size closing = rw fits.0.1 refl in
       first ∙ array_on wanted flag room less (some_declr d) opening words size closing s a.0 s' k fits.1 fits.2 a.2 low' ∙ ap (λ (e : Declr). run (suffix_turn inner flag room) (declared_as wanted (some_declr e) s) s' k) made
-  direct_on mode wanted flag room less (abs_params no_declr opening ps dots closing) s s' k fits direct suits shows named low =
+  direct_on mode wanted flag room less may (abs_params no_declr opening ps dots closing) s s' k fits direct suits shows plain named low =
       let b = in_own ps s s' named in
       bind_is _ (alone_paren mode wanted flag room less opening ps dots closing s b.0 k suits fits.1 fits.2 b.1 (omega (arith, low)))
       (ap (λ (t : HeldScopes). run (suffix_turn inner flag room) (declared_as wanted (some_declr (abs_params no_declr opening ps dots closing)) s) t k) b.2)
-  direct_on mode wanted flag room less (abs_params (some_declr d) opening ps dots closing) s s' k fits direct suits shows named low =
+  direct_on mode wanted flag room less may (abs_params (some_declr d) opening ps dots closing) s s' k fits direct suits shows plain named low =
       let a = behind_ok (declr_scopes wanted d s) (in_own_scope (params_scopes ps)) s' named in
       let b = in_own ps a.0 s' a.2 in
       let made : with_params (some_declr d) opening ps dots closing ≡ abs_params (some_declr d) opening ps dots closing = rw fits.0.1 refl in
       let low' : declr_height d ≤ declr_room flag (closed_of wanted (some_declr d) s) room =
       fewer_room flag (closed_of wanted (some_declr (abs_params (some_declr d) opening ps dots closing)) s) (closed_of wanted (some_declr d) s) room (declr_height d) (max (declr_height d) (params_height ps) + 1) (omega arith) low in
-      let first = direct_on mode wanted flag room less d s a.0 _ fits.0.0 fits.0.2 (subst (Suits mode) (sym fits.0.1) suits) (shows_same mode s (abs_params (some_declr d) opening ps dots closing) d (λ e. e) shows) a.1 low' in
+      let first = direct_on mode wanted flag room less may d s a.0 _ fits.0.0 fits.0.2 (subst (Suits mode) (sym fits.0.1) suits) (shows_same mode s (abs_params (some_declr d) opening ps dots closing) d (λ e. e) shows) (inr (unnamed_plain d fits.0.1)) a.1 low' in
       first ∙ params_on wanted flag room less (some_declr d) opening ps dots closing s a.0 b.0 k fits.1 fits.2 a.1 b.1
       (subst (λ (e : Declr). max (declr_height d) (params_height ps) + 1 ≤ declr_room flag (closed_of wanted (some_declr e) s) room) (sym made) low)
       ∙ ap (λ (e : Declr). run (suffix_turn inner flag room) (declared_as wanted (some_declr e) s) (leave b.0) k) made

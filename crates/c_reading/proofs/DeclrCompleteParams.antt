@@ -1,21 +1,22 @@
 -- The text of parameters that fit is read as these.
-use Rattle.std.proofs.Common.{◌≡◌, ℕ, ◌≤◌, Bool, true, false, List, [], ◌∷◌, Option, Some, None, inr, refl, sym, ◌∙◌, ap, subst, arith}
+use Rattle.std.proofs.Common.{◌≡◌, ℕ, ◌≤◌, Bool, true, false, List, [], ◌∷◌, Option, Some, None, inl, inr, refl, sym, ◌∙◌, ap, subst, arith}
 use Rattle.std.specs.Prelude.{◌+◌, ◌-◌, max, not, ◌&&◌, All, if◌then◌else◌}
 use Rattle.std.proofs.lemmas.List.Elements.{All-nil, All-cons}
 use Rattle.c_words.specs.declared.kinds.TokenKind.{TokenKind}
 use Rattle.c_words.specs.declared.kinds.TokenKind.TheVariants as kinds
+use Rattle.c_words.specs.declared.kinds.Keyword.{Keyword}
 use Rattle.c_words.specs.declared.kinds.Keyword.TheVariants as keywords
 use Rattle.c_words.specs.declared.kinds.Punct.TheVariants as puncts
 use Rattle.c_tree.specs.declared.lexeme.Lexeme.{Lexeme}
 use Rattle.c_syntax.specs.declared.parts.Attr.{Attr}
 use Rattle.c_syntax.specs.declared.parts.Qual.{Qual}
 use Rattle.c_syntax.specs.declared.parts.Qual.TheVariants as quals
-use Rattle.c_tree.specs.Tree.{Dots, SpecWords, no_words, more_words, SpecWord, qualifier, attribute, SomeDeclr, no_declr, some_declr, Params, no_params, more_params}
+use Rattle.c_tree.specs.Tree.{Dots, SpecWords, no_words, more_words, SpecWord, qualifier, attribute, typeof_type, SomeDeclr, no_declr, some_declr, Params, no_params, more_params}
 use Rattle.c_tree.specs.Text.{separated, sign_text, spec_words_text, some_declr_text, declr_text, attrs_text, quals_text, params_text, other_params_text, dots_text, attr_text, qual_text}
 use Rattle.c_tree.specs.Height.{attrs_height, specs_height, some_declr_height, params_height}
 use Rattle.c_tree.specs.Groups.{IsGroup}
 use Rattle.c_tree.specs.Specifiers.{IsMix}
-use Rattle.c_tree.specs.WellFormed.{AreAttrs, AreParams, AreSpecWords, IsSomeDeclr, IsParamEnd, IsQual, IsEllipsis, is_named, ends_starred}
+use Rattle.c_tree.specs.WellFormed.{AreAttrs, AreParams, AreSpecWords, IsSomeDeclr, IsParamEnd, IsWordQual, IsEllipsis, has_auto, is_named, ends_starred}
 use Rattle.c_specs.specs.Reading.{append_words}
 use Rattle.c_specs.specs.Laws.{MixesGoOn}
 use Rattle.typedef_scope.specs.declared.kind.Kind.TheVariants.{Value}
@@ -23,10 +24,10 @@ use Rattle.c_units.specs.HeldScopes.{HeldScopes, release}
 use Rattle.c_units.specs.Scoping.{behind, where_true, spec_word_scopes, spec_words_scopes, some_declr_scopes, some_shows_no_type, params_scopes}
 use Rattle.c_reading.specs.declared.kinds.SpecStart.{SpecStart}
 use Rattle.c_reading.specs.declared.kinds.SpecStart.TheVariants as starts
-use Rattle.c_reading.specs.declared.kinds.Role.TheVariants.{Declaring}
+use Rattle.c_reading.specs.declared.kinds.Role.TheVariants.{Typed}
 use Rattle.c_reading.specs.declared.kinds.Mode.TheVariants.{Either}
 use Rattle.c_reading.specs.Reading.{IsNumbered, ends, kind_at, listed, and_then, one_more}
-use Rattle.c_reading.specs.Tokens.{is_attribute, is_made, qual_of, attrs_at, begins_pointer_word}
+use Rattle.c_reading.specs.Tokens.{is_attribute, is_made, qual_of, word_qual_of, attrs_at, begins_pointer_word}
 use Rattle.c_reading.specs.Specifying.{start_at}
 use Rattle.c_reading.specs.Parts.{Inner, ParamItem}
 use Rattle.c_reading.specs.Declaring.{words_of_quals, words_of_attrs, are_none, param_words, param_attrs, param_with, next_param, params_with}
@@ -35,8 +36,8 @@ use Rattle.c_reading.proofs.Forms.{behind_ok}
 use Rattle.c_reading.proofs.Rows.{row_scopes, row_height}
 use Rattle.c_reading.proofs.Commas.{others_text, ending_text, others_read, others_stop, IsListEnd}
 use Rattle.c_reading.proofs.KindFacts.{both_left, both_right, not_true, not_false, and_false, named_ends_specs, abstract_ends_specs, specs_no_dots, specs_no_close_paren}
-use Rattle.c_reading.proofs.Firsts.{no_mix_of_none, start_of, word_starts, first_laws}
-use Rattle.c_reading.proofs.Shared.{specs_here_complete}
+use Rattle.c_reading.proofs.Firsts.{former_start, no_mix_of_none, start_of, word_starts, first_laws}
+use Rattle.c_reading.proofs.Shared.{no_base, specs_here_complete}
 use Rattle.c_reading.proofs.DeclrFalls.{next_param_falls}
 use Rattle.c_reading.proofs.DeclrLists.{params_items, params_back, dots_ending, ending_is, params_fit_back, ending_back, params_named, params_high}
 use Rattle.c_reading.proofs.DeclrSoundParams.{specs_high}
@@ -70,12 +71,22 @@ is_qual_start starts.Element = true
 is_qual_start starts.Index = true
 is_qual_start start = false
 
+former_no_attribute : (keyword : Keyword) → is_attribute_start (former_start keyword) ≡ false
+former_no_attribute keywords.AtomicType = refl
+former_no_attribute keyword = refl
+
+former_no_qual : (keyword : Keyword) → is_qual_start (former_start keyword) ≡ false
+former_no_qual keywords.AtomicType = refl
+former_no_qual keyword = refl
+
 no_attribute : (kind : TokenKind) (s : HeldScopes) → is_attribute_start (start_at s false kind) ≡ false → is_attribute kind ≡ false
 no_attribute (kinds.Keyword keywords.Attribute) s e = absurd cc
 no_attribute kind s e = refl
 
-no_qual : (kind : TokenKind) (s : HeldScopes) → is_qual_start (start_at s false kind) ≡ false → is_made (qual_of kind) ≡ false
+no_qual : (kind : TokenKind) (s : HeldScopes) → is_qual_start (start_at s false kind) ≡ false → is_made (word_qual_of kind) ≡ false
 no_qual (kinds.Keyword keywords.Const) s e = absurd cc
+no_qual (kinds.Keyword keywords.Atomic) s e = absurd cc
+no_qual (kinds.Keyword keywords.Seg) s e = absurd cc
 no_qual (kinds.Keyword keywords.Volatile) s e = absurd cc
 no_qual (kinds.Keyword keywords.Restrict) s e = absurd cc
 no_qual (kinds.Qual lattice elem) s e = absurd cc
@@ -87,14 +98,15 @@ pub record Split (all : List Lexeme) (known rest ws : SpecWords) : Type 0 where
   pub are : append_words known rest ≡ ws
   pub mix : IsMix ws → IsMix rest
   pub fits : AreSpecWords all ws → AreSpecWords all rest
+  pub plain : has_auto ws ≡ false → has_auto rest ≡ false
   pub named : (s : HeldScopes) → spec_words_scopes rest s ≡ spec_words_scopes ws s
 
 module _ (all : List Lexeme) where
   pub whole_split : (ws : SpecWords) → Split all no_words ws ws
-  whole_split ws = record { are = refl; mix = λ h. h; fits = λ h. h; named = λ s. refl }
+  whole_split ws = record { are = refl; mix = λ h. h; fits = λ h. h; plain = λ h. h; named = λ s. refl }
 
   attr_more : (a : Attr) (ws known rest : SpecWords) → Split all known rest ws → Split all (more_words (attribute a) known) rest (more_words (attribute a) ws)
-  attr_more a ws known rest h = record { are = ap (more_words (attribute a)) h.are; mix = λ m. h.mix m; fits = λ f. h.fits f.1; named = λ s. h.named s }
+  attr_more a ws known rest h = record { are = ap (more_words (attribute a)) h.are; mix = λ m. h.mix m; fits = λ f. h.fits f.1; plain = λ p. h.plain p; named = λ s. h.named s }
 
   pub attrs_split : (ws : SpecWords) → Split all (words_of_attrs (lead_attrs ws)) (behind_attrs ws) ws
   attrs_split no_words = whole_split no_words
@@ -102,7 +114,7 @@ module _ (all : List Lexeme) where
   attrs_split (more_words w ws) = whole_split (more_words w ws)
 
   qual_more : (q : Qual) (ws known rest : SpecWords) → Split all known rest ws → Split all (more_words (qualifier q) known) rest (more_words (qualifier q) ws)
-  qual_more q ws known rest h = record { are = ap (more_words (qualifier q)) h.are; mix = λ m. h.mix m; fits = λ f. h.fits f.1; named = λ s. h.named s }
+  qual_more q ws known rest h = record { are = ap (more_words (qualifier q)) h.are; mix = λ m. h.mix m; fits = λ f. h.fits f.1; plain = λ p. h.plain p; named = λ s. h.named s }
 
   pub quals_split : (ws : SpecWords) → Split all (words_of_quals (lead_quals ws)) (behind_quals ws) ws
   quals_split no_words = whole_split no_words
@@ -114,10 +126,10 @@ module _ (all : List Lexeme) where
   lead_attrs_fit (more_words (attribute a) ws) h = All-cons (λ (a : Attr). IsGroup all a.group) a (lead_attrs ws) h.0 (lead_attrs_fit ws h.1)
   lead_attrs_fit (more_words w ws) h = All-nil (λ (a : Attr). IsGroup all a.group)
 
-  lead_quals_fit : (ws : SpecWords) → AreSpecWords all ws → All (IsQual all) (lead_quals ws)
-  lead_quals_fit no_words h = All-nil (IsQual all)
-  lead_quals_fit (more_words (qualifier q) ws) h = All-cons (IsQual all) q (lead_quals ws) h.0 (lead_quals_fit ws h.1)
-  lead_quals_fit (more_words w ws) h = All-nil (IsQual all)
+  lead_quals_fit : (ws : SpecWords) → AreSpecWords all ws → All (IsWordQual all) (lead_quals ws)
+  lead_quals_fit no_words h = All-nil (IsWordQual all)
+  lead_quals_fit (more_words (qualifier q) ws) h = All-cons (IsWordQual all) q (lead_quals ws) h.0 (lead_quals_fit ws h.1)
+  lead_quals_fit (more_words w ws) h = All-nil (IsWordQual all)
 
   pub lead_attrs_spelled : (ws : SpecWords) (k : List Lexeme) → spec_words_text all ws k ≡ attrs_text all (lead_attrs ws) (spec_words_text all (behind_attrs ws) k)
   lead_attrs_spelled no_words k = refl
@@ -142,22 +154,28 @@ module _ (all : List Lexeme) where
     lead_attrs_end (more_words (qualifier (quals.Word w)) ws) s s' k mix fits named = no_attribute (kind_at (spec_words_text all (more_words (qualifier (quals.Word w)) ws) k)) s (ap is_attribute_start (first_start (qualifier (quals.Word w)) ws s s' k mix fits named))
     lead_attrs_end (more_words (qualifier (quals.Element token)) ws) s s' k mix fits named = no_attribute (kind_at (spec_words_text all (more_words (qualifier (quals.Element token)) ws) k)) s (ap is_attribute_start (first_start (qualifier (quals.Element token)) ws s s' k mix fits named))
     lead_attrs_end (more_words (qualifier (quals.Index token)) ws) s s' k mix fits named = no_attribute (kind_at (spec_words_text all (more_words (qualifier (quals.Index token)) ws) k)) s (ap is_attribute_start (first_start (qualifier (quals.Index token)) ws s s' k mix fits named))
+    lead_attrs_end (more_words (typeof_type w opening us d closing) ws) s s' k mix fits named =
+        no_attribute (kind_at (spec_words_text all (more_words (typeof_type w opening us d closing) ws) k)) s
+        (ap is_attribute_start (first_start (typeof_type w opening us d closing) ws s s' k mix fits named) ∙ former_no_attribute w.keyword)
     lead_attrs_end (more_words w ws) s s' k mix fits named = no_attribute (kind_at (spec_words_text all (more_words w ws) k)) s (ap is_attribute_start (first_start w ws s s' k mix fits named))
 
-    lead_quals_end : (ws : SpecWords) (s s' : HeldScopes) (k : List Lexeme) → IsMix ws → AreSpecWords all ws → spec_words_scopes ws s ≡ Some s' → is_made (qual_of (kind_at (spec_words_text all (behind_quals ws) k))) ≡ false
+    lead_quals_end : (ws : SpecWords) (s s' : HeldScopes) (k : List Lexeme) → IsMix ws → AreSpecWords all ws → spec_words_scopes ws s ≡ Some s' → is_made (word_qual_of (kind_at (spec_words_text all (behind_quals ws) k))) ≡ false
     lead_quals_end no_words s s' k mix fits named = absurd (no_mix_of_none no_words refl mix)
     lead_quals_end (more_words (qualifier q) ws) s s' k mix fits named = lead_quals_end ws s s' k mix fits.1 named
+    lead_quals_end (more_words (typeof_type w opening us d closing) ws) s s' k mix fits named =
+        no_qual (kind_at (spec_words_text all (more_words (typeof_type w opening us d closing) ws) k)) s
+        (ap is_qual_start (first_start (typeof_type w opening us d closing) ws s s' k mix fits named) ∙ former_no_qual w.keyword)
     lead_quals_end (more_words w ws) s s' k mix fits named = no_qual (kind_at (spec_words_text all (more_words w ws) k)) s (ap is_qual_start (first_start w ws s s' k mix fits named))
 
 module _ (all : List Lexeme) (numbered : IsNumbered all) (tokens : TokenLaws all) (goes : MixesGoOn) (n : ℕ) (inner : Inner) (laws : Laws all n inner) where
   firsts : FirstLaws all
   firsts = first_laws goes all numbered
 
-  words_complete : (known rest : SpecWords) (room : ℕ) → room ≤ n → (s s' : HeldScopes) (k : List Lexeme) → IsMix (append_words known rest) → IsMix rest → AreSpecWords all rest → spec_words_scopes rest s ≡ Some s' →
+  words_complete : (known rest : SpecWords) (room : ℕ) → room ≤ n → (s s' : HeldScopes) (k : List Lexeme) → IsMix (append_words known rest) → IsMix rest → AreSpecWords all rest → has_auto rest ≡ false → spec_words_scopes rest s ≡ Some s' →
       specs_height (append_words known rest) + 1 ≤ room → ends_specs (kind_at k) ≡ true → param_words inner known room s (spec_words_text all rest k) ≡ done (found (append_words known rest) s' k)
-  words_complete no_words rest room less s s' k whole mix fits named low ended = specs_here_complete all n inner laws firsts room less rest s s' k (mix, fits) named low ended
-  words_complete (more_words w ws) rest room less s s' k whole mix fits named low ended =
-      laws.words.complete Declaring (more_words w ws) rest (room - 1) (omega (arith, less, low)) s s' k whole fits named (inr (omega (arith, low))) ended
+  words_complete no_words rest room less s s' k whole mix fits plain named low ended = specs_here_complete all n inner laws firsts Typed room less rest s s' k (mix, (fits, plain)) named low ended
+  words_complete (more_words w ws) rest room less s s' k whole mix fits plain named low ended =
+      laws.words.complete Typed (more_words w ws) rest (room - 1) (omega (arith, less, low)) s s' k whole (fits, plain) named (inr (omega (arith, low))) (inl ended)
 
   -- what ends a parameter
   stops_specs : (kind : TokenKind) → ends_param kind ≡ true → ends_specs kind ≡ true
@@ -184,13 +202,15 @@ module _ (all : List Lexeme) (numbered : IsNumbered all) (tokens : TokenLaws all
       by_kind false e = refl
 
   -- behind the specifiers of a parameter
-  specs_end : (d : SomeDeclr) (attrs : List Attr) (k : List Lexeme) → IsSomeDeclr all d → IsParamEnd d attrs → ends_param (kind_at k) ≡ true → ends_specs (kind_at (some_declr_text all d (attrs_text all attrs k))) ≡ true
-  specs_end no_declr [] k fits there ended = stops_specs (kind_at k) ended
-  specs_end no_declr (a ∷ attrs) k fits there ended = absurd there
-  specs_end (some_declr d) attrs k fits there ended = by_name (is_named d) refl
+  specs_end : (d : SomeDeclr) (attrs : List Attr) (s t : HeldScopes) (k : List Lexeme) → IsSomeDeclr all d → IsParamEnd d attrs → some_declr_scopes (Some Value) d s ≡ Some t → ends_param (kind_at k) ≡ true →
+      ends_specs (kind_at (some_declr_text all d (attrs_text all attrs k))) ≡ true
+  specs_end no_declr [] s t k fits there named ended = stops_specs (kind_at k) ended
+  specs_end no_declr (a ∷ attrs) s t k fits there named ended = absurd there
+  specs_end (some_declr d) attrs s t k fits there named ended = by_name (is_named d) refl
     where
       by_name : (b : Bool) → is_named d ≡ b → ends_specs (kind_at (declr_text all d (attrs_text all attrs k))) ≡ true
       by_name true is = named_ends_specs (kind_at (declr_text all d (attrs_text all attrs k))) (firsts.named_begins d (attrs_text all attrs k) fits is)
+          (firsts.named_base d (attrs_text all attrs k) fits is ∙ no_base (Some Value) refl d s t named)
       by_name false is = abstract_ends_specs (kind_at (declr_text all d (attrs_text all attrs k))) (firsts.abstract_begins d (attrs_text all attrs k) fits is)
 
   -- behind the declarator of a parameter
@@ -242,11 +262,11 @@ module _ (all : List Lexeme) (numbered : IsNumbered all) (tokens : TokenLaws all
       let high : 1 ≤ specs_height ws = specs_high ws in
       let same : s' ≡ release Value a.0 = sym (some_is a.2) in
       let inside : some_declr_scopes (Some Value) d c.0 ≡ Some a.0 = ap (some_declr_scopes (Some Value) d) shows.1 ∙ b.2 in
-      let words = words_complete known rest room less s c.0 (some_declr_text all d (attrs_text all attrs k)) (subst IsMix (sym split.are) fits.0) (split.mix fits.0) (split.fits fits.1) (split.named s ∙ c.1)
-      (subst (λ (us : SpecWords). specs_height us + 1 ≤ room) (sym split.are) (omega (arith, low))) (specs_end d attrs k fits.2 fits.4 ended) in
-      let declr = laws.declrs.complete Either (Some Value) false (room - 1) (omega (arith, less, low)) d c.0 a.0 (attrs_text all attrs k) (fits.2, shows.0) inside (omega (arith, low)) (declr_end d attrs k fits.4 ended) in
+      let words = words_complete known rest room less s c.0 (some_declr_text all d (attrs_text all attrs k)) (subst IsMix (sym split.are) fits.0) (split.mix fits.0) (split.fits fits.1) (split.plain fits.2) (split.named s ∙ c.1)
+      (subst (λ (us : SpecWords). specs_height us + 1 ≤ room) (sym split.are) (omega (arith, low))) (specs_end d attrs c.0 a.0 k fits.3 fits.5 inside ended) in
+      let declr = laws.declrs.complete Either (Some Value) false (room - 1) (omega (arith, less, low)) refl d c.0 a.0 (attrs_text all attrs k) (fits.3, shows.0) (inr fits.6) inside (omega (arith, low)) (declr_end d attrs k fits.5 ended) in
       let end_low : least_with attrs ≤ room = low_lead attrs room (max (specs_height ws) (some_declr_height d)) (omega (arith, low)) (omega (arith, high)) in
-      let last = attrs_complete d attrs room (release Value a.0) k fits.3 fits.4 end_low ended in
+      let last = attrs_complete d attrs room (release Value a.0) k fits.4 fits.5 end_low ended in
       bind_is _ words (bind_is _ declr (bind_is _ last (ap (λ (us : SpecWords). done (found (record { words = us; declr = d; attrs = attrs }) (release Value a.0) k)) split.are
       ∙ ap (λ (u : HeldScopes). done (found (record { words = ws; declr = d; attrs = attrs }) u k)) (sym same))))
 

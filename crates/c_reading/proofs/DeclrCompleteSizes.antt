@@ -5,7 +5,7 @@ use Rattle.c_words.specs.declared.kinds.TokenKind.TheVariants as kinds
 use Rattle.c_words.specs.declared.kinds.Punct.{Punct}
 use Rattle.c_words.specs.declared.kinds.Punct.TheVariants as puncts
 use Rattle.c_tree.specs.declared.lexeme.Lexeme.{Lexeme}
-use Rattle.c_tree.specs.Tree.{Expr, operation, cast, prefix, sizeof_value, sizeof_type, extension, index, call, dot, arrow, post, compound, name_use, number_use, char_use, text_use, paren, statement_expr, va_arg, va_start, va_copy, offset, SomeSize, no_size, some_size, size_value, size_star}
+use Rattle.c_tree.specs.Tree.{Expr, operation, cast, prefix, sizeof_value, sizeof_type, extension, index, call, dot, arrow, post, compound, name_use, number_use, char_use, text_use, paren, statement_expr, va_arg, va_start, va_copy, offset, complex_part, label_use, compat, choose, generic, SomeSize, no_size, some_size, size_value, size_star}
 use Rattle.c_tree.specs.Text.{sign_text, operator_text, expr_text, some_size_text}
 use Rattle.c_tree.specs.Height.{some_size_height}
 use Rattle.c_tree.specs.Levels.{expr_level}
@@ -57,6 +57,11 @@ module _ (all : List Lexeme) where
   high_no_star (va_start keyword opening e separator e2 closing) k fits high = refl
   high_no_star (va_copy keyword opening e separator e2 closing) k fits high = refl
   high_no_star (offset keyword opening ws d separator name steps closing) k fits high = refl
+  high_no_star (complex_part token e) k fits high = refl
+  high_no_star (label_use token name) k fits high = refl
+  high_no_star (compat keyword opening ws d separator ws2 d2 closing) k fits high = refl
+  high_no_star (choose keyword opening e separator e2 separator2 e3 closing) k fits high = refl
+  high_no_star (generic keyword opening e items closing) k fits high = refl
 
   -- an expression that begins with a star has it as the first operand's
   pub record Starred (e : Expr) (k : List Lexeme) : Type 0 where

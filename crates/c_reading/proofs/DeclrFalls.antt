@@ -3,24 +3,28 @@ use Rattle.std.proofs.Common.{◌≡◌, ℕ, suc, ◌<◌, ◌≤◌, Bool, tru
 use Rattle.std.specs.Prelude.{◌-◌, ◌&&◌, if◌then◌else◌}
 use Rattle.c_tree.specs.declared.lexeme.Lexeme.{Lexeme}
 use Rattle.c_syntax.specs.declared.parts.Attr.{Attr}
-use Rattle.c_tree.specs.Tree.{SpecWords, no_words, more_words, Declr, SomeDeclr, no_declr}
+use Rattle.c_tree.specs.Tree.{SpecWords, no_words, more_words, Declr, SomeDeclr, no_declr, some_declr}
 use Rattle.c_tree.specs.Height.{some_declr_height}
 use Rattle.typedef_scope.specs.declared.kind.Kind.{Kind}
 use Rattle.c_units.specs.HeldScopes.{HeldScopes}
 use Rattle.c_units.specs.Scoping.{at_name}
-use Rattle.c_reading.specs.declared.kinds.Role.TheVariants.{Declaring}
+use Rattle.c_reading.specs.declared.kinds.Role.TheVariants.{Typed}
 use Rattle.c_reading.specs.declared.kinds.Mode.{Mode}
 use Rattle.c_reading.specs.declared.kinds.Mode.TheVariants.{Named, Abstract, Either}
 use Rattle.c_reading.specs.Reading.{Found, Reader, fits, kind_at, run, listed, comma_turn, Next}
 use Rattle.c_reading.specs.Tokens.{is_open_paren, is_close_paren, is_open_bracket, is_close_bracket, is_star, is_dots, spelled_name}
 use Rattle.c_reading.specs.Parts.{Inner, Declared}
-use Rattle.c_reading.specs.Declaring.{takes_name, star_size, size_with, array_with, param_words, param_attrs, takes_attrs, param_with, next_param, params_with, are_none, prototype_with, params_behind, room_at, suffix_turn, paren_with, named_paren, opens_params, opens_declr, opened_by, opened_with, some_paren, absent, name_held, name_or_none, core_with, direct_with, pointer_with, declr_with, type_name_with, words_of_quals, words_of_attrs}
+use Rattle.c_reading.specs.Declaring.{takes_name, star_size, size_with, array_with, param_words, param_attrs, takes_attrs, param_with, next_param, params_with, are_none, prototype_with, is_identifier, begins_identifiers, identifier_at, next_name, names_list, identifiers_of, identifiers_with, list_behind, is_bare, names_base, base_named, params_behind, room_at, suffix_turn, paren_with, named_paren, opens_params, opens_declr, opened_by, opened_with, some_paren, absent, name_held, name_or_none, core_with, direct_with, pointer_with, declr_with, type_name_with, words_of_quals, words_of_attrs}
 use Rattle.c_reading.proofs.Binding.{done, ok_is, bind_ok, fits_ok, if_ok, take_falls, token_falls}
 use Rattle.c_reading.proofs.Loops.{TurnShrinks, run-keep}
-use Rattle.c_reading.proofs.Forms.{Falls, Shrinks}
-use Rattle.c_reading.proofs.Commas.{comma_turn_shrinks}
+use Rattle.c_reading.proofs.Forms.{Falls, Shrinks, name_falls}
+use Rattle.c_reading.proofs.Commas.{comma_turn_shrinks, listed_shrinks}
 use Rattle.c_reading.proofs.Shared.{present_ok, specs_here_shrinks}
 use Rattle.c_reading.proofs.Aims.{Laws, TokenLaws}
+
+pub identifier_shrinks : Shrinks identifier_at
+identifier_shrinks s ts x e =
+    if_ok (is_identifier s (spelled_name (kind_at ts))) e (λ is e. omega (arith, name_falls s ts x e)) (λ is e. absurd cc)
 
 module _ (all : List Lexeme) (tokens : TokenLaws all) (n : ℕ) (inner : Inner) (laws : Laws all n inner) where
   end_is : {A : Type 0} {x y : Found A} → done x ≡ done y → length x.rest ≡ length y.rest
@@ -59,8 +63,8 @@ module _ (all : List Lexeme) (tokens : TokenLaws all) (n : ℕ) (inner : Inner) 
       if_ok (takes_attrs d) e (λ is e. tokens.attrs_falls room s ts x e) (λ is e. omega (arith, end_is e))
 
   param_words_falls : (known : SpecWords) (room : ℕ) → Falls (param_words inner known room)
-  param_words_falls no_words room s ts x e = omega (arith, specs_here_shrinks all n inner laws room s ts x e)
-  param_words_falls (more_words w ws) room s ts x e = laws.words.falls Declaring (more_words w ws) (room - 1) s ts x e
+  param_words_falls no_words room s ts x e = omega (arith, specs_here_shrinks all n inner laws Typed room s ts x e)
+  param_words_falls (more_words w ws) room s ts x e = laws.words.falls Typed (more_words w ws) (room - 1) s ts x e
 
   pub param_falls : (known : SpecWords) (room : ℕ) → Falls (param_with inner known room)
   unfolding param_with
@@ -76,7 +80,7 @@ module _ (all : List Lexeme) (tokens : TokenLaws all) (n : ℕ) (inner : Inner) 
       let a = bind_ok e in
       let b = bind_ok a.2 in
       let c = bind_ok b.2 in
-      omega (arith, specs_here_shrinks all n inner laws room _ _ _ a.1, laws.declrs.falls _ _ _ _ _ _ _ b.1, param_attrs_falls b.0.tree.declr room _ _ _ c.1, end_is c.2)
+      omega (arith, specs_here_shrinks all n inner laws Typed room _ _ _ a.1, laws.declrs.falls _ _ _ _ _ _ _ b.1, param_attrs_falls b.0.tree.declr room _ _ _ c.1, end_is c.2)
 
   pub next_param_falls : (room comma : ℕ) → Falls (next_param inner room comma)
   unfolding next_param
@@ -109,6 +113,31 @@ module _ (all : List Lexeme) (tokens : TokenLaws all) (n : ℕ) (inner : Inner) 
       let b = bind_ok a.2 in
       omega (arith, params_falls lead (room - 1) _ _ _ a.1, token_falls is_close_paren _ _ _ b.1, end_is b.2)
 
+  next_name_falls : (token : ℕ) → Falls (next_name identifier_at token)
+  next_name_falls token s ts x e = let a = bind_ok e in omega (arith, identifier_shrinks s ts a.0 a.1, end_is a.2)
+
+  pub names_shrink : Shrinks (names_list identifier_at)
+  unfolding names_list
+  names_shrink s ts x e =
+      let a = bind_ok e in
+      omega (arith, listed_shrinks identifier_at (next_name identifier_at) next_name_falls identifier_shrinks _ _ _ a.1, end_is a.2)
+
+  identifiers_shrink : (d : Declr) (opening : ℕ) → Shrinks (identifiers_with inner d opening)
+  unfolding identifiers_with
+  identifiers_shrink d opening s ts x e =
+      let a = bind_ok e in
+      let b = bind_ok a.2 in
+      omega (arith, names_shrink _ _ _ a.1, token_falls is_close_paren _ _ _ b.1, end_is b.2)
+
+  -- identifiers or parameters
+  list_shrinks : (identified : Bool) (d : Declared) (opening room : ℕ) → Shrinks (list_behind inner identified d opening room)
+  list_shrinks true d opening room s ts x e = by_declr d.declr e
+    where
+      by_declr : (inside : SomeDeclr) → identifiers_of inside (λ inside. identifiers_with inner inside opening s ts) (prototype_with inner d opening [] room s ts) ≡ done x → length x.rest < length ts
+      by_declr no_declr e = prototype_shrinks d opening [] room s ts x e
+      by_declr (some_declr inside) e = identifiers_shrink inside opening s ts x e
+  list_shrinks false d opening room s ts x e = prototype_shrinks d opening [] room s ts x e
+
   pub suffix_shrinks : (flag : Bool) (room : ℕ) → TurnShrinks (suffix_turn inner flag room)
   suffix_shrinks flag room d s ts x e =
       by_bracket (is_open_bracket (kind_at ts)) e
@@ -116,15 +145,15 @@ module _ (all : List Lexeme) (tokens : TokenLaws all) (n : ℕ) (inner : Inner) 
       some_is : {A : Type 0} {x y : A} → Some x ≡ Some y → x ≡ y
       some_is e = cc
 
-      by_paren : (b : Bool) → (if b then Some (fits (suc (some_declr_height d.declr)) (room_at flag room d (kind_at ts)) ts (params_behind inner d (room_at flag room d (kind_at ts)) s ts)) else None) ≡ Some (done x) → length x.rest < length ts
+      by_paren : (b : Bool) → (if b then Some (fits (suc (some_declr_height d.declr)) (room_at flag room d (kind_at ts)) ts (params_behind inner flag d (room_at flag room d (kind_at ts)) s ts)) else None) ≡ Some (done x) → length x.rest < length ts
       by_paren true e =
           let r = fits_ok (suc (some_declr_height d.declr)) (room_at flag room d (kind_at ts)) ts (some_is e) in
           let a = bind_ok r.1 in
-          omega (arith, take_falls _ _ _ a.1, prototype_shrinks d a.0.tree [] (room_at flag room d (kind_at ts)) _ _ _ a.2)
+          omega (arith, take_falls _ _ _ a.1, list_shrinks (flag && is_bare d.declr && begins_identifiers a.0.scopes (kind_at a.0.rest)) d a.0.tree (room_at flag room d (kind_at ts)) _ _ _ a.2)
       by_paren false e = absurd cc
 
       by_bracket : (b : Bool) → (if b then Some (fits (suc (some_declr_height d.declr)) (room_at flag room d (kind_at ts)) ts (array_with inner d (room_at flag room d (kind_at ts)) s ts))
-          else if is_open_paren (kind_at ts) then Some (fits (suc (some_declr_height d.declr)) (room_at flag room d (kind_at ts)) ts (params_behind inner d (room_at flag room d (kind_at ts)) s ts)) else None) ≡ Some (done x) → length x.rest < length ts
+          else if is_open_paren (kind_at ts) then Some (fits (suc (some_declr_height d.declr)) (room_at flag room d (kind_at ts)) ts (params_behind inner flag d (room_at flag room d (kind_at ts)) s ts)) else None) ≡ Some (done x) → length x.rest < length ts
       by_bracket true e =
           let r = fits_ok (suc (some_declr_height d.declr)) (room_at flag room d (kind_at ts)) ts (some_is e) in
           array_shrinks d (room_at flag room d (kind_at ts)) s ts x r.1
@@ -169,7 +198,7 @@ module _ (all : List Lexeme) (tokens : TokenLaws all) (n : ℕ) (inner : Inner) 
   some_paren_shrinks Abstract wanted flag room s ts x e = opened_shrinks Abstract wanted flag room s ts x e
   some_paren_shrinks Either wanted flag room s ts x e = opened_shrinks Either wanted flag room s ts x e
 
-  name_held_shrinks : (name room : ℕ) (held : Option HeldScopes) (s : HeldScopes) (ts : List Lexeme) (x : Found Declared) → name_held name room held s ts ≡ done x → length x.rest < length ts
+  pub name_held_shrinks : (name room : ℕ) (held : Option HeldScopes) (s : HeldScopes) (ts : List Lexeme) (x : Found Declared) → name_held name room held s ts ≡ done x → length x.rest < length ts
   name_held_shrinks name room None s ts x e = absurd cc
   name_held_shrinks name room (Some held) s ts x e =
       let r = fits_ok 1 room ts e in
@@ -188,12 +217,20 @@ module _ (all : List Lexeme) (tokens : TokenLaws all) (n : ℕ) (inner : Inner) 
       (λ is e. omega (arith, name_held_shrinks name room (at_name wanted name s) s ts x e))
       (λ is e. absent_falls mode s ts x e)
 
+  base_shrinks : (room : ℕ) → Shrinks (base_named room)
+  base_shrinks room s ts x e =
+      let r = fits_ok 1 room ts e in
+      let a = bind_ok r.1 in
+      omega (arith, take_falls _ _ _ a.1, end_is a.2)
+
   core_falls : (mode : Mode) (wanted : Option Kind) (flag : Bool) (room : ℕ) → Falls (core_with inner mode wanted flag room)
   unfolding core_with
   core_falls mode wanted flag room s ts x e =
       if_ok (is_open_paren (kind_at ts)) e
       (λ is e. omega (arith, some_paren_shrinks mode wanted flag room s ts x e))
-      (λ is e. name_falls_by mode wanted (spelled_name (kind_at ts)) room s ts x e)
+      (λ is e. if_ok (names_base s mode wanted (kind_at ts)) e
+      (λ is e. omega (arith, base_shrinks room s ts x e))
+      (λ is e. name_falls_by mode wanted (spelled_name (kind_at ts)) room s ts x e))
 
   -- a name must come: something is taken
   core_shrinks : (wanted : Option Kind) (flag : Bool) (room : ℕ) → Shrinks (core_with inner Named wanted flag room)
@@ -201,7 +238,9 @@ module _ (all : List Lexeme) (tokens : TokenLaws all) (n : ℕ) (inner : Inner) 
   core_shrinks wanted flag room s ts x e =
       if_ok (is_open_paren (kind_at ts)) e
       (λ is e. named_paren_shrinks wanted flag room s ts x e)
-      (λ is e. by_name (spelled_name (kind_at ts)) e)
+      (λ is e. if_ok (names_base s Named wanted (kind_at ts)) e
+      (λ is e. base_shrinks room s ts x e)
+      (λ is e. by_name (spelled_name (kind_at ts)) e))
     where
       by_name : (o : Option ℕ) → name_or_none inner Named wanted o room s ts ≡ done x → length x.rest < length ts
       by_name None e = absurd cc

@@ -5,7 +5,7 @@ use Rattle.c_tree.specs.declared.lexeme.Lexeme.{Lexeme}
 use Rattle.c_tree.specs.Tree.{Dots, Params, no_params, more_params}
 use Rattle.c_tree.specs.Text.{separated, params_text, other_params_text, dots_text, spec_words_text, some_declr_text, attrs_text}
 use Rattle.c_tree.specs.Height.{params_height}
-use Rattle.c_tree.specs.WellFormed.{AreParams, IsEllipsis, IsQual}
+use Rattle.c_tree.specs.WellFormed.{AreParams, IsEllipsis, IsWordQual}
 use Rattle.typedef_scope.specs.declared.kind.Kind.TheVariants.{Value}
 use Rattle.c_units.specs.HeldScopes.{HeldScopes, release}
 use Rattle.c_units.specs.Scoping.{behind, where_true, spec_words_scopes, some_declr_scopes, some_shows_no_type, params_scopes}
@@ -27,7 +27,7 @@ params_back (more_params ws d attrs ps) = ap (more_params ws d attrs) (params_ba
 module _ (all : List Lexeme) where
   -- qualifiers and dots behind a comma
   abbrev pub dots_ending : Ending Dots
-  dots_ending = record { text = λ d k. dots_text all (Some d) k; Fits = λ d. All (IsQual all) d.quals }
+  dots_ending = record { text = λ d k. dots_text all (Some d) k; Fits = λ d. All (IsWordQual all) d.quals }
 
   other_params_are : (xs : List ParamItem) (k : List Lexeme) → others_text (param_form all) dots_ending xs k ≡ other_params_text all (params_from xs) k
   other_params_are [] k = refl
@@ -43,11 +43,11 @@ module _ (all : List Lexeme) where
 
   pub params_fit : (xs : List ParamItem) → AllFit (param_form all) xs → AreParams all (params_from xs)
   params_fit [] h = tt
-  params_fit (x ∷ xs) h = (h.0.0, h.0.1, h.0.2, h.0.3, h.0.4, params_fit xs h.1)
+  params_fit (x ∷ xs) h = (h.0.0, h.0.1, h.0.2, h.0.3, h.0.4, h.0.5, params_fit xs h.1, h.0.6)
 
   pub params_fit_back : (ps : Params) → AreParams all ps → AllFit (param_form all) (params_items ps)
   params_fit_back no_params h = tt
-  params_fit_back (more_params ws d attrs ps) h = ((h.0, h.1, h.2, h.3, h.4), params_fit_back ps h.5)
+  params_fit_back (more_params ws d attrs ps) h = ((h.0, h.1, h.2, h.3, h.4, h.5, h.7), params_fit_back ps h.6)
 
   pub ellipsis_fits : (xs : List ParamItem) (o : Option Dots) → HasItem (param_form all) dots_ending xs → EndingFits (param_form all) dots_ending o → IsEllipsis all (params_from xs) o
   ellipsis_fits xs None some h = tt

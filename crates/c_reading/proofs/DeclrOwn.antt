@@ -4,10 +4,11 @@ use Rattle.std.specs.Prelude.{is_some, option_map, if◌then◌else◌}
 use Rattle.c_syntax.specs.declared.parts.Attr.{Attr}
 use Rattle.c_syntax.specs.declared.parts.PointerWord.{PointerWord}
 use Rattle.c_syntax.specs.declared.parts.ArrayWord.{ArrayWord}
-use Rattle.c_tree.specs.Tree.{Dots, Declr, pointer, declr_name, declr_paren, array, params, abs_pointer, abs_paren, abs_array, abs_params, SomeDeclr, no_declr, some_declr, SomeSize, Params}
-use Rattle.c_tree.specs.WellFormed.{is_named}
+use Rattle.c_tree.specs.Tree.{Dots, Declr, pointer, declr_name, declr_paren, array, params, abs_pointer, abs_paren, abs_array, abs_params, identifiers, base_name, no_params, SomeDeclr, no_declr, some_declr, SomeSize, Params}
+use Rattle.c_tree.specs.WellFormed.{is_named, is_bare_name}
+use Rattle.c_syntax.specs.declared.parts.Identifier.{Identifier}
 use Rattle.typedef_scope.specs.declared.kind.Kind.{Kind}
-use Rattle.c_units.specs.HeldScopes.{HeldScopes, enter, innermost}
+use Rattle.c_units.specs.HeldScopes.{HeldScopes, enter, innermost, new_scope, is_wide}
 use Rattle.c_units.specs.Scoping.{at_name, declr_scopes, some_declr_scopes, params_scopes}
 use Rattle.c_units.specs.Units.{OwnParams, bare_name, own_params, or_those_of}
 use Rattle.c_reading.specs.Declaring.{with_pointer, with_paren, with_array, with_params, closed_by}
@@ -22,6 +23,8 @@ own_none (declr_name token name) e = absurd cc
 own_none (declr_paren opening attrs d closing) e = absurd cc
 own_none (array d opening words size closing) e = absurd cc
 own_none (params d opening ps dots closing) e = absurd cc
+own_none (identifiers d opening names closing) e = absurd cc
+own_none (base_name token) e = absurd cc
 own_none (abs_pointer sign words d) e = refl
 own_none (abs_paren opening attrs d closing) e = refl
 own_none (abs_array d opening words size closing) e = refl
@@ -33,6 +36,8 @@ bare_none (declr_name token name) e = absurd cc
 bare_none (declr_paren opening attrs d closing) e = absurd cc
 bare_none (array d opening words size closing) e = absurd cc
 bare_none (params d opening ps dots closing) e = absurd cc
+bare_none (identifiers d opening names closing) e = absurd cc
+bare_none (base_name token) e = absurd cc
 bare_none (abs_pointer sign words d) e = refl
 bare_none (abs_paren opening attrs d closing) e = refl
 bare_none (abs_array d opening words size closing) e = refl
@@ -86,6 +91,8 @@ bare_scopes wanted (declr_name token n) name s e = ap (λ (m : ℕ). at_name wan
 bare_scopes wanted (declr_paren opening attrs d closing) name s e = bare_scopes wanted d name s e
 bare_scopes wanted (array d opening words size closing) name s e = absurd cc
 bare_scopes wanted (params d opening ps dots closing) name s e = absurd cc
+bare_scopes wanted (identifiers d opening names closing) name s e = absurd cc
+bare_scopes wanted (base_name token) name s e = absurd cc
 bare_scopes wanted (abs_pointer sign words d) name s e = absurd cc
 bare_scopes wanted (abs_paren opening attrs d closing) name s e = absurd cc
 bare_scopes wanted (abs_array d opening words size closing) name s e = absurd cc
@@ -108,3 +115,35 @@ closed_with_params wanted d opening ps dots closing s t u named inside =
         closed_by d (innermost u) (closed_of wanted d s) ≡ option_map innermost (own_scope_in wanted (or_those_of (some_bare d) ps (some_own_params d)) s)
     by_bare no_declr named = refl
     by_bare (some_declr d) named = by_name d (bare_name d) refl named
+
+-- behind a list of identifiers, the scope of the declarations has no names yet
+pub closed_with_identifiers : (wanted : Option Kind) (d : Declr) (opening : ℕ) (names : List Identifier) (closing : ℕ) (s t : HeldScopes) → is_some (bare_name d) ≡ true → declr_scopes wanted d s ≡ Some t →
+    Some (new_scope (is_wide t)) ≡ closed_of wanted (some_declr (identifiers d opening names closing)) s
+closed_with_identifiers wanted d opening names closing s t bare named = by_name (bare_name d) refl bare
+  where
+    by_name : (o : Option ℕ) → bare_name d ≡ o → is_some o ≡ true → Some (new_scope (is_wide t)) ≡ option_map innermost (own_scope_in wanted (or_those_of o no_params (own_params d)) s)
+    by_name None is bare = absurd cc
+    by_name (Some name) is bare =
+        let at : at_name wanted name s ≡ Some t = sym (bare_scopes wanted d name s is) ∙ named in
+        sym (ap (option_map innermost) (behind_is (λ (t : HeldScopes). params_scopes no_params (enter t)) at refl))
+
+-- a bare declarator is a name, parentheses aside
+pub bare_is : (d : Declr) → is_some (bare_name d) ≡ true → is_bare_name d ≡ true
+bare_is (pointer sign words d) e = absurd cc
+bare_is (declr_name token n) e = refl
+bare_is (declr_paren opening attrs d closing) e = bare_is d e
+bare_is (array d opening words size closing) e = absurd cc
+bare_is (params d opening ps dots closing) e = absurd cc
+bare_is (identifiers d opening names closing) e = absurd cc
+bare_is (base_name token) e = absurd cc
+bare_is (abs_pointer sign words d) e = absurd cc
+bare_is (abs_paren opening attrs d closing) e = absurd cc
+bare_is (abs_array d opening words size closing) e = absurd cc
+bare_is (abs_params d opening ps dots closing) e = absurd cc
+
+pub bare_named : (d : Declr) → is_some (bare_name d) ≡ true → is_named d ≡ true
+bare_named d bare = by_named (is_named d) refl
+  where
+    by_named : (b : Bool) → is_named d ≡ b → b ≡ true
+    by_named true is = refl
+    by_named false is = let none = bare_none d is in absurd cc

@@ -7,10 +7,10 @@ use Rattle.c_words.specs.declared.kinds.Keyword.TheVariants as keywords
 use Rattle.c_words.specs.declared.kinds.Punct.TheVariants as puncts
 use Rattle.c_tree.specs.declared.lexeme.Lexeme.{Lexeme}
 use Rattle.c_syntax.specs.declared.parts.PointerWord.{PointerWord}
-use Rattle.c_tree.specs.Tree.{SpecWords, no_words, Declr, pointer, declr_name, declr_paren, array, params, abs_pointer, abs_paren, abs_array, abs_params, SomeDeclr, no_declr, some_declr}
+use Rattle.c_tree.specs.Tree.{SpecWords, no_words, Declr, pointer, declr_name, declr_paren, array, params, abs_pointer, abs_paren, abs_array, abs_params, identifiers, base_name, SomeDeclr, no_declr, some_declr}
 use Rattle.c_tree.specs.Text.{sign_text, pointer_words_text, spec_words_text, declr_text, some_declr_text}
 use Rattle.c_tree.specs.Height.{pointer_words_height, declr_height, some_declr_height, specs_height}
-use Rattle.c_tree.specs.WellFormed.{IsPointerWord, IsDeclr, IsSomeAbstract, AreTypeWords, is_named, is_direct, ends_starred}
+use Rattle.c_tree.specs.WellFormed.{IsPointerWord, IsDeclr, IsSomeAbstract, AreTypeWords, is_named, is_direct, ends_starred, lists_identifiers, some_lists_identifiers}
 use Rattle.c_specs.specs.Laws.{MixesGoOn}
 use Rattle.typedef_scope.specs.declared.kind.Kind.{Kind}
 use Rattle.c_units.specs.HeldScopes.{HeldScopes, HeldScope, innermost}
@@ -22,7 +22,7 @@ use Rattle.c_reading.specs.declared.kinds.Mode.TheVariants.{Named, Abstract, Eit
 use Rattle.c_reading.specs.Reading.{IsNumbered, Found, kind_at, run}
 use Rattle.c_reading.specs.Tokens.{is_open_paren, is_open_bracket, is_star, is_attribute, is_made, qual_of, spelled_name, begins_pointer_word, pointer_words_at}
 use Rattle.c_reading.specs.Parts.{Inner, Declared}
-use Rattle.c_reading.specs.Declaring.{takes_name, least_pointer, with_pointer, name_or_none, suffix_turn, core_with, direct_with, pointer_with, declr_with, type_name_with}
+use Rattle.c_reading.specs.Declaring.{names_base, takes_name, least_pointer, with_pointer, name_or_none, suffix_turn, core_with, direct_with, pointer_with, declr_with, type_name_with}
 use Rattle.c_reading.proofs.Binding.{found, done, bind_ok, bind_is, fits_is}
 use Rattle.c_reading.proofs.Loops.{run_ends}
 use Rattle.c_reading.proofs.Forms.{Takes, IsSound, IsComplete, at_end, behind_is, behind_ok}
@@ -31,9 +31,9 @@ use Rattle.c_reading.proofs.Firsts.{no_mix_of_none, first_laws}
 use Rattle.c_reading.proofs.DeclrFalls.{suffix_shrinks, declr_falls, declr_shrinks, type_name_shrinks}
 use Rattle.c_reading.proofs.DeclrSoundParams.{specs_high}
 use Rattle.c_reading.proofs.DeclrOwn.{own_pointer, own_none}
-use Rattle.c_reading.proofs.DeclrSound.{declr_sound}
-use Rattle.c_reading.proofs.DeclrComplete.{named_no_pointer_word, abstract_no_pointer_word, direct_ends, inner_room, inner_number, least_room, some_closed_high, words_least, words_two, all_three, declr_high, mode_fits, direct_on}
-use Rattle.c_reading.proofs.Aims.{least_pointer_words, ends_specs, ends_suffix, ends_none, ends_star, ends_declr, ends_type_name, own_scope_in, closed_of, declared_as, declr_room, declr_number, FitsMode, TakesWords, type_name_form, DeclrLaws, TypeNameLaws, TokenLaws, FirstLaws, Laws}
+use Rattle.c_reading.proofs.DeclrSound.{unnamed_plain, declr_sound}
+use Rattle.c_reading.proofs.DeclrComplete.{named_no_pointer_word, abstract_no_pointer_word, direct_ends, inner_room, inner_number, least_room, some_closed_high, words_least, words_two, all_three, declr_high, mode_fits, bare_direct, direct_on}
+use Rattle.c_reading.proofs.Aims.{least_pointer_words, ends_specs, ends_suffix, ends_none, ends_star, ends_declr, ends_type_name, own_scope_in, closed_of, declared_as, declr_room, declr_number, FitsMode, MayName, TakesWords, type_name_form, DeclrLaws, TypeNameLaws, TokenLaws, FirstLaws, Laws}
 
 module _ (all : List Lexeme) (numbered : IsNumbered all) (tokens : TokenLaws all) (goes : MixesGoOn) (n : ℕ) (inner : Inner) (laws : Laws all n inner) where
   firsts : FirstLaws all
@@ -54,12 +54,17 @@ module _ (all : List Lexeme) (numbered : IsNumbered all) (tokens : TokenLaws all
   no_core Either wanted room s k None fits no_name = refl
   no_core Either wanted room s k (Some name) fits no_name = absurd cc
 
+  no_base_there : (mode : Mode) (wanted : Option Kind) (s : HeldScopes) (kind : TokenKind) → FitsMode all mode no_declr s → names_base s mode wanted kind ≡ false
+  no_base_there Named wanted s kind fits = absurd fits
+  no_base_there Abstract wanted s kind fits = refl
+  no_base_there Either wanted s kind fits = refl
+
   none_complete : (mode : Mode) (wanted : Option Kind) (flag : Bool) (room : ℕ) (s : HeldScopes) (k : List Lexeme) → FitsMode all mode no_declr s → ends_none mode (kind_at k) ≡ true →
       declr_with inner mode wanted flag room s k ≡ done (found (declared_as wanted no_declr s) s k)
   unfolding declr_with direct_with core_with
   none_complete mode wanted flag room s k fits ended =
       let e = all_three (ends_suffix (kind_at k)) (not (is_star (kind_at k))) (not (takes_name mode && is_some (spelled_name (kind_at k)))) ended in
-      rw (not_true e.1) (rw (not_true (both_left (not (is_open_paren (kind_at k))) (not (is_open_bracket (kind_at k))) e.0))
+      rw (not_true e.1) (rw (not_true (both_left (not (is_open_paren (kind_at k))) (not (is_open_bracket (kind_at k))) e.0), no_base_there mode wanted s (kind_at k) fits)
       (bind_is _ (no_core mode wanted room s k (spelled_name (kind_at k)) fits (not_true e.2)) (loop_ends flag room (declared_as wanted no_declr s) s k e.0)))
 
   -- a pointer
@@ -75,11 +80,11 @@ module _ (all : List Lexeme) (numbered : IsNumbered all) (tokens : TokenLaws all
   pointer_two Abstract = omega arith
   pointer_two Either = omega arith
 
-  pointer_complete : (mode : Mode) (wanted : Option Kind) (flag : Bool) (room : ℕ) → declr_number flag room < suc n → (token : ℕ) (words : List PointerWord) (d : SomeDeclr) (s s' : HeldScopes) (k : List Lexeme) → All (IsPointerWord all) words → FitsMode all mode d s →
+  pointer_complete : (mode : Mode) (wanted : Option Kind) (flag : Bool) (room : ℕ) → declr_number flag room < suc n → MayName all mode wanted → (token : ℕ) (words : List PointerWord) (d : SomeDeclr) (s s' : HeldScopes) (k : List Lexeme) → All (IsPointerWord all) words → FitsMode all mode d s → (flag ≡ true) ⊎ (some_lists_identifiers d ≡ false) →
       some_declr_scopes wanted d s ≡ Some s' → max (pointer_words_height words) (some_declr_height d) + 1 ≤ declr_room flag (closed_of wanted d s) room → begins_pointer_word (kind_at (some_declr_text all d k)) ≡ false → ends_declr mode d (kind_at k) ≡ true →
       pointer_with inner mode wanted flag room s (sign_text puncts.Star token (pointer_words_text all words (some_declr_text all d k))) ≡ done (found (declared_as wanted (some_declr (with_pointer token words d)) s) s' k)
   unfolding pointer_with
-  pointer_complete mode wanted flag room less token words d s s' k words_fit fits named low no_word ended =
+  pointer_complete mode wanted flag room less may token words d s s' k words_fit fits plain named low no_word ended =
       fits_is (least_pointer mode) room (sign_text puncts.Star token (pointer_words_text all words (some_declr_text all d k))) _ enough ∙ bind_is _ refl (bind_is _ read (bind_is _ inside
       (ap (λ (o : Option OwnParams). done (found (record { declr = some_declr (with_pointer token words d); closed = option_map innermost (own_scope_in wanted o s) }) s' k)) (sym (own_pointer token words d)))))
     where
@@ -107,7 +112,7 @@ module _ (all : List Lexeme) (numbered : IsNumbered all) (tokens : TokenLaws all
       read = tokens.pointer_words_complete room words s s (some_declr_text all d k) words_fit refl words_room (not_false no_word)
 
       inside : inner.declr mode wanted flag (room - 1) s (some_declr_text all d k) ≡ done (found (declared_as wanted d s) s' k)
-      inside = laws.declrs.complete mode wanted flag (room - 1) (inner_number flag room n less least) d s s' k fits named (inner_room flag (closed_of wanted d s) room (some_declr_height d) (pointer_words_height words) low least) ended
+      inside = laws.declrs.complete mode wanted flag (room - 1) (inner_number flag room n less least) may d s s' k fits plain named (inner_room flag (closed_of wanted d s) room (some_declr_height d) (pointer_words_height words) low least) ended
 
   -- the first token of a direct declarator is no star
   direct_no_star : (d : Declr) (k : List Lexeme) → IsDeclr all d → is_direct d ≡ true → is_star (kind_at (declr_text all d k)) ≡ false
@@ -116,6 +121,8 @@ module _ (all : List Lexeme) (numbered : IsNumbered all) (tokens : TokenLaws all
   direct_no_star (declr_paren opening attrs d closing) k fits direct = refl
   direct_no_star (array d opening words size closing) k fits direct = direct_no_star d _ fits.0 fits.2
   direct_no_star (params d opening ps dots closing) k fits direct = direct_no_star d _ fits.0 fits.2
+  direct_no_star (identifiers d opening names closing) k fits direct = direct_no_star d _ fits.0 (bare_direct all d fits.1)
+  direct_no_star (base_name token) k fits direct = refl
   direct_no_star (abs_pointer star words d) k fits direct = absurd cc
   direct_no_star (abs_paren opening attrs d closing) k fits direct = refl
   direct_no_star (abs_array no_declr opening words size closing) k fits direct = refl
@@ -123,13 +130,13 @@ module _ (all : List Lexeme) (numbered : IsNumbered all) (tokens : TokenLaws all
   direct_no_star (abs_params no_declr opening ps dots closing) k fits direct = refl
   direct_no_star (abs_params (some_declr d) opening ps dots closing) k fits direct = direct_no_star d _ fits.0.0 fits.0.2
 
-  direct_complete : (mode : Mode) (wanted : Option Kind) (flag : Bool) (room : ℕ) → declr_number flag room < suc n → (d : Declr) (s s' : HeldScopes) (k : List Lexeme) → is_direct d ≡ true → FitsMode all mode (some_declr d) s → declr_scopes wanted d s ≡ Some s' →
+  direct_complete : (mode : Mode) (wanted : Option Kind) (flag : Bool) (room : ℕ) → declr_number flag room < suc n → MayName all mode wanted → (d : Declr) (s s' : HeldScopes) (k : List Lexeme) → is_direct d ≡ true → FitsMode all mode (some_declr d) s → (flag ≡ true) ⊎ (lists_identifiers d ≡ false) → declr_scopes wanted d s ≡ Some s' →
       declr_height d ≤ declr_room flag (closed_of wanted (some_declr d) s) room → ends_declr mode (some_declr d) (kind_at k) ≡ true → declr_with inner mode wanted flag room s (declr_text all d k) ≡ done (found (declared_as wanted (some_declr d) s) s' k)
   unfolding declr_with
-  direct_complete mode wanted flag room less d s s' k direct fits named low ended =
+  direct_complete mode wanted flag room less may d s s' k direct fits plain named low ended =
       let f = mode_fits all mode d s fits in
       let suffix : ends_suffix (kind_at k) ≡ true = ap (λ (b : Bool). if b then ends_star mode (kind_at k) else ends_suffix (kind_at k)) (sym (direct_ends d direct)) ∙ ended in
-      rw (direct_no_star d k f.0 direct) (direct_on all numbered tokens goes n inner laws mode wanted flag room less d s s' k f.0 direct f.1 f.2 named low ∙ loop_ends flag room (declared_as wanted (some_declr d) s) s' k suffix)
+      rw (direct_no_star d k f.0 direct) (direct_on all numbered tokens goes n inner laws mode wanted flag room less may d s s' k f.0 direct f.1 f.2 plain named low ∙ loop_ends flag room (declared_as wanted (some_declr d) s) s' k suffix)
 
   -- the part of a pointer fits its mode
   named_part : (mode : Mode) (token : ℕ) (words : List PointerWord) (d : Declr) (s : HeldScopes) → FitsMode all mode (some_declr (pointer token words d)) s → All (IsPointerWord all) words × FitsMode all mode (some_declr d) s × (is_named d ≡ true)
@@ -146,34 +153,34 @@ module _ (all : List Lexeme) (numbered : IsNumbered all) (tokens : TokenLaws all
   star_none : (mode : Mode) (kind : TokenKind) → ends_star mode kind ≡ true → (ends_none mode kind ≡ true) × (begins_pointer_word kind ≡ false)
   star_none mode kind e = (both_left (ends_none mode kind) (not (begins_pointer_word kind)) e, not_true (both_right (ends_none mode kind) (not (begins_pointer_word kind)) e))
 
-  declr_complete : (mode : Mode) (wanted : Option Kind) (flag : Bool) (room : ℕ) → declr_number flag room < suc n → (d : SomeDeclr) (s s' : HeldScopes) (k : List Lexeme) → FitsMode all mode d s → some_declr_scopes wanted d s ≡ Some s' →
+  declr_complete : (mode : Mode) (wanted : Option Kind) (flag : Bool) (room : ℕ) → declr_number flag room < suc n → MayName all mode wanted → (d : SomeDeclr) (s s' : HeldScopes) (k : List Lexeme) → FitsMode all mode d s → (flag ≡ true) ⊎ (some_lists_identifiers d ≡ false) → some_declr_scopes wanted d s ≡ Some s' →
       some_declr_height d ≤ declr_room flag (closed_of wanted d s) room → ends_declr mode d (kind_at k) ≡ true → declr_with inner mode wanted flag room s (some_declr_text all d k) ≡ done (found (declared_as wanted d s) s' k)
   unfolding declr_with
-  declr_complete mode wanted flag room less no_declr s s' k fits named low ended =
+  declr_complete mode wanted flag room less may no_declr s s' k fits plain named low ended =
       none_complete mode wanted flag room s k fits ended ∙ ap (λ (o : Option HeldScopes). done (found (declared_as wanted no_declr s) (from o) k)) named
     where
       from : Option HeldScopes → HeldScopes
       from None = s
       from (Some t) = t
-  declr_complete mode wanted flag room less (some_declr (pointer token words d)) s s' k fits named low ended =
+  declr_complete mode wanted flag room less may (some_declr (pointer token words d)) s s' k fits plain named low ended =
       let p = named_part mode token words d s fits in
       let f = mode_fits all mode d s p.1 in
       let begun = firsts.named_begins d k f.0 p.2 in
       let made : with_pointer token words (some_declr d) ≡ pointer token words d = rw p.2 refl in
-      pointer_complete mode wanted flag room less token words (some_declr d) s s' k p.0 p.1 named low (named_no_pointer_word (kind_at (declr_text all d k)) begun) ended
+      pointer_complete mode wanted flag room less may token words (some_declr d) s s' k p.0 p.1 plain named low (named_no_pointer_word (kind_at (declr_text all d k)) begun) ended
       ∙ ap (λ (e : Declr). done (found (declared_as wanted (some_declr e) s) s' k)) made
-  declr_complete mode wanted flag room less (some_declr (abs_pointer token words no_declr)) s s' k fits named low ended =
+  declr_complete mode wanted flag room less may (some_declr (abs_pointer token words no_declr)) s s' k fits plain named low ended =
       let p = abstract_part mode token words no_declr s fits in
       let e = star_none mode (kind_at k) ended in
-      pointer_complete mode wanted flag room less token words no_declr s s' k p.0 p.1 named low e.1 e.0
-  declr_complete mode wanted flag room less (some_declr (abs_pointer token words (some_declr d))) s s' k fits named low ended =
+      pointer_complete mode wanted flag room less may token words no_declr s s' k p.0 p.1 (inr refl) named low e.1 e.0
+  declr_complete mode wanted flag room less may (some_declr (abs_pointer token words (some_declr d))) s s' k fits plain named low ended =
       let p = abstract_part mode token words (some_declr d) s fits in
       let begun = firsts.abstract_begins d k p.2.0 p.2.1 in
       let made : with_pointer token words (some_declr d) ≡ abs_pointer token words (some_declr d) = rw p.2.1 refl in
       let closed : closed_of wanted (some_declr d) s ≡ None = ap (λ (o : Option OwnParams). option_map innermost (own_scope_in wanted o s)) (own_none d p.2.1) in
-      pointer_complete mode wanted flag room less token words (some_declr d) s s' k p.0 p.1 named (rw closed low) (abstract_no_pointer_word (kind_at (declr_text all d k)) begun) ended
+      pointer_complete mode wanted flag room less may token words (some_declr d) s s' k p.0 p.1 (inr (unnamed_plain d p.2.1)) named (rw closed low) (abstract_no_pointer_word (kind_at (declr_text all d k)) begun) ended
       ∙ ap (λ (e : Declr). done (found (declared_as wanted (some_declr e) s) s' k)) made
-  declr_complete mode wanted flag room less (some_declr d) s s' k fits named low ended = direct_complete mode wanted flag room less d s s' k refl fits named low ended
+  declr_complete mode wanted flag room less may (some_declr d) s s' k fits plain named low ended = direct_complete mode wanted flag room less may d s s' k refl fits plain named low ended
 
   pub declr_laws : DeclrLaws all (suc n) (declr_with inner)
   declr_laws = record {
@@ -190,6 +197,9 @@ module _ (all : List Lexeme) (numbered : IsNumbered all) (tokens : TokenLaws all
   specs_no_word (kinds.Keyword keywords.Const) e = absurd cc
   specs_no_word (kinds.Keyword keywords.Volatile) e = absurd cc
   specs_no_word (kinds.Keyword keywords.Restrict) e = absurd cc
+  specs_no_word (kinds.Keyword keywords.Atomic) e = absurd cc
+  specs_no_word (kinds.Keyword keywords.AtomicType) e = absurd cc
+  specs_no_word (kinds.Keyword keywords.Seg) e = absurd cc
   specs_no_word (kinds.Qual lattice elem) e = absurd cc
   specs_no_word kinds.Index e = absurd cc
   specs_no_word kind e = refl
@@ -231,13 +241,17 @@ module _ (all : List Lexeme) (numbered : IsNumbered all) (tokens : TokenLaws all
       by_star true = rw (none, specs_no_word (kind_at k) (both_left (ends_specs (kind_at k)) (ends_none Abstract (kind_at k)) ended)) refl
       by_star false = (all_three (ends_suffix (kind_at k)) _ _ none).0
 
+  abstract_plain : (d : SomeDeclr) → IsSomeAbstract all d → some_lists_identifiers d ≡ false
+  abstract_plain no_declr fits = refl
+  abstract_plain (some_declr d) fits = unnamed_plain d fits.1
+
   type_name_complete : (room : ℕ) → room < suc n → IsComplete (type_name_form all) (λ t. ends_type_name) room (type_name_with inner room)
   unfolding type_name_with
   type_name_complete room less t s s' k fits named low ended =
       let a = behind_ok (spec_words_scopes t.words s) (some_declr_scopes None t.declr) s' named in
       let high : 1 ≤ specs_height t.words = specs_high t.words in
-      let words = laws.words.complete Naming no_words t.words (room - 1) (omega (arith, less, low, high)) s a.0 (some_declr_text all t.declr k) fits.0 fits.1 a.1 (inr (omega (arith, low))) (words_end t.declr k fits.2 ended) in
-      let declr = laws.declrs.complete Abstract None false (room - 1) (omega (arith, less, low, high)) t.declr a.0 s' k fits.2 a.2 (omega (arith, low)) (abstract_end t.declr k ended) in
+      let words = laws.words.complete Naming no_words t.words (room - 1) (omega (arith, less, low, high)) s a.0 (some_declr_text all t.declr k) fits.0 fits.1 a.1 (inr (omega (arith, low))) (inl (words_end t.declr k fits.2 ended)) in
+      let declr = laws.declrs.complete Abstract None false (room - 1) (omega (arith, less, low, high)) refl t.declr a.0 s' k fits.2 (inr (abstract_plain t.declr fits.2)) a.2 (omega (arith, low)) (abstract_end t.declr k ended) in
       bind_is _ words (bind_is _ declr refl)
 
   pub type_name_laws : TypeNameLaws all (suc n) (type_name_with inner)

@@ -1,38 +1,44 @@
 -- What the reader of declarators takes is spelled so and well formed.
 use Rattle.std.proofs.Common.{◌≡◌, ℕ, suc, ◌≤◌, Bool, true, false, List, [], ◌∷◌, Option, Some, None, inl, inr, refl, sym, ◌∙◌, ap, subst, arith}
-use Rattle.std.specs.Prelude.{◌+◌, ◌-◌, max, ◌&&◌, ◌||◌, ◌⊎◌, All, is_some, option_map, if◌then◌else◌}
+use Rattle.std.specs.Prelude.{◌+◌, ◌-◌, max, not, ◌&&◌, ◌||◌, ◌⊎◌, All, is_some, option_map, if◌then◌else◌}
 use Rattle.c_words.specs.declared.kinds.TokenKind.{TokenKind}
 use Rattle.c_words.specs.declared.kinds.TokenKind.TheVariants as kinds
 use Rattle.c_words.specs.declared.kinds.Punct.TheVariants as puncts
+use Rattle.c_words.specs.declared.kinds.Keyword.TheVariants as keywords
 use Rattle.c_tree.specs.declared.lexeme.Lexeme.{Lexeme}
 use Rattle.c_syntax.specs.declared.parts.Attr.{Attr}
+use Rattle.c_syntax.specs.declared.parts.Identifier.{Identifier}
 use Rattle.c_syntax.specs.declared.parts.PointerWord.{PointerWord}
 use Rattle.c_syntax.specs.declared.parts.PointerWord.TheVariants as pointer_words
 use Rattle.c_syntax.specs.declared.parts.ArrayWord.{ArrayWord}
-use Rattle.c_tree.specs.Tree.{Dots, Declr, pointer, declr_name, declr_paren, array, params, abs_pointer, abs_paren, abs_array, abs_params, SomeDeclr, no_declr, some_declr, SomeSize, some_size, size_value, Params}
-use Rattle.c_tree.specs.Text.{sign_text, attrs_text, pointer_words_text, array_words_text, declr_text, some_declr_text, some_size_text, params_text, dots_text}
+use Rattle.c_tree.specs.Tree.{Dots, Declr, pointer, declr_name, declr_paren, array, params, abs_pointer, abs_paren, abs_array, abs_params, identifiers, base_name, SomeDeclr, no_declr, some_declr, SomeSize, some_size, size_value, Params}
+use Rattle.c_tree.specs.Text.{sign_text, attrs_text, pointer_words_text, array_words_text, declr_text, some_declr_text, some_size_text, params_text, dots_text, names_text}
 use Rattle.c_tree.specs.Height.{attrs_height, pointer_words_height, declr_height, some_declr_height, some_size_height, params_height}
-use Rattle.c_tree.specs.WellFormed.{AreAttrs, AreParams, IsPointerWord, IsArrayWord, IsEllipsis, IsDeclr, IsSomeDeclr, IsSize, is_named, is_direct}
+use Rattle.c_tree.specs.WellFormed.{AreAttrs, AreParams, IsPointerWord, IsArrayWord, IsEllipsis, IsDeclr, IsSomeDeclr, IsSize, is_named, is_direct, lists_identifiers, some_lists_identifiers}
 use Rattle.typedef_scope.specs.declared.kind.Kind.{Kind}
-use Rattle.c_units.specs.HeldScopes.{HeldScopes, HeldScope, enter, leave, innermost, names_type}
-use Rattle.c_units.specs.Scoping.{behind, in_own_scope, at_name, first_name, begins_with_type, shows_no_type, some_shows_no_type, declr_scopes, some_declr_scopes, some_size_scopes, params_scopes}
-use Rattle.c_units.specs.Units.{OwnParams}
+use Rattle.typedef_scope.specs.declared.kind.Kind.TheVariants.{Typedef, Value, Constant}
+use Rattle.c_units.specs.HeldScopes.{HeldScopes, HeldScope, is_wide, enter, leave, innermost, names_type}
+use Rattle.c_units.specs.Scoping.{behind, where_true, identifiers_scopes, in_own_scope, at_name, first_name, begins_with_type, shows_no_type, some_shows_no_type, declr_scopes, some_declr_scopes, some_size_scopes, params_scopes}
+use Rattle.c_units.specs.Units.{OwnParams, bare_name}
 use Rattle.c_reading.specs.declared.kinds.Reach.TheVariants.{Assigned}
 use Rattle.c_reading.specs.declared.kinds.Mode.{Mode}
 use Rattle.c_reading.specs.declared.kinds.Mode.TheVariants.{Named, Abstract, Either}
 use Rattle.c_reading.specs.Reading.{IsNumbered, IsTail, Found, fits, kind_at, token_at, run}
-use Rattle.c_reading.specs.Tokens.{is_open_paren, is_close_paren, is_open_bracket, is_close_bracket, is_star, spelled_name}
+use Rattle.c_reading.specs.Tokens.{is_open_paren, is_close_paren, is_open_bracket, is_close_bracket, is_star, is_base_word, spelled_name}
 use Rattle.c_reading.specs.Parts.{Inner, star as begun_star, Declared, params_from}
 use Rattle.c_reading.specs.Specifying.{begins_specs}
-use Rattle.c_reading.specs.Declaring.{takes_name, least_pointer, with_pointer, with_paren, with_array, with_params, is_bare, closed_by, room_at, are_none, opens_params, opens_declr, absent, name_held, star_size, size_with, array_with, prototype_with, params_behind, suffix_turn, paren_with, named_paren, opened_by, opened_with, some_paren, name_or_none, core_with, direct_with, pointer_with, declr_with}
+use Rattle.c_reading.specs.Declaring.{is_identifier, begins_identifiers, identifier_at, identifiers_of, identifiers_with, list_behind, names_base, base_named, takes_name, least_pointer, with_pointer, with_paren, with_array, with_params, is_bare, closed_by, room_at, are_none, opens_params, opens_declr, absent, name_held, star_size, size_with, array_with, prototype_with, params_behind, suffix_turn, paren_with, named_paren, opened_by, opened_with, some_paren, name_or_none, core_with, direct_with, pointer_with, declr_with}
 use Rattle.c_reading.proofs.Binding.{found, done, bind_ok, fits_ok, if_ok}
 use Rattle.c_reading.proofs.Loops.{run-keep}
-use Rattle.c_reading.proofs.Forms.{at_end, behind_is, took, took_token, name_kind}
-use Rattle.c_reading.proofs.KindFacts.{open_paren_kind, close_paren_kind, open_bracket_kind, close_bracket_kind, star_kind}
+use Rattle.c_reading.proofs.Forms.{IsSound, Took, TookName, at_end, behind_is, behind_same, took, took_token, took_name, name_kind}
+use Rattle.c_reading.proofs.Rows.{row_scopes}
+use Rattle.c_reading.proofs.NameLists.{name_form, names_sound}
+use Rattle.c_reading.proofs.KindFacts.{both_left, both_right, open_paren_kind, close_paren_kind, open_bracket_kind, close_bracket_kind, star_kind}
 use Rattle.c_reading.proofs.Shared.{present_ok}
+use Rattle.c_reading.proofs.DeclrFalls.{identifier_shrinks}
 use Rattle.c_reading.proofs.DeclrSoundParams.{params_sound}
 use Rattle.c_reading.proofs.Aims.{least_with, least_pointer_words, own_scope_in, closed_of, declr_room, FitsMode, TakesDeclr, TokenLaws, Laws}
-use Rattle.c_reading.proofs.DeclrOwn.{own_pointer, own_paren, own_array, closed_with_params}
+use Rattle.c_reading.proofs.DeclrOwn.{bare_is, bare_named, closed_with_identifiers, own_pointer, own_paren, own_array, closed_with_params}
 use Rattle.std.proofs.lemmas.List.Elements.{All-nil}
 use Rattle.c_tree.specs.Groups.{IsGroup}
 
@@ -54,6 +60,20 @@ more_room true (Some scope) room h w low least = omega (arith, low, least)
 more_room true None room h w low least = omega (arith, low, least)
 more_room false closed room h w low least = omega (arith, low, least)
 
+-- a list of identifiers stands behind a name
+pub unnamed_plain : (d : Declr) → is_named d ≡ false → lists_identifiers d ≡ false
+unnamed_plain (pointer sign words d) e = absurd cc
+unnamed_plain (declr_name token name) e = absurd cc
+unnamed_plain (declr_paren opening attrs d closing) e = absurd cc
+unnamed_plain (array d opening words size closing) e = absurd cc
+unnamed_plain (params d opening ps dots closing) e = absurd cc
+unnamed_plain (identifiers d opening names closing) e = absurd cc
+unnamed_plain (base_name token) e = absurd cc
+unnamed_plain (abs_pointer sign words d) e = refl
+unnamed_plain (abs_paren opening attrs d closing) e = refl
+unnamed_plain (abs_array d opening words size closing) e = refl
+unnamed_plain (abs_params d opening ps dots closing) e = refl
+
 abbrev pub some_named : SomeDeclr → Bool
 some_named no_declr = false
 some_named (some_declr d) = is_named d
@@ -72,43 +92,44 @@ module _ (all : List Lexeme) where
     pub named : (wanted : Option Kind) (s : HeldScopes) → declr_scopes wanted made s ≡ scopes wanted s
     pub low : declr_height made ≡ height
     pub shows : (s : HeldScopes) → some_shows_no_type s d ≡ true → shows_no_type s made ≡ true
+    pub lists : lists_identifiers made ≡ some_lists_identifiers d
 
   pointer_whole : (token : ℕ) (words : List PointerWord) (d : SomeDeclr) → All (IsPointerWord all) words → IsSomeDeclr all d →
       Whole d (with_pointer token words d) (λ k. sign_text puncts.Star token (pointer_words_text all words (some_declr_text all d k))) (λ wanted. some_declr_scopes wanted d)
       (max (pointer_words_height words) (some_declr_height d) + 1)
-  pointer_whole token words no_declr w h = record { spelled = λ k. refl; fits = (w, tt); name = refl; named = λ wanted s. refl; low = refl; shows = λ s e. refl }
+  pointer_whole token words no_declr w h = record { spelled = λ k. refl; fits = (w, tt); name = refl; named = λ wanted s. refl; low = refl; shows = λ s e. refl; lists = refl }
   pointer_whole token words (some_declr d) w h = either (is_named d) refl
     where
       either : (b : Bool) → is_named d ≡ b → Whole (some_declr d) (if b then pointer token words d else abs_pointer token words (some_declr d))
           (λ k. sign_text puncts.Star token (pointer_words_text all words (declr_text all d k))) (λ wanted. declr_scopes wanted d) (max (pointer_words_height words) (declr_height d) + 1)
-      either true is = record { spelled = λ k. refl; fits = (w, h, is); name = sym is; named = λ wanted s. refl; low = refl; shows = λ s e. e }
-      either false is = record { spelled = λ k. refl; fits = (w, (h, is)); name = sym is; named = λ wanted s. refl; low = refl; shows = λ s e. e }
+      either true is = record { spelled = λ k. refl; fits = (w, h, is); name = sym is; named = λ wanted s. refl; low = refl; shows = λ s e. e; lists = refl }
+      either false is = record { spelled = λ k. refl; fits = (w, (h, is)); name = sym is; named = λ wanted s. refl; low = refl; shows = λ s e. e; lists = sym (unnamed_plain d is) }
 
   array_whole : (d : SomeDeclr) (opening : ℕ) (words : List ArrayWord) (size : SomeSize) (closing : ℕ) → IsDirectSome d → All (IsArrayWord all) words → IsSize all size →
       Whole d (with_array d opening words size closing)
       (λ k. some_declr_text all d (sign_text puncts.OpenBracket opening (array_words_text all words (some_size_text all size (sign_text puncts.CloseBracket closing k)))))
       (λ wanted s. behind (some_declr_scopes wanted d s) (some_size_scopes size)) (max (some_declr_height d) (some_size_height size) + 1)
-  array_whole no_declr opening words size closing h w z = record { spelled = λ k. refl; fits = (tt, w, z); name = refl; named = λ wanted s. refl; low = refl; shows = λ s e. refl }
+  array_whole no_declr opening words size closing h w z = record { spelled = λ k. refl; fits = (tt, w, z); name = refl; named = λ wanted s. refl; low = refl; shows = λ s e. refl; lists = refl }
   array_whole (some_declr d) opening words size closing h w z = either (is_named d) refl
     where
       either : (b : Bool) → is_named d ≡ b → Whole (some_declr d) (if b then array d opening words size closing else abs_array (some_declr d) opening words size closing)
           (λ k. declr_text all d (sign_text puncts.OpenBracket opening (array_words_text all words (some_size_text all size (sign_text puncts.CloseBracket closing k)))))
           (λ wanted s. behind (declr_scopes wanted d s) (some_size_scopes size)) (max (declr_height d) (some_size_height size) + 1)
-      either true is = record { spelled = λ k. refl; fits = (h.0, is, h.1, w, z); name = sym is; named = λ wanted s. refl; low = refl; shows = λ s e. e }
-      either false is = record { spelled = λ k. refl; fits = ((h.0, is, h.1), w, z); name = sym is; named = λ wanted s. refl; low = refl; shows = λ s e. e }
+      either true is = record { spelled = λ k. refl; fits = (h.0, is, h.1, w, z); name = sym is; named = λ wanted s. refl; low = refl; shows = λ s e. e; lists = refl }
+      either false is = record { spelled = λ k. refl; fits = ((h.0, is, h.1), w, z); name = sym is; named = λ wanted s. refl; low = refl; shows = λ s e. e; lists = sym (unnamed_plain d is) }
 
   params_whole : (d : SomeDeclr) (opening : ℕ) (ps : Params) (dots : Option Dots) (closing : ℕ) → IsDirectSome d → AreParams all ps → IsEllipsis all ps dots →
       Whole d (with_params d opening ps dots closing)
       (λ k. some_declr_text all d (sign_text puncts.OpenParen opening (params_text all ps (dots_text all dots (sign_text puncts.CloseParen closing k)))))
       (λ wanted s. behind (some_declr_scopes wanted d s) (in_own_scope (params_scopes ps))) (max (some_declr_height d) (params_height ps) + 1)
-  params_whole no_declr opening ps dots closing h p e = record { spelled = λ k. refl; fits = (tt, p, e); name = refl; named = λ wanted s. refl; low = refl; shows = λ s e. refl }
+  params_whole no_declr opening ps dots closing h p e = record { spelled = λ k. refl; fits = (tt, p, e); name = refl; named = λ wanted s. refl; low = refl; shows = λ s e. refl; lists = refl }
   params_whole (some_declr d) opening ps dots closing h p e = either (is_named d) refl
     where
       either : (b : Bool) → is_named d ≡ b → Whole (some_declr d) (if b then params d opening ps dots closing else abs_params (some_declr d) opening ps dots closing)
           (λ k. declr_text all d (sign_text puncts.OpenParen opening (params_text all ps (dots_text all dots (sign_text puncts.CloseParen closing k)))))
           (λ wanted s. behind (declr_scopes wanted d s) (in_own_scope (params_scopes ps))) (max (declr_height d) (params_height ps) + 1)
-      either true is = record { spelled = λ k. refl; fits = (h.0, is, h.1, p, e); name = sym is; named = λ wanted s. refl; low = refl; shows = λ s e. e }
-      either false is = record { spelled = λ k. refl; fits = ((h.0, is, h.1), p, e); name = sym is; named = λ wanted s. refl; low = refl; shows = λ s e. e }
+      either true is = record { spelled = λ k. refl; fits = (h.0, is, h.1, p, e); name = sym is; named = λ wanted s. refl; low = refl; shows = λ s e. e; lists = refl }
+      either false is = record { spelled = λ k. refl; fits = ((h.0, is, h.1), p, e); name = sym is; named = λ wanted s. refl; low = refl; shows = λ s e. e; lists = sym (unnamed_plain d is) }
 
   direct_made : (d : SomeDeclr) (opening : ℕ) (words : List ArrayWord) (size : SomeSize) (closing : ℕ) → is_direct (with_array d opening words size closing) ≡ true
   direct_made no_declr opening words size closing = refl
@@ -147,6 +168,7 @@ module _ (all : List Lexeme) where
     pub name : is_named (with_paren opening attrs d closing) ≡ is_named d
     pub named : (wanted : Option Kind) (s : HeldScopes) → declr_scopes wanted (with_paren opening attrs d closing) s ≡ declr_scopes wanted d s
     pub low : declr_height (with_paren opening attrs d closing) ≡ max (attrs_height attrs) (declr_height d) + 1
+    pub lists : lists_identifiers (with_paren opening attrs d closing) ≡ lists_identifiers d
 
   paren_whole : (opening : ℕ) (attrs : List Attr) (d : Declr) (closing : ℕ) → AreAttrs all attrs → IsDeclr all d → WholeParen opening attrs d closing
   paren_whole opening attrs d closing a h = either (is_named d) refl
@@ -158,6 +180,7 @@ module _ (all : List Lexeme) where
         name = rw is refl;
         named = λ wanted s. rw is refl;
         low = rw is refl;
+        lists = rw is refl;
       }
       either false is = record {
         spelled = λ k. rw is refl;
@@ -165,6 +188,7 @@ module _ (all : List Lexeme) where
         name = rw is refl;
         named = λ wanted s. rw is refl;
         low = rw is refl;
+        lists = rw is (sym (unnamed_plain d is));
       }
 
   -- the first name of a declarator is its first token
@@ -177,6 +201,8 @@ module _ (all : List Lexeme) where
   first_name_is (declr_paren opening attrs d closing) name k e = absurd cc
   first_name_is (array d opening words size closing) name k e = first_name_is d name _ e
   first_name_is (params d opening ps dots closing) name k e = first_name_is d name _ e
+  first_name_is (identifiers d opening names closing) name k e = first_name_is d name _ e
+  first_name_is (base_name token) name k e = absurd cc
   first_name_is (abs_pointer sign words d) name k e = absurd cc
   first_name_is (abs_paren opening attrs d closing) name k e = absurd cc
   first_name_is (abs_array d opening words size closing) name k e = absurd cc
@@ -196,6 +222,26 @@ module _ (all : List Lexeme) where
       by_name : (o : Option ℕ) → first_name d ≡ o → begins_with_type s o ≡ false
       by_name None is = refl
       by_name (Some name) is = name_begins s name (ap (begins_specs s) (sym (first_name_is d name k is)) ∙ e)
+
+-- what an identifier asks of the scopes
+abbrev pub identifier_scopes : Identifier → HeldScopes → Option HeldScopes
+identifier_scopes it s = where_true (not (names_type s it.name)) s
+
+pub identifiers_are : (names : List Identifier) (s : HeldScopes) → row_scopes (name_form identifier_scopes) names s ≡ identifiers_scopes names s
+identifiers_are [] s = refl
+identifiers_are (it ∷ names) s = behind_same (identifier_scopes it s) _ _ (λ t. identifiers_are names t)
+
+-- where wider C is read, a list of identifiers asks of the scopes what its names ask
+pub wide_names : (names : List Identifier) (s : HeldScopes) (r : Option HeldScopes) → is_wide s ≡ true → identifiers_scopes names s ≡ r →
+    behind (where_true (is_wide s) s) (identifiers_scopes names) ≡ r
+wide_names names s r wide e = rw wide e
+
+room_most : (room : ℕ) (d : Declared) (kind : TokenKind) → room_at true room d kind ≤ suc room
+room_most room d kind = by_test (is_some d.closed || (is_open_paren kind && is_bare d.declr))
+  where
+    by_test : (b : Bool) → (if b then suc room else room) ≤ suc room
+    by_test true = omega arith
+    by_test false = omega arith
 
 module _ (all : List Lexeme) (numbered : IsNumbered all) (tokens : TokenLaws all) (n : ℕ) (inner : Inner) (laws : Laws all n inner) where
   -- a size, or none
@@ -235,6 +281,7 @@ module _ (all : List Lexeme) (numbered : IsNumbered all) (tokens : TokenLaws all
     pub named : some_declr_scopes wanted x.tree.declr s ≡ Some x.scopes
     pub closed : x.tree.closed ≡ closed_of wanted x.tree.declr s
     pub low : some_declr_height x.tree.declr ≤ declr_room flag x.tree.closed room
+    pub plain : flag ≡ false → some_lists_identifiers x.tree.declr ≡ false
     pub left : IsTail all x.rest
 
   -- brackets behind a declarator
@@ -247,6 +294,7 @@ module _ (all : List Lexeme) (numbered : IsNumbered all) (tokens : TokenLaws all
     low : some_declr_height x.tree.declr ≤ r
     name : some_named x.tree.declr ≡ some_named d.declr
     shows : some_shows_no_type s0 d.declr ≡ true → some_shows_no_type s0 x.tree.declr ≡ true
+    lists : some_lists_identifiers x.tree.declr ≡ some_lists_identifiers d.declr
     left : IsTail all x.rest
 
   array_sound : (d : Declared) (r : ℕ) (wanted : Option Kind) (s0 s : HeldScopes) (ts0 ts : List Lexeme) (x : Found Declared) → IsTail all ts → is_open_bracket (kind_at ts) ≡ true → suc (some_declr_height d.declr) ≤ r →
@@ -276,6 +324,7 @@ module _ (all : List Lexeme) (numbered : IsNumbered all) (tokens : TokenLaws all
         low = subst (λ (h : ℕ). h ≤ r) (sym m.low) (omega (arith, least, size_low));
         name = m.name;
         shows = m.shows s0;
+        lists = m.lists;
         left = g.left;
       })
 
@@ -375,34 +424,35 @@ module _ (all : List Lexeme) (numbered : IsNumbered all) (tokens : TokenLaws all
           named = a.named;
           closed = a.kept ∙ h.state.closed ∙ sym a.closed;
           low = subst (λ (c : Option HeldScope). some_declr_height x.tree.declr ≤ declr_room flag c room) (sym a.kept) (subst (λ (m : ℕ). some_declr_height x.tree.declr ≤ m) room_is a.low);
+          plain = λ no. a.lists ∙ h.state.plain no;
           left = a.left;
         };
         keeps = record { name = a.name ∙ h.keeps.name; shows = λ e. a.shows (h.keeps.shows e) };
       }
 
-  one_list : (wanted : Option Kind) (flag : Bool) (room : ℕ) (s0 : HeldScopes) (ts0 : List Lexeme) (core : SomeDeclr) (d : Declared) (s : HeldScopes) (ts : List Lexeme) (x : Found Declared) → Going wanted flag room s0 ts0 core (found d s ts) →
-      is_open_paren (kind_at ts) ≡ true → fits (suc (some_declr_height d.declr)) (room_at flag room d (kind_at ts)) ts (params_behind inner d (room_at flag room d (kind_at ts)) s ts) ≡ done x → Going wanted flag room s0 ts0 core x
-  one_list wanted flag room s0 ts0 core d s ts x h is e =
-      let r = fits_ok (suc (some_declr_height d.declr)) (room_at flag room d (kind_at ts)) ts e in
-      let a = bind_ok r.1 in
-      let o = took all (kinds.Punct puncts.OpenParen) s ts a.0 h.state.left (open_paren_kind (kind_at ts) is) a.1 in
-      let named : some_declr_scopes wanted d.declr s0 ≡ Some a.0.scopes = h.state.named ∙ ap Some (sym o.same) in
-      let p = prototype_sound d a.0.tree [] (room_at flag room d (kind_at ts)) wanted s0 a.0.scopes a.0.rest x o.left no_attrs h.state.fits named h.state.closed a.2 in
-      let w = params_whole all d.declr a.0.tree p.ps p.dots p.closing h.state.fits p.are p.ended in
+  -- parameters behind a declarator, whose parenthesis was taken
+  one_prototype : (wanted : Option Kind) (flag : Bool) (room : ℕ) (s0 : HeldScopes) (ts0 : List Lexeme) (core : SomeDeclr) (d : Declared) (s : HeldScopes) (ts : List Lexeme) (x : Found Declared) (o : Found ℕ) →
+      Going wanted flag room s0 ts0 core (found d s ts) → is_open_paren (kind_at ts) ≡ true → suc (some_declr_height d.declr) ≤ room_at flag room d (kind_at ts) → Took all (kinds.Punct puncts.OpenParen) s ts o →
+      prototype_with inner d o.tree [] (room_at flag room d (kind_at ts)) o.scopes o.rest ≡ done x → Going wanted flag room s0 ts0 core x
+  one_prototype wanted flag room s0 ts0 core d s ts x a h is least o e =
+      let named : some_declr_scopes wanted d.declr s0 ≡ Some a.scopes = h.state.named ∙ ap Some (sym o.same) in
+      let p = prototype_sound d a.tree [] (room_at flag room d (kind_at ts)) wanted s0 a.scopes a.rest x o.left no_attrs h.state.fits named h.state.closed e in
+      let w = params_whole all d.declr a.tree p.ps p.dots p.closing h.state.fits p.are p.ended in
       let room_is = params_room flag room d (kind_at ts) p.scope is in
       let params_low : params_height p.ps ≤ room_at flag room d (kind_at ts) - 1 = p.low in
-      let low : declr_height (with_params d.declr a.0.tree p.ps p.dots p.closing) ≤ room_at flag room d (kind_at ts) = subst (λ (m : ℕ). m ≤ room_at flag room d (kind_at ts)) (sym w.low) (omega (arith, r.0, params_low)) in
-      let closed_low : some_declr_height (some_declr (with_params d.declr a.0.tree p.ps p.dots p.closing)) ≤ declr_room flag x.tree.closed room =
-      subst (λ (c : Option HeldScope). declr_height (with_params d.declr a.0.tree p.ps p.dots p.closing) ≤ declr_room flag c room) (sym p.closed_is)
-      (subst (λ (m : ℕ). declr_height (with_params d.declr a.0.tree p.ps p.dots p.closing) ≤ m) room_is low) in
+      let low : declr_height (with_params d.declr a.tree p.ps p.dots p.closing) ≤ room_at flag room d (kind_at ts) = subst (λ (m : ℕ). m ≤ room_at flag room d (kind_at ts)) (sym w.low) (omega (arith, least, params_low)) in
+      let closed_low : some_declr_height (some_declr (with_params d.declr a.tree p.ps p.dots p.closing)) ≤ declr_room flag x.tree.closed room =
+      subst (λ (c : Option HeldScope). declr_height (with_params d.declr a.tree p.ps p.dots p.closing) ≤ declr_room flag c room) (sym p.closed_is)
+      (subst (λ (m : ℕ). declr_height (with_params d.declr a.tree p.ps p.dots p.closing) ≤ m) room_is low) in
       record {
         state = record {
-          spelled = h.state.spelled ∙ ap (some_declr_text all d.declr) (o.spelled ∙ ap (sign_text puncts.OpenParen a.0.tree) p.spelled) ∙ sym (w.spelled x.rest)
+          spelled = h.state.spelled ∙ ap (some_declr_text all d.declr) (o.spelled ∙ ap (sign_text puncts.OpenParen a.tree) p.spelled) ∙ sym (w.spelled x.rest)
               ∙ ap (λ (d : SomeDeclr). some_declr_text all d x.rest) (sym p.made);
-          fits = subst (IsDirectSome all) (sym p.made) (w.fits, direct_params all d.declr a.0.tree p.ps p.dots p.closing);
+          fits = subst (IsDirectSome all) (sym p.made) (w.fits, direct_params all d.declr a.tree p.ps p.dots p.closing);
           named = p.named;
           closed = p.closed;
           low = subst (λ (d : SomeDeclr). some_declr_height d ≤ declr_room flag x.tree.closed room) (sym p.made) closed_low;
+          plain = λ no. ap some_lists_identifiers p.made ∙ w.lists ∙ h.state.plain no;
           left = p.left;
         };
         keeps = record {
@@ -414,6 +464,73 @@ module _ (all : List Lexeme) (numbered : IsNumbered all) (tokens : TokenLaws all
       no_attrs : AreAttrs all []
       no_attrs = All-nil (λ (a : Attr). IsGroup all a.group)
 
+  -- an identifier that was read is no typedef name
+  identifier_sound : IsSound all (name_form identifier_scopes) 0 identifier_at
+  identifier_sound s ts x tail e =
+      if_ok (is_identifier s (spelled_name (kind_at ts))) e
+      (λ is e. let t = took_name all s ts x tail e in
+      record { spelled = t.spelled; fits = tt; named = free (spelled_name (kind_at ts)) refl is t; low = omega arith; left = t.left })
+      (λ is e. absurd cc)
+    where
+      free : (o : Option ℕ) → spelled_name (kind_at ts) ≡ o → is_identifier s o ≡ true → TookName all s ts x → identifier_scopes x.tree s ≡ Some x.scopes
+      free None spelled is t = absurd cc
+      free (Some name) spelled is t =
+          let same : Some name ≡ Some x.tree.name = sym spelled ∙ ap (λ (ts : List Lexeme). spelled_name (kind_at ts)) t.spelled in
+          rw (ap (λ (o : Option ℕ). is_identifier s o) (sym same) ∙ is) (ap Some (sym t.same))
+
+  -- identifiers behind a declarator, whose parenthesis was taken
+  one_identifiers : (wanted : Option Kind) (room : ℕ) (s0 : HeldScopes) (ts0 : List Lexeme) (core : SomeDeclr) (d : Declared) (inside : Declr) (s : HeldScopes) (ts : List Lexeme) (x : Found Declared) (o : Found ℕ) →
+      Going wanted true room s0 ts0 core (found d s ts) → d.declr ≡ some_declr inside → is_some (bare_name inside) ≡ true → is_wide o.scopes ≡ true →
+      suc (some_declr_height d.declr) ≤ room_at true room d (kind_at ts) → Took all (kinds.Punct puncts.OpenParen) s ts o →
+      identifiers_with inner inside o.tree o.scopes o.rest ≡ done x → Going wanted true room s0 ts0 core x
+  unfolding identifiers_with
+  one_identifiers wanted room s0 ts0 core d inside s ts x a h is bare wide least o e =
+      let b = bind_ok e in
+      let c = bind_ok b.2 in
+      let n = names_sound identifier_scopes identifier_at identifier_shrinks all numbered identifier_sound a.scopes a.rest b.0 o.left b.1 in
+      let g = took_token all is_close_paren (kinds.Punct puncts.CloseParen) close_paren_kind b.0.scopes b.0.rest c.0 n.left c.1 in
+      let spelled : ts0 ≡ declr_text all inside ts = h.state.spelled ∙ ap (λ (d : SomeDeclr). some_declr_text all d ts) is in
+      let fits : IsDirectSome all (some_declr inside) = subst (IsDirectSome all) is h.state.fits in
+      let named : declr_scopes wanted inside s0 ≡ Some a.scopes = ap (λ (d : SomeDeclr). some_declr_scopes wanted d s0) (sym is) ∙ h.state.named ∙ ap Some (sym o.same) in
+      let high : declr_height inside + 1 ≤ suc room = subst (λ (d : SomeDeclr). some_declr_height d + 1 ≤ suc room) is (omega (arith, least, room_most room d (kind_at ts))) in
+      at_end (Going wanted true room s0 ts0 core) c.2 (record {
+        state = record {
+          spelled = spelled ∙ ap (declr_text all inside) (o.spelled ∙ ap (sign_text puncts.OpenParen a.tree) (n.spelled ∙ ap (names_text b.0.tree) g.spelled));
+          fits = ((fits.0, bare_is inside bare, n.some), refl);
+          named = behind_is (λ t. behind (where_true (is_wide t) t) (identifiers_scopes b.0.tree)) named (wide_names b.0.tree a.scopes (Some c.0.scopes) wide (sym (identifiers_are b.0.tree a.scopes) ∙ n.named ∙ ap Some (sym g.same)));
+          closed = closed_with_identifiers wanted inside a.tree b.0.tree c.0.tree s0 a.scopes bare named;
+          low = high;
+          plain = λ no. absurd cc;
+          left = g.left;
+        };
+        keeps = record {
+          name = sym (bare_named inside bare) ∙ ap some_named (sym is) ∙ h.keeps.name;
+          shows = λ e. subst (λ (d : SomeDeclr). some_shows_no_type s0 d ≡ true) is (h.keeps.shows e);
+        };
+      })
+
+  one_list : (wanted : Option Kind) (flag : Bool) (room : ℕ) (s0 : HeldScopes) (ts0 : List Lexeme) (core : SomeDeclr) (d : Declared) (s : HeldScopes) (ts : List Lexeme) (x : Found Declared) → Going wanted flag room s0 ts0 core (found d s ts) →
+      is_open_paren (kind_at ts) ≡ true → fits (suc (some_declr_height d.declr)) (room_at flag room d (kind_at ts)) ts (params_behind inner flag d (room_at flag room d (kind_at ts)) s ts) ≡ done x → Going wanted flag room s0 ts0 core x
+  one_list wanted flag room s0 ts0 core d s ts x h is e =
+      let r = fits_ok (suc (some_declr_height d.declr)) (room_at flag room d (kind_at ts)) ts e in
+      let a = bind_ok r.1 in
+      let o = took all (kinds.Punct puncts.OpenParen) s ts a.0 h.state.left (open_paren_kind (kind_at ts) is) a.1 in
+      by_list flag (is_bare d.declr) (begins_identifiers a.0.scopes (kind_at a.0.rest)) refl h a.0 refl r.0 o a.2
+    where
+      by_declr : (inside : SomeDeclr) → d.declr ≡ inside → is_bare inside ≡ true → Going wanted true room s0 ts0 core (found d s ts) → (a : Found ℕ) → is_wide a.scopes ≡ true → suc (some_declr_height d.declr) ≤ room_at true room d (kind_at ts) →
+          Took all (kinds.Punct puncts.OpenParen) s ts a →
+          identifiers_of inside (λ inside. identifiers_with inner inside a.tree a.scopes a.rest) (prototype_with inner d a.tree [] (room_at true room d (kind_at ts)) a.scopes a.rest) ≡ done x →
+          Going wanted true room s0 ts0 core x
+      by_declr no_declr same bare h a wide least o e = absurd cc
+      by_declr (some_declr inside) same bare h a wide least o e = one_identifiers wanted room s0 ts0 core d inside s ts x a h same bare wide least o e
+
+      by_list : (flag b c : Bool) → is_bare d.declr ≡ b → Going wanted flag room s0 ts0 core (found d s ts) → (a : Found ℕ) → begins_identifiers a.scopes (kind_at a.rest) ≡ c → suc (some_declr_height d.declr) ≤ room_at flag room d (kind_at ts) →
+          Took all (kinds.Punct puncts.OpenParen) s ts a → list_behind inner (flag && b && c) d a.tree (room_at flag room d (kind_at ts)) a.scopes a.rest ≡ done x → Going wanted flag room s0 ts0 core x
+      by_list true true true bare h a begins least o e = by_declr d.declr refl bare h a (both_left (is_wide a.scopes) (is_identifier a.scopes (spelled_name (kind_at a.rest))) begins) least o e
+      by_list true true false bare h a begins least o e = one_prototype wanted true room s0 ts0 core d s ts x a h is least o e
+      by_list true false c bare h a begins least o e = one_prototype wanted true room s0 ts0 core d s ts x a h is least o e
+      by_list false b c bare h a begins least o e = one_prototype wanted false room s0 ts0 core d s ts x a h is least o e
+
   suffix_sound : (wanted : Option Kind) (flag : Bool) (room : ℕ) (s0 : HeldScopes) (ts0 : List Lexeme) (core : SomeDeclr) (d : Declared) (s : HeldScopes) (ts : List Lexeme) (x : Found Declared) → Going wanted flag room s0 ts0 core (found d s ts) →
       suffix_turn inner flag room d s ts ≡ Some (done x) → Going wanted flag room s0 ts0 core x
   suffix_sound wanted flag room s0 ts0 core d s ts x h e = by_bracket (is_open_bracket (kind_at ts)) refl e
@@ -421,13 +538,13 @@ module _ (all : List Lexeme) (numbered : IsNumbered all) (tokens : TokenLaws all
       some_done : {A : Type 0} {a b : A} → Some a ≡ Some b → a ≡ b
       some_done e = cc
 
-      by_paren : (b : Bool) → is_open_paren (kind_at ts) ≡ b → (if b then Some (fits (suc (some_declr_height d.declr)) (room_at flag room d (kind_at ts)) ts (params_behind inner d (room_at flag room d (kind_at ts)) s ts)) else None) ≡ Some (done x) →
+      by_paren : (b : Bool) → is_open_paren (kind_at ts) ≡ b → (if b then Some (fits (suc (some_declr_height d.declr)) (room_at flag room d (kind_at ts)) ts (params_behind inner flag d (room_at flag room d (kind_at ts)) s ts)) else None) ≡ Some (done x) →
           Going wanted flag room s0 ts0 core x
       by_paren true is e = one_list wanted flag room s0 ts0 core d s ts x h is (some_done e)
       by_paren false is e = absurd cc
 
       by_bracket : (b : Bool) → is_open_bracket (kind_at ts) ≡ b → (if b then Some (fits (suc (some_declr_height d.declr)) (room_at flag room d (kind_at ts)) ts (array_with inner d (room_at flag room d (kind_at ts)) s ts))
-          else if is_open_paren (kind_at ts) then Some (fits (suc (some_declr_height d.declr)) (room_at flag room d (kind_at ts)) ts (params_behind inner d (room_at flag room d (kind_at ts)) s ts)) else None) ≡ Some (done x) →
+          else if is_open_paren (kind_at ts) then Some (fits (suc (some_declr_height d.declr)) (room_at flag room d (kind_at ts)) ts (params_behind inner flag d (room_at flag room d (kind_at ts)) s ts)) else None) ≡ Some (done x) →
           Going wanted flag room s0 ts0 core x
       by_bracket true is e = one_bracket wanted flag room s0 ts0 core d s ts x h is (some_done e)
       by_bracket false is e = by_paren (is_open_paren (kind_at ts)) refl e
@@ -485,6 +602,7 @@ module _ (all : List Lexeme) (numbered : IsNumbered all) (tokens : TokenLaws all
     named : some_declr_scopes wanted x.tree.declr s ≡ Some x.scopes
     closed : x.tree.closed ≡ closed_of wanted x.tree.declr s
     low : some_declr_height x.tree.declr ≤ declr_room flag x.tree.closed room
+    plain : flag ≡ false → some_lists_identifiers x.tree.declr ≡ false
     left : IsTail all x.rest
 
   paren_sound : (mode : Mode) (wanted : Option Kind) (flag : Bool) (opening : ℕ) (attrs : List Attr) (room : ℕ) (s : HeldScopes) (ts : List Lexeme) (x : Found Declared) → IsTail all ts → AreAttrs all attrs → max 1 (least_with attrs) ≤ room →
@@ -517,6 +635,7 @@ module _ (all : List Lexeme) (numbered : IsNumbered all) (tokens : TokenLaws all
             named = w.named wanted s ∙ ap (λ (d : SomeDeclr). some_declr_scopes wanted d s) (sym is) ∙ d.named ∙ ap Some (scopes_are ∙ sym g.same);
             closed = d.closed ∙ ap (λ (d : SomeDeclr). closed_of wanted d s) is ∙ ap (λ (o : Option OwnParams). option_map innermost (own_scope_in wanted o s)) (sym (own_paren opening attrs b.tree c.tree));
             low = subst (λ (m : ℕ). m ≤ declr_room flag a.tree.closed room) (sym w.low) (more_room flag a.tree.closed room (declr_height b.tree) (attrs_height attrs) low (omega (arith, low_attrs attrs, least)));
+            plain = λ no. w.lists ∙ ap some_lists_identifiers (sym is) ∙ d.plain no;
             left = g.left;
           })
         where
@@ -537,7 +656,7 @@ module _ (all : List Lexeme) (numbered : IsNumbered all) (tokens : TokenLaws all
   from_paren : (mode : Mode) (wanted : Option Kind) (flag : Bool) (room opening : ℕ) (attrs : List Attr) (s : HeldScopes) (ts0 ts : List Lexeme) (x : Found Declared) → ts0 ≡ sign_text puncts.OpenParen opening (attrs_text all attrs ts) →
       TookParen mode wanted flag room opening attrs s ts x → Core mode wanted flag room s ts0 x
   from_paren mode wanted flag room opening attrs s ts0 ts x is t = record {
-    state = record { spelled = is ∙ t.spelled; fits = t.direct; named = t.named; closed = t.closed; low = t.low; left = t.left };
+    state = record { spelled = is ∙ t.spelled; fits = t.direct; named = t.named; closed = t.closed; low = t.low; plain = t.plain; left = t.left };
     fits = t.fits;
   }
 
@@ -572,6 +691,7 @@ module _ (all : List Lexeme) (numbered : IsNumbered all) (tokens : TokenLaws all
         closed = p.closed;
         low = subst (λ (d : SomeDeclr). some_declr_height d ≤ declr_room flag x.tree.closed room) (sym p.made)
             (subst (λ (c : Option HeldScope). declr_height (with_params no_declr opening p.ps p.dots p.closing) ≤ declr_room flag c room) (sym p.closed_is) (subst (λ (m : ℕ). declr_height (with_params no_declr opening p.ps p.dots p.closing) ≤ m) (sym (no_closed flag)) low));
+        plain = λ no. ap some_lists_identifiers p.made;
         left = p.left;
       }
     where
@@ -613,9 +733,9 @@ module _ (all : List Lexeme) (numbered : IsNumbered all) (tokens : TokenLaws all
   absent_sound : (mode : Mode) (wanted : Option Kind) (flag : Bool) (room : ℕ) (s : HeldScopes) (ts : List Lexeme) (x : Found Declared) → IsTail all ts → absent mode s ts ≡ done x → Core mode wanted flag room s ts x
   absent_sound Named wanted flag room s ts x tail e = absurd cc
   absent_sound Abstract wanted flag room s ts x tail e =
-      at_end (Core Abstract wanted flag room s ts) e (record { state = record { spelled = refl; fits = tt; named = refl; closed = refl; low = omega arith; left = tail }; fits = tt })
+      at_end (Core Abstract wanted flag room s ts) e (record { state = record { spelled = refl; fits = tt; named = refl; closed = refl; low = omega arith; plain = λ no. refl; left = tail }; fits = tt })
   absent_sound Either wanted flag room s ts x tail e =
-      at_end (Core Either wanted flag room s ts) e (record { state = record { spelled = refl; fits = tt; named = refl; closed = refl; low = omega arith; left = tail }; fits = (tt, refl) })
+      at_end (Core Either wanted flag room s ts) e (record { state = record { spelled = refl; fits = tt; named = refl; closed = refl; low = omega arith; plain = λ no. refl; left = tail }; fits = (tt, refl) })
 
   name_fits : (mode : Mode) (token name : ℕ) (s : HeldScopes) → takes_name mode ≡ true → FitsMode all mode (some_declr (declr_name token name)) s
   name_fits Named token name s e = (tt, refl)
@@ -634,7 +754,7 @@ module _ (all : List Lexeme) (numbered : IsNumbered all) (tokens : TokenLaws all
       let a = bind_ok r.1 in
       let t = took all (kinds.Name name) s ts a.0 tail kind a.1 in
       at_end (Core mode wanted flag room s ts) a.2 (record {
-        state = record { spelled = t.spelled; fits = (tt, refl); named = is; closed = refl; low = low_name flag room r.0; left = t.left };
+        state = record { spelled = t.spelled; fits = (tt, refl); named = is; closed = refl; low = low_name flag room r.0; plain = λ no. refl; left = t.left };
         fits = name_fits mode a.0.tree name s takes;
       })
 
@@ -652,12 +772,43 @@ module _ (all : List Lexeme) (numbered : IsNumbered all) (tokens : TokenLaws all
   some_paren_sound Abstract wanted flag room s ts x tail is e = opened_sound Abstract wanted flag room s ts x tt tail is e
   some_paren_sound Either wanted flag room s ts x tail is e = opened_sound Either wanted flag room s ts x tt tail is e
 
+  base_kind : (kind : TokenKind) → is_base_word kind ≡ true → kind ≡ kinds.Keyword keywords.BaseWord
+  base_kind (kinds.Keyword keywords.BaseWord) e = refl
+  base_kind kind e = absurd cc
+
+  -- a base word that names a typedef
+  base_sound : (mode : Mode) (wanted : Option Kind) (flag : Bool) (room : ℕ) (s : HeldScopes) (ts : List Lexeme) (x : Found Declared) → IsTail all ts → names_base s mode wanted (kind_at ts) ≡ true → base_named room s ts ≡ done x →
+      Core mode wanted flag room s ts x
+  base_sound Named (Some Typedef) flag room s ts x tail is e =
+      let r = fits_ok 1 room ts e in
+      let a = bind_ok r.1 in
+      let t = took all (kinds.Keyword keywords.BaseWord) s ts a.0 tail (base_kind (kind_at ts) (both_right (is_wide s) (is_base_word (kind_at ts)) is)) a.1 in
+      at_end (Core Named (Some Typedef) flag room s ts) a.2 (record {
+        state = record {
+          spelled = t.spelled;
+          fits = (tt, refl);
+          named = rw (both_left (is_wide s) (is_base_word (kind_at ts)) is) (ap Some (sym t.same));
+          closed = refl;
+          low = low_name flag room r.0;
+          plain = λ no. refl;
+          left = t.left;
+        };
+        fits = (tt, refl);
+      })
+  base_sound Named (Some Value) flag room s ts x tail is e = absurd cc
+  base_sound Named (Some Constant) flag room s ts x tail is e = absurd cc
+  base_sound Named None flag room s ts x tail is e = absurd cc
+  base_sound Abstract wanted flag room s ts x tail is e = absurd cc
+  base_sound Either wanted flag room s ts x tail is e = absurd cc
+
   core_sound : (mode : Mode) (wanted : Option Kind) (flag : Bool) (room : ℕ) (s : HeldScopes) (ts : List Lexeme) (x : Found Declared) → IsTail all ts → core_with inner mode wanted flag room s ts ≡ done x → Core mode wanted flag room s ts x
   unfolding core_with
   core_sound mode wanted flag room s ts x tail e =
       if_ok (is_open_paren (kind_at ts)) e
       (λ is e. some_paren_sound mode wanted flag room s ts x tail is e)
-      (λ is e. name_sound mode wanted flag room s ts (spelled_name (kind_at ts)) x tail refl e)
+      (λ is e. if_ok (names_base s mode wanted (kind_at ts)) e
+      (λ is e. base_sound mode wanted flag room s ts x tail is e)
+      (λ is e. name_sound mode wanted flag room s ts (spelled_name (kind_at ts)) x tail refl e))
 
   direct_some : (d : SomeDeclr) → IsDirectSome all d → IsSomeDeclr all d
   direct_some no_declr h = tt
@@ -674,6 +825,7 @@ module _ (all : List Lexeme) (numbered : IsNumbered all) (tokens : TokenLaws all
         fits = fits_made mode a.0.tree.declr x.tree.declr s c.fits (direct_some x.tree.declr g.state.fits) g.keeps.name g.keeps.shows;
         named = g.state.named;
         closed = g.state.closed;
+        plain = g.state.plain;
         low = g.state.low;
         left = g.state.left;
       }
@@ -710,6 +862,7 @@ module _ (all : List Lexeme) (numbered : IsNumbered all) (tokens : TokenLaws all
             named = w.named wanted u ∙ t.named;
             closed = t.closed ∙ ap (λ (o : Option OwnParams). option_map innermost (own_scope_in wanted o u)) (sym (own_pointer token words d.tree.declr));
             low = subst (λ (m : ℕ). m ≤ declr_room flag d.tree.closed room) (sym w.low) (more_room flag d.tree.closed room (some_declr_height d.tree.declr) (pointer_words_height words) t.low (omega (arith, low_pointer_words words, least, low)));
+            plain = λ no. w.lists ∙ t.plain no;
             left = t.left;
           }
 

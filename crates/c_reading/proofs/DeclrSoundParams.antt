@@ -1,6 +1,6 @@
 -- What the readers of parameters take is spelled so and well formed.
 use Rattle.std.proofs.Common.{◌≡◌, ℕ, zero, suc, ◌<◌, ◌≤◌, Bool, true, false, List, [], ◌∷◌, ◌++◌, length, Option, Some, None, inl, inr, refl, sym, ◌∙◌, ap, subst, arith}
-use Rattle.std.specs.Prelude.{◌+◌, ◌-◌, not, ◌&&◌, ◌⊎◌, All, Any, IsPermutation}
+use Rattle.std.specs.Prelude.{◌+◌, ◌-◌, not, ◌&&◌, ◌||◌, ◌⊎◌, All, Any, IsPermutation}
 use Rattle.std.proofs.lemmas.List.Elements.{All-nil, All-head, All-tail}
 use Rattle.c_words.specs.declared.kinds.TokenKind.TheVariants as kinds
 use Rattle.c_words.specs.declared.kinds.Punct.TheVariants as puncts
@@ -13,12 +13,12 @@ use Rattle.c_tree.specs.Text.{separated, tokens_between, qual_text, sign_text, s
 use Rattle.c_tree.specs.Height.{attrs_height, specs_height, some_declr_height, params_height}
 use Rattle.c_tree.specs.Groups.{IsGroup}
 use Rattle.c_tree.specs.Specifiers.{type_words, type_count, basic_types, IsMix}
-use Rattle.c_tree.specs.WellFormed.{AreAttrs, AreParams, AreSpecWords, IsParamEnd, IsElement, IsQual, IsEllipsis, ends_starred}
+use Rattle.c_tree.specs.WellFormed.{AreAttrs, AreParams, AreSpecWords, IsParamEnd, IsElement, IsQual, IsWordQual, IsEllipsis, ends_starred, is_auto, has_auto}
 use Rattle.c_specs.specs.Reading.{append_words}
 use Rattle.typedef_scope.specs.declared.kind.Kind.TheVariants.{Value}
 use Rattle.c_units.specs.HeldScopes.{HeldScopes, release}
 use Rattle.c_units.specs.Scoping.{behind, where_true, spec_words_scopes, some_declr_scopes, some_shows_no_type, params_scopes, spec_word_scopes}
-use Rattle.c_reading.specs.declared.kinds.Role.TheVariants.{Declaring}
+use Rattle.c_reading.specs.declared.kinds.Role.TheVariants.{Typed}
 use Rattle.c_reading.specs.declared.kinds.Mode.TheVariants.{Either}
 use Rattle.c_reading.specs.Reading.{IsNumbered, IsTail, Found, Reader, kind_at, listed, comma_turn, with_next, is_comma, Next, one_more, list_end, CommaList}
 use Rattle.c_reading.specs.Tokens.{is_close_paren, is_dots}
@@ -110,6 +110,22 @@ attrs_count : (attrs : List Attr) → type_count (words_of_attrs attrs) ≡ 0
 attrs_count [] = refl
 attrs_count (a ∷ attrs) = attrs_count attrs
 
+quals_plain : (qs : List Qual) → has_auto (words_of_quals qs) ≡ false
+quals_plain [] = refl
+quals_plain (q ∷ qs) = quals_plain qs
+
+attrs_plain : (attrs : List Attr) → has_auto (words_of_attrs attrs) ≡ false
+attrs_plain [] = refl
+attrs_plain (a ∷ attrs) = attrs_plain attrs
+
+pub append_plain : (ws more : SpecWords) → has_auto ws ≡ false → has_auto more ≡ false → has_auto (append_words ws more) ≡ false
+append_plain no_words more h g = g
+append_plain (more_words w ws) more h g = by_word (is_auto w) h (λ h. append_plain ws more h g)
+  where
+    by_word : (b : Bool) → (b || has_auto ws) ≡ false → (has_auto ws ≡ false → has_auto (append_words ws more) ≡ false) → (b || has_auto (append_words ws more)) ≡ false
+    by_word true h rest = absurd cc
+    by_word false h rest = rest h
+
 module _ (all : List Lexeme) where
   pub append_text : (ws more : SpecWords) (k : List Lexeme) → spec_words_text all (append_words ws more) k ≡ spec_words_text all ws (spec_words_text all more k)
   append_text no_words more k = refl
@@ -131,20 +147,21 @@ module _ (all : List Lexeme) where
     pub flat : (s : HeldScopes) → spec_words_scopes ws s ≡ Some s
     pub words : type_words ws ≡ []
     pub count : type_count ws ≡ 0
+    pub plain : has_auto ws ≡ false
 
   pub known_none : Known no_words
-  known_none = record { fits = tt; flat = λ s. refl; words = refl; count = refl }
+  known_none = record { fits = tt; flat = λ s. refl; words = refl; count = refl; plain = refl }
 
-  quals_fit : (qs : List Qual) → All (IsQual all) qs → AreSpecWords all (words_of_quals qs)
+  quals_fit : (qs : List Qual) → All (IsWordQual all) qs → AreSpecWords all (words_of_quals qs)
   quals_fit [] h = tt
-  quals_fit (q ∷ qs) h = (All-head (IsQual all) q qs h, quals_fit qs (All-tail (IsQual all) q qs h))
+  quals_fit (q ∷ qs) h = (All-head (IsWordQual all) q qs h, quals_fit qs (All-tail (IsWordQual all) q qs h))
 
   quals_flat : (qs : List Qual) (s : HeldScopes) → spec_words_scopes (words_of_quals qs) s ≡ Some s
   quals_flat [] s = refl
   quals_flat (q ∷ qs) s = quals_flat qs s
 
-  pub known_quals : (qs : List Qual) → All (IsQual all) qs → Known (words_of_quals qs)
-  known_quals qs h = record { fits = quals_fit qs h; flat = quals_flat qs; words = quals_words qs; count = quals_count qs }
+  pub known_quals : (qs : List Qual) → All (IsWordQual all) qs → Known (words_of_quals qs)
+  known_quals qs h = record { fits = quals_fit qs h; flat = quals_flat qs; words = quals_words qs; count = quals_count qs; plain = quals_plain qs }
 
   attrs_fit : (attrs : List Attr) → AreAttrs all attrs → AreSpecWords all (words_of_attrs attrs)
   attrs_fit [] h = tt
@@ -155,7 +172,7 @@ module _ (all : List Lexeme) where
   attrs_flat (a ∷ attrs) s = attrs_flat attrs s
 
   pub known_attrs : (attrs : List Attr) → AreAttrs all attrs → Known (words_of_attrs attrs)
-  known_attrs attrs h = record { fits = attrs_fit attrs h; flat = attrs_flat attrs; words = attrs_words attrs; count = attrs_count attrs }
+  known_attrs attrs h = record { fits = attrs_fit attrs h; flat = attrs_flat attrs; words = attrs_words attrs; count = attrs_count attrs; plain = attrs_plain attrs }
 
   pub quals_spelled : (qs : List Qual) (k : List Lexeme) → spec_words_text all (words_of_quals qs) k ≡ quals_text all qs k
   quals_spelled [] k = refl
@@ -171,16 +188,18 @@ module _ (all : List Lexeme) where
       pub spelled : spec_words_text all known ts ≡ spec_words_text all x.tree x.rest
       pub mix : IsMix x.tree
       pub fits : AreSpecWords all x.tree
+      pub plain : has_auto x.tree ≡ false
       pub named : spec_words_scopes x.tree s ≡ Some x.scopes
       pub low : specs_height x.tree + 1 ≤ room
       pub left : IsTail all x.rest
 
-    words_behind : (w : SpecWord) (ws : SpecWords) (room : ℕ) (s : HeldScopes) (ts : List Lexeme) (x : Found SpecWords) → Known (more_words w ws) → TakesWords all Declaring (more_words w ws) (room - 1) s ts x →
+    words_behind : (w : SpecWord) (ws : SpecWords) (room : ℕ) (s : HeldScopes) (ts : List Lexeme) (x : Found SpecWords) → Known (more_words w ws) → TakesWords all Typed (more_words w ws) (room - 1) s ts x →
         TookWords (more_words w ws) room s ts x
     words_behind w ws room s ts x known t = record {
       spelled = ap (spec_words_text all (more_words w ws)) t.spelled ∙ sym (append_text (more_words w ws) t.rest x.rest) ∙ ap (λ (us : SpecWords). spec_words_text all us x.rest) (sym t.words_are);
       mix = t.mix;
-      fits = subst (AreSpecWords all) (sym t.words_are) (append_fits (more_words w ws) t.rest known.fits t.fits);
+      fits = subst (AreSpecWords all) (sym t.words_are) (append_fits (more_words w ws) t.rest known.fits t.fits.0);
+      plain = subst (λ (us : SpecWords). has_auto us ≡ false) (sym t.words_are) (append_plain (more_words w ws) t.rest known.plain t.fits.1);
       named = ap (λ (us : SpecWords). spec_words_scopes us s) t.words_are ∙ append_scopes (more_words w ws) t.rest s s (Some x.scopes) (known.flat s) t.named;
       low = by_low t.low;
       left = t.left;
@@ -198,9 +217,9 @@ module _ (all : List Lexeme) where
 
     words_sound : (known : SpecWords) (room : ℕ) (s : HeldScopes) (ts : List Lexeme) (x : Found SpecWords) → IsTail all ts → Known known → param_words inner known room s ts ≡ done x → TookWords known room s ts x
     words_sound no_words room s ts x tail known e =
-        let t = specs_here_sound all n inner laws room s ts x tail e in
-        record { spelled = t.spelled; mix = t.fits.0; fits = t.fits.1; named = t.named; low = t.low; left = t.left }
-    words_sound (more_words w ws) room s ts x tail known e = words_behind w ws room s ts x known (laws.words.sound Declaring (more_words w ws) (room - 1) s ts x tail e)
+        let t = specs_here_sound all n inner laws Typed room s ts x tail e in
+        record { spelled = t.spelled; mix = t.fits.0; fits = t.fits.1.0; plain = t.fits.1.1; named = t.named; low = t.low; left = t.left }
+    words_sound (more_words w ws) room s ts x tail known e = words_behind w ws room s ts x known (laws.words.sound Typed (more_words w ws) (room - 1) s ts x tail e)
 
     -- a parameter, behind words that were read already
     pub record TookParam (known : SpecWords) (room : ℕ) (s : HeldScopes) (ts : List Lexeme) (x : Found ParamItem) : Type 0 where
@@ -250,7 +269,7 @@ module _ (all : List Lexeme) where
         let low : some_declr_height b.0.tree.declr ≤ room - 1 = d.low in
         at_end (TookParam known room s ts) c.2 (record {
           spelled = w.spelled ∙ ap (spec_words_text all a.0.tree) (d.spelled ∙ ap (some_declr_text all b.0.tree.declr) f.spelled);
-          fits = (w.mix, w.fits, d.fits.0, f.fits, f.there);
+          fits = (w.mix, w.fits, w.plain, d.fits.0, f.fits, f.there, d.plain refl);
           named = behind_is (λ (t : HeldScopes). Some (release Value t)) (behind_is (some_declr_scopes (Some Value) b.0.tree.declr)
               (behind_is (λ (t : HeldScopes). where_true (some_shows_no_type t b.0.tree.declr) t) w.named (shown (some_shows_no_type a.0.scopes b.0.tree.declr) a.0.scopes d.fits.1)) d.named) (ap Some (sym f.same));
           low = omega (arith, w.low, low, low_attrs c.0.tree, specs_high a.0.tree);
@@ -270,11 +289,11 @@ module _ (all : List Lexeme) where
     qual_long (quals.Element token) k h = element_long (tokens_between all token token) k h
     qual_long (quals.Index token) k h = refl
 
-    quals_long : (qs : List Qual) (k : List Lexeme) → All (IsQual all) qs → length k ≤ length (quals_text all qs k)
+    quals_long : (qs : List Qual) (k : List Lexeme) → All (IsWordQual all) qs → length k ≤ length (quals_text all qs k)
     quals_long [] k h = omega arith
     quals_long (q ∷ qs) k h =
-        let rest : length k ≤ length (quals_text all qs k) = quals_long qs k (All-tail (IsQual all) q qs h) in
-        omega (arith, rest, qual_long q (quals_text all qs k) (All-head (IsQual all) q qs h))
+        let rest : length k ≤ length (quals_text all qs k) = quals_long qs k (All-tail (IsWordQual all) q qs h) in
+        omega (arith, rest, qual_long q (quals_text all qs k) (All-head (IsWordQual all) q qs h).0)
 
     -- what stands behind a comma
     next_sound : (room comma : ℕ) (s : HeldScopes) (ts : List Lexeme) (x : Found (Next ParamItem Dots)) → IsTail all ts → next_param inner room comma s ts ≡ done x →
@@ -296,14 +315,14 @@ module _ (all : List Lexeme) where
         at_end (λ (x : Found (Next ParamItem Dots)). NextTakes all (param_form all) (dots_ending all) room comma s ts x.tree x.scopes x.rest) b.2
         (record { spelled = spelled; fits = p.fits; named = ap (λ (t : HeldScopes). (param_form all).scopes b.0.tree t) (sym same) ∙ p.named; low = p.low; left = p.left }, less))
       where
-        shorter : (qs : List Qual) (y : Found ParamItem) → ts ≡ quals_text all qs (bind_ok e).0.rest → All (IsQual all) qs → param_with inner (words_of_quals qs) room (bind_ok e).0.scopes (bind_ok e).0.rest ≡ done y → length y.rest < length ts
+        shorter : (qs : List Qual) (y : Found ParamItem) → ts ≡ quals_text all qs (bind_ok e).0.rest → All (IsWordQual all) qs → param_with inner (words_of_quals qs) room (bind_ok e).0.scopes (bind_ok e).0.rest ≡ done y → length y.rest < length ts
         shorter [] y spelled fits e' =
             let less : length y.rest < length (bind_ok e).0.rest = param_shrinks all tokens n inner laws room _ _ _ e' in
             omega (arith, less, ap length spelled)
         shorter (q ∷ qs) y spelled fits e' =
             let less : length y.rest ≤ length (bind_ok e).0.rest = param_falls all tokens n inner laws (words_of_quals (q ∷ qs)) room _ _ _ e' in
-            let one : length (qual_text all q (quals_text all qs (bind_ok e).0.rest)) ≡ suc (length (quals_text all qs (bind_ok e).0.rest)) = qual_long q (quals_text all qs (bind_ok e).0.rest) (All-head (IsQual all) q qs fits) in
-            let more : length (bind_ok e).0.rest ≤ length (quals_text all qs (bind_ok e).0.rest) = quals_long qs (bind_ok e).0.rest (All-tail (IsQual all) q qs fits) in
+            let one : length (qual_text all q (quals_text all qs (bind_ok e).0.rest)) ≡ suc (length (quals_text all qs (bind_ok e).0.rest)) = qual_long q (quals_text all qs (bind_ok e).0.rest) (All-head (IsWordQual all) q qs fits).0 in
+            let more : length (bind_ok e).0.rest ≤ length (quals_text all qs (bind_ok e).0.rest) = quals_long qs (bind_ok e).0.rest (All-tail (IsWordQual all) q qs fits) in
             omega (arith, less, ap length spelled, one, more)
 
     -- parameters, behind attributes of the first

@@ -1,5 +1,5 @@
 -- What the reader of units answers of the tokens of small sources: the height of the unit, or why which token is refused.
-use Rattle.std.proofs.Common.{◌≡◌, ℕ, List, [], ◌∷◌, Ok, Err, inl, inr, refl}
+use Rattle.std.proofs.Common.{◌≡◌, ℕ, false, List, [], ◌∷◌, Ok, Err, inl, inr, refl}
 use Rattle.c_words.specs.declared.kinds.TokenKind.{TokenKind}
 use Rattle.c_words.specs.declared.kinds.TokenKind.TheVariants as kinds
 use Rattle.c_words.specs.declared.kinds.Punct.TheVariants as puncts
@@ -9,22 +9,22 @@ use Rattle.std.specs.Prelude.{◌⊎◌}
 use Rattle.c_units.specs.Units.{numbered}
 use Rattle.c_reading.specs.declared.kinds.Fault.TheVariants as faults
 use Rattle.c_reading.specs.Reading.{Read, Refusal}
-use Rattle.c_reading.specs.Tokens.{extensions_at, texts_at, quals_at, array_words_at, asm_words_at, group_at, attr_at, attrs_at, pointer_word_at, pointer_words_at, assert_at}
-use Rattle.c_reading.specs.Declaring.{star_size, size_with, array_with, param_with, next_param, params_with, prototype_with, paren_with, named_paren, opened_by, opened_with, core_with, direct_with, pointer_with, declr_with, type_name_with}
+use Rattle.c_reading.specs.Tokens.{extensions_at, texts_at, quals_at, array_words_at, asm_words_at, group_at, attr_at, attrs_at, pointer_word_at, pointer_words_at, assert_at, align_at}
+use Rattle.c_reading.specs.Declaring.{star_size, size_with, array_with, param_with, next_param, params_with, prototype_with, paren_with, named_paren, opened_by, opened_with, core_with, direct_with, pointer_with, declr_with, type_name_with, names_list, identifiers_with}
 use Rattle.c_reading.specs.Reading.{and_then, fits, turns, run, repeated, listed}
-use Rattle.c_reading.specs.Stating.{label_at, some_init_with, declr_behind, init_declr_with, next_init_declr, declrs_with, bare_declaration, declaration_behind, declaration_with, declaration_from, expr_stmt_with, label_with, named_item, extended_item, attr_item_by, attr_item, other_item, block_item_with, block_body, block_with, some_expr_with, case_with, default_with, some_else_with, if_inside, headed_inside, do_inside, start_value_with, extended_start, for_start_with, for_inside, goto_with, jump_with, return_with, asm_with, attr_stmt_with, named_stmt, stmt_by, stmt_with}
-use Rattle.c_reading.specs.Initialising.{init_with, member_desig_with, index_desig_with, desig_with, init_here, init_item_with, next_init_item, init_items_with, braced_with, init_list_with}
+use Rattle.c_reading.specs.Stating.{label_at, some_init_with, declr_behind, init_declr_with, next_init_declr, declrs_with, bare_declaration, declaration_behind, declaration_with, declaration_from, expr_stmt_with, label_with, named_item, extended_item, attr_item_by, attr_item, other_item, block_item_with, block_body, block_with, some_expr_with, case_with, default_with, some_else_with, if_inside, headed_inside, do_inside, start_value_with, extended_start, for_start_with, for_inside, goto_with, jump_with, return_with, asm_with, attr_stmt_with, named_stmt, stmt_by, stmt_with, auto_declr, auto_behind, labels_with, range_behind as range_behind_2, value_behind, goto_value_with, goto_name}
+use Rattle.c_reading.specs.Initialising.{init_with, member_desig_with, index_desig_with, desig_with, init_here, init_item_with, next_init_item, init_items_with, braced_with, init_list_with, range_behind, index_behind, old_item, plain_item, named_init_item}
 use Rattle.c_reading.specs.Knot.{knot, unit_at}
-use Rattle.c_reading.specs.Specifying.{specs_here, value_with, named_declr, width_with, field_with, mem_declr_with, first_member, next_member, mem_declrs_with, member_with, struct_item_with, members_with, body_with, struct_with, enumerator_behind, enumerator_named, enumerator_with, next_enumerator, enumerators_with, enum_body_with, enum_with, word_by, word_with, specs_with}
-use Rattle.c_reading.specs.Expressing.{next_argument, arguments_with, index_with, call_with, dot_with, arrow_with, post_with, postfixed, text_with, compound_with, cast_behind, typed_behind, typed_with, statement_with, paren_with as paren_with_2, opened_by as opened_by_2, opened_with as opened_with_2, prefix_with, extension_with, sizeof_value_with, sizeof_typed, sizeof_type_with, sizeof_behind, sizeof_with, va_arg_with, va_two_with, step_with, offset_with, unary_by, unary_with, cast_with, operand_with, middle_with, row_with, expr_with}
-use Rattle.c_reading.specs.Items.{function_with, attrs_behind, function_or_not, behind_function, first_declr, declared_item, asm_item_with, item_with, items_with}
+use Rattle.c_reading.specs.Specifying.{specs_here, value_with, named_declr, width_with, field_with, mem_declr_with, first_member, next_member, mem_declrs_with, member_with, struct_item_with, members_with, body_with, struct_with, enumerator_behind, enumerator_named, enumerator_with, next_enumerator, enumerators_with, enum_body_with, enum_with, word_by, word_with, specs_with, typed_word_with, typeof_value_with, typeof_with, atomic_with}
+use Rattle.c_reading.specs.Expressing.{next_argument, arguments_with, index_with, call_with, dot_with, arrow_with, post_with, postfixed, text_with, compound_with, cast_behind, typed_behind, typed_with, statement_with, paren_with as paren_with_2, opened_by as opened_by_2, opened_with as opened_with_2, prefix_with, extension_with, sizeof_value_with, sizeof_typed, sizeof_type_with, sizeof_behind, sizeof_with, va_arg_with, va_two_with, step_with, offset_with, unary_by, unary_with, cast_with, operand_with, middle_with, row_with, expr_with, part_with, label_use_with, compat_with, choose_with, default_assoc_with, typed_assoc_with, assoc_with, next_assoc, generic_with}
+use Rattle.c_reading.specs.Items.{function_with, attrs_behind, function_or_not, behind_function, first_declr, declared_item, asm_item_with, item_with, items_with, old_declaration, old_function_with}
 
 answer : Read (List Item) → ℕ ⊎ Refusal
 answer (Ok x) = inl (unit_height x.tree)
 answer (Err r) = inr r
 
 abbrev reads : List TokenKind → ℕ ⊎ Refusal
-reads tokens = answer (unit_at (numbered tokens))
+reads tokens = answer (unit_at false (numbered tokens))
 
 -- (The texts of the sources stand above their tokens; names are numbered in the order of their first use.)
 examples :
@@ -120,5 +120,5 @@ examples :
     (reads (kinds.Keyword keywords.Void ∷ kinds.Name 0 ∷ kinds.Punct puncts.OpenParen ∷ kinds.Keyword keywords.Void ∷ kinds.Punct puncts.CloseParen ∷ kinds.Punct puncts.OpenBrace ∷ kinds.Name 1 ∷ kinds.Punct puncts.Equal ∷ kinds.Number ∷ kinds.Punct puncts.Question ∷ kinds.Number ∷ kinds.Punct puncts.Colon ∷ kinds.Number ∷ kinds.Punct puncts.Equal ∷ kinds.Number ∷ kinds.Punct puncts.Semicolon ∷ kinds.Punct puncts.CloseBrace ∷ kinds.End ∷ []) ≡ inr (faults.BadTarget, 13)) ×
     -- void f(void) { case 1 ? 2 : x = 3: ; }
     (reads (kinds.Keyword keywords.Void ∷ kinds.Name 0 ∷ kinds.Punct puncts.OpenParen ∷ kinds.Keyword keywords.Void ∷ kinds.Punct puncts.CloseParen ∷ kinds.Punct puncts.OpenBrace ∷ kinds.Keyword keywords.Case ∷ kinds.Number ∷ kinds.Punct puncts.Question ∷ kinds.Number ∷ kinds.Punct puncts.Colon ∷ kinds.Name 1 ∷ kinds.Punct puncts.Equal ∷ kinds.Number ∷ kinds.Punct puncts.Colon ∷ kinds.Punct puncts.Semicolon ∷ kinds.Punct puncts.CloseBrace ∷ kinds.End ∷ []) ≡ inr (faults.BadTarget, 12))
-unfolding extensions_at texts_at quals_at array_words_at asm_words_at group_at attr_at attrs_at pointer_word_at pointer_words_at assert_at star_size size_with array_with param_with next_param params_with prototype_with paren_with named_paren opened_by opened_with core_with direct_with pointer_with declr_with type_name_with and_then fits turns run repeated listed label_at some_init_with declr_behind init_declr_with next_init_declr declrs_with bare_declaration declaration_behind declaration_with declaration_from expr_stmt_with label_with named_item extended_item attr_item_by attr_item other_item block_item_with block_body block_with some_expr_with case_with default_with some_else_with if_inside headed_inside do_inside start_value_with extended_start for_start_with for_inside goto_with jump_with return_with asm_with attr_stmt_with named_stmt stmt_by stmt_with init_with member_desig_with index_desig_with desig_with init_here init_item_with next_init_item init_items_with braced_with init_list_with knot unit_at specs_here value_with named_declr width_with field_with mem_declr_with first_member next_member mem_declrs_with member_with struct_item_with members_with body_with struct_with enumerator_behind enumerator_named enumerator_with next_enumerator enumerators_with enum_body_with enum_with word_by word_with specs_with next_argument arguments_with index_with call_with dot_with arrow_with post_with postfixed text_with compound_with cast_behind typed_behind typed_with statement_with paren_with_2 opened_by_2 opened_with_2 prefix_with extension_with sizeof_value_with sizeof_typed sizeof_type_with sizeof_behind sizeof_with va_arg_with va_two_with step_with offset_with unary_by unary_with cast_with operand_with middle_with row_with expr_with function_with attrs_behind function_or_not behind_function first_declr declared_item asm_item_with item_with items_with answer
+unfolding extensions_at texts_at quals_at array_words_at asm_words_at group_at attr_at attrs_at pointer_word_at pointer_words_at assert_at star_size size_with array_with param_with next_param params_with prototype_with paren_with named_paren opened_by opened_with core_with direct_with pointer_with declr_with type_name_with and_then fits turns run repeated listed label_at some_init_with declr_behind init_declr_with next_init_declr declrs_with bare_declaration declaration_behind declaration_with declaration_from expr_stmt_with label_with named_item extended_item attr_item_by attr_item other_item block_item_with block_body block_with some_expr_with case_with default_with some_else_with if_inside headed_inside do_inside start_value_with extended_start for_start_with for_inside goto_with jump_with return_with asm_with attr_stmt_with named_stmt stmt_by stmt_with init_with member_desig_with index_desig_with desig_with init_here init_item_with next_init_item init_items_with braced_with init_list_with knot unit_at specs_here value_with named_declr width_with field_with mem_declr_with first_member next_member mem_declrs_with member_with struct_item_with members_with body_with struct_with enumerator_behind enumerator_named enumerator_with next_enumerator enumerators_with enum_body_with enum_with word_by word_with specs_with next_argument arguments_with index_with call_with dot_with arrow_with post_with postfixed text_with compound_with cast_behind typed_behind typed_with statement_with paren_with_2 opened_by_2 opened_with_2 prefix_with extension_with sizeof_value_with sizeof_typed sizeof_type_with sizeof_behind sizeof_with va_arg_with va_two_with step_with offset_with unary_by unary_with cast_with operand_with middle_with row_with expr_with function_with attrs_behind function_or_not behind_function first_declr declared_item asm_item_with item_with items_with names_list identifiers_with part_with label_use_with compat_with choose_with default_assoc_with typed_assoc_with assoc_with next_assoc generic_with range_behind index_behind old_item plain_item named_init_item old_declaration old_function_with typed_word_with typeof_value_with typeof_with atomic_with auto_declr auto_behind labels_with range_behind_2 value_behind goto_value_with goto_name align_at answer
 examples = (refl, refl, refl, refl, refl, refl, refl, refl, refl, refl, refl, refl, refl, refl, refl, refl, refl, refl, refl, refl, refl, refl, refl, refl, refl, refl, refl, refl, refl, refl, refl, refl, refl, refl, refl, refl, refl, refl, refl, refl, refl, refl, refl, refl, refl, refl)

@@ -6,7 +6,7 @@ use Rattle.c_words.specs.declared.kinds.TokenKind.TheVariants as kinds
 use Rattle.c_words.specs.declared.kinds.Punct.{Punct}
 use Rattle.c_words.specs.declared.kinds.Punct.TheVariants as puncts
 use Rattle.c_tree.specs.declared.lexeme.Lexeme.{Lexeme}
-use Rattle.c_tree.specs.Tree.{Expr, operation, cast, prefix, sizeof_value, sizeof_type, extension, index, call, dot, arrow, post, compound, name_use, number_use, char_use, text_use, paren, statement_expr, va_arg, va_start, va_copy, offset, Operator, comma, assign, cond, binary, Exprs, no_exprs, more_exprs}
+use Rattle.c_tree.specs.Tree.{Expr, operation, cast, prefix, sizeof_value, sizeof_type, extension, index, call, dot, arrow, post, compound, name_use, number_use, char_use, text_use, paren, statement_expr, va_arg, va_start, va_copy, offset, complex_part, label_use, compat, choose, generic, Operator, comma, assign, cond, binary, Exprs, no_exprs, more_exprs}
 use Rattle.c_tree.specs.Text.{sign_text, word_text, expr_text, exprs_text, desig_text, desigs_text, other_exprs_text, identifier_text}
 use Rattle.c_tree.specs.Height.{expr_height, exprs_height}
 use Rattle.c_tree.specs.Levels.{IsOperator, binary_level, expr_level, operator_level, right_level}
@@ -180,6 +180,8 @@ module _ (all : List Lexeme) (numbered : IsNumbered all) (tokens : TokenLaws all
   IsBase (dot e token name) = ⊥
   IsBase (arrow e token name) = ⊥
   IsBase (post e token p) = ⊥
+  IsBase (complex_part keyword e) = ⊥
+  IsBase (label_use token name) = ⊥
   IsBase e = Unit {0}
 
   -- The operand that postfix forms stand behind, and that they go on from there.
@@ -209,6 +211,8 @@ module _ (all : List Lexeme) (numbered : IsNumbered all) (tokens : TokenLaws all
   base_of room less (sizeof_value word e) s s' k h l named low no_text = absurd (omega (arith, l))
   base_of room less (sizeof_type word opening ws d closing) s s' k h l named low no_text = absurd (omega (arith, l))
   base_of room less (extension keyword e) s s' k h l named low no_text = absurd (omega (arith, l))
+  base_of room less (complex_part keyword e) s s' k h l named low no_text = absurd (omega (arith, l))
+  base_of room less (label_use token name) s s' k h l named low no_text = absurd (omega (arith, l))
   base_of room less (index e opening e2 closing) s s' k h l named low no_text =
       let b = behind_ok (expr_scopes e s) (expr_scopes e2) s' named in
       let i = base_of room less e s b.0 (sign_text puncts.OpenBracket opening (expr_text all e2 (sign_text puncts.CloseBracket closing k))) h.0 h.2 b.1
@@ -323,3 +327,9 @@ module _ (all : List Lexeme) (numbered : IsNumbered all) (tokens : TokenLaws all
       record { base = va_copy keyword opening e separator e2 closing; behind_base = k; middle = s'; is_base = tt; same_text = refl; fits = h; named = named; low = omega arith; no_text = no_text; goes_on = refl }
   base_of room less (offset keyword opening ws d separator name steps closing) s s' k h l named low no_text =
       record { base = offset keyword opening ws d separator name steps closing; behind_base = k; middle = s'; is_base = tt; same_text = refl; fits = h; named = named; low = omega arith; no_text = no_text; goes_on = refl }
+  base_of room less (compat keyword opening ws d separator ws2 d2 closing) s s' k h l named low no_text =
+      record { base = compat keyword opening ws d separator ws2 d2 closing; behind_base = k; middle = s'; is_base = tt; same_text = refl; fits = h; named = named; low = omega arith; no_text = no_text; goes_on = refl }
+  base_of room less (choose keyword opening e separator e2 separator2 e3 closing) s s' k h l named low no_text =
+      record { base = choose keyword opening e separator e2 separator2 e3 closing; behind_base = k; middle = s'; is_base = tt; same_text = refl; fits = h; named = named; low = omega arith; no_text = no_text; goes_on = refl }
+  base_of room less (generic keyword opening e xs closing) s s' k h l named low no_text =
+      record { base = generic keyword opening e xs closing; behind_base = k; middle = s'; is_base = tt; same_text = refl; fits = h; named = named; low = omega arith; no_text = no_text; goes_on = refl }

@@ -9,30 +9,32 @@ use Rattle.c_words.specs.declared.kinds.Keyword.{Keyword}
 use Rattle.c_words.specs.declared.kinds.Keyword.TheVariants as keywords
 use Rattle.c_tree.specs.declared.lexeme.Lexeme.{Lexeme}
 use Rattle.c_syntax.specs.declared.parts.Word.{Word}
-use Rattle.c_tree.specs.Tree.{Expr, operation, cast, prefix, sizeof_value, sizeof_type, extension, index, call, dot, arrow, post, compound, name_use, number_use, char_use, text_use, paren, statement_expr, va_arg, va_start, va_copy, offset, SpecWords, no_words, more_words, SomeDeclr, Desigs, Desig, member_desig, index_desig, InitList, init_list, more_block_items, no_block_items, BlockItems}
-use Rattle.c_tree.specs.Text.{sign_text, keyword_text, plain_text, word_text, identifier_text, expr_text, spec_words_text, some_declr_text, init_list_text, block_items_text, texts_text, desig_text, desigs_text}
-use Rattle.c_tree.specs.Height.{expr_height, specs_height, some_declr_height, init_list_height, block_height, steps_height, step_height}
+use Rattle.c_tree.specs.Tree.{Expr, operation, cast, prefix, sizeof_value, sizeof_type, extension, index, call, dot, arrow, post, compound, name_use, number_use, char_use, text_use, paren, statement_expr, va_arg, va_start, va_copy, offset, complex_part, label_use, compat, choose, generic, Assocs, no_assocs, more_assocs, Assoc, typed_assoc, default_assoc, SpecWords, no_words, more_words, SomeDeclr, Desigs, Desig, member_desig, index_desig, range_desig, old_desig, InitList, init_list, more_block_items, no_block_items, BlockItems}
+use Rattle.c_tree.specs.Text.{separated, assoc_text, assocs_text, sign_text, keyword_text, plain_text, word_text, identifier_text, expr_text, spec_words_text, some_declr_text, init_list_text, block_items_text, texts_text, desig_text, desigs_text}
+use Rattle.c_tree.specs.Height.{expr_height, assoc_height, assocs_height, specs_height, some_declr_height, init_list_height, block_height, steps_height, step_height}
 use Rattle.c_tree.specs.Levels.{expr_level, operator_level}
 use Rattle.c_tree.specs.Specifiers.{IsMix}
-use Rattle.c_tree.specs.WellFormed.{IsExpr, AreTypeWords, IsSomeAbstract, prefix_level, is_sizeof, IsInitList, AreSteps, IsStep}
-use Rattle.c_units.specs.HeldScopes.{HeldScopes, names_type}
-use Rattle.c_units.specs.Scoping.{behind, where_true, expr_scopes, spec_words_scopes, some_declr_scopes, init_list_scopes, desig_scopes, desigs_scopes}
+use Rattle.c_tree.specs.WellFormed.{IsExpr, AreAssocs, AreTypeWords, IsSomeAbstract, prefix_level, is_sizeof, IsInitList, AreSteps, IsStep}
+use Rattle.c_units.specs.HeldScopes.{HeldScopes, is_wide, names_type}
+use Rattle.c_units.specs.Scoping.{behind, where_true, assocs_scopes, expr_scopes, spec_words_scopes, some_declr_scopes, init_list_scopes, desig_scopes, desigs_scopes}
 use Rattle.c_reading.specs.declared.kinds.Reach.{Reach}
 use Rattle.c_reading.specs.declared.kinds.Reach.TheVariants.{Whole, Assigned, Conditional, Castable, Unary}
 use Rattle.c_reading.specs.declared.kinds.Opening.{Opening}
 use Rattle.c_reading.specs.declared.kinds.Opening.TheVariants as openings
-use Rattle.c_reading.specs.Reading.{Found, Read, Reader, kind_at, behind_first, fits, IsNumbered, repeated}
-use Rattle.c_reading.specs.Tokens.{is_open_paren, is_text, is_open_brace}
+use Rattle.c_reading.specs.Reading.{Found, Read, Reader, kind_at, behind_first, fits, IsNumbered, is_comma, listed, repeated}
+use Rattle.c_reading.specs.Tokens.{is_open_paren, is_close_paren, is_text, is_open_brace}
 use Rattle.c_reading.specs.Specifying.{begins_specs}
+use Rattle.c_reading.specs.declared.kinds.Role.TheVariants.{Naming}
 use Rattle.c_reading.specs.Parts.{Inner, type_name_height}
-use Rattle.c_reading.specs.Expressing.{punct_opening, opening_of, begins_expr, begins_desig, is_dot, postfixed, text_with, compound_with, cast_behind, typed_behind, typed_with, statement_with, paren_with, opened_by, opened_with, prefix_with, extension_with, sizeof_value_with, sizeof_typed, sizeof_type_with, sizeof_behind, sizeof_with, va_arg_with, va_two_with, step_with, offset_with, unary_by, unary_with, cast_with, primary_with}
+use Rattle.c_reading.specs.Expressing.{punct_opening, opening_of, begins_expr, begins_desig, is_dot, postfixed, text_with, compound_with, cast_behind, typed_behind, typed_with, statement_with, paren_with, opened_by, opened_with, prefix_with, extension_with, sizeof_value_with, sizeof_typed, sizeof_type_with, sizeof_behind, sizeof_with, va_arg_with, va_two_with, step_with, offset_with, part_with, label_use_with, compat_with, choose_with, default_assoc_with, typed_assoc_with, assoc_with, next_assoc, generic_with, unary_by, unary_with, cast_with, primary_with}
 use Rattle.c_reading.proofs.Binding.{found, done, bind_is, fits_is}
-use Rattle.c_reading.proofs.Forms.{behind_ok}
+use Rattle.c_reading.proofs.Forms.{IsComplete, behind_ok}
 use Rattle.c_reading.proofs.Rows.{repeated_complete}
-use Rattle.c_reading.proofs.KindFacts.{expr_no_specs, expr_no_open_brace, not_false}
-use Rattle.c_reading.proofs.Aims.{ends_unary, ends_expr, step_form, TokenLaws, FirstLaws, Laws}
-use Rattle.c_reading.proofs.ExprFalls.{step_shrinks}
-use Rattle.c_reading.proofs.ExprLists.{desigs_items, desigs_back, steps_are, steps_fit_back, steps_named, steps_high}
+use Rattle.c_reading.proofs.Commas.{no_ending, listed_complete}
+use Rattle.c_reading.proofs.KindFacts.{specs_no_default, expr_no_specs, expr_no_open_brace, not_false}
+use Rattle.c_reading.proofs.Aims.{ends_unary, ends_expr, assoc_form, step_form, TokenLaws, FirstLaws, Laws}
+use Rattle.c_reading.proofs.ExprFalls.{step_shrinks, next_assoc_falls}
+use Rattle.c_reading.proofs.ExprLists.{assocs_items, assocs_back, assocs_are, assocs_fit_back, assocs_named, assocs_high, desigs_items, desigs_back, steps_are, steps_fit_back, steps_named, steps_high}
 use Rattle.c_reading.proofs.ExprSoundRows.{expr_high}
 use Rattle.c_reading.proofs.ExprCompleteForms.{operator_twelve, level_sixteen, prefix_opens, prefix_no_paren, ends_castable, ends_unary_expr, ends_no_text, ends_no_brace, inside_less, inside_low, asks_two, max_left, max_right, postfix_ends, IsBase, base_of}
 
@@ -44,6 +46,11 @@ specs_high (more_words w ws) = let rest : 1 ≤ specs_height ws = specs_high ws 
 name_parts : (s m : HeldScopes) (b : Bool) → where_true (not b) s ≡ Some m → (b ≡ false) × (s ≡ m)
 name_parts s m true e = absurd cc
 name_parts s m false e = (refl, cc)
+
+-- what a form of wider C is
+pub wide_parts : (s m : HeldScopes) (b : Bool) → where_true b s ≡ Some m → (b ≡ true) × (s ≡ m)
+wide_parts s m false e = absurd cc
+wide_parts s m true e = (refl, cc)
 
 some_same : (s m : HeldScopes) → Some s ≡ Some m → s ≡ m
 some_same s m e = cc
@@ -162,10 +169,56 @@ module _ (all : List Lexeme) (numbered : IsNumbered all) (tokens : TokenLaws all
       one (member_desig token name) s t k h named low e = bind_is _ refl (bind_is _ refl (ap (λ (t : HeldScopes). done (found (member_desig token name) t k)) (some_same s t named)))
       one (index_desig opening e closing) s t k h named low is =
           bind_is _ refl (bind_is _ (laws.exprs.complete Whole (room - 1) less e s t (sign_text puncts.CloseBracket closing k) (h, omega arith) named low refl) (bind_is _ refl refl))
+      one (range_desig opening e dots e2 closing) s t k h named low is = absurd h
+      one (old_desig name colon) s t k h named low is = absurd h
 
       starts : (x : Desig) (s t : HeldScopes) (k : List Lexeme) → IsStep all x → desig_scopes x s ≡ Some t → begins_desig (kind_at (desig_text all x k)) ≡ true
       starts (member_desig token name) s t k h named = refl
       starts (index_desig opening e closing) s t k h named = refl
+      starts (range_desig opening e dots e2 closing) s t k h named = absurd h
+      starts (old_desig name colon) s t k h named = absurd h
+
+  -- an association is read from its text
+  assoc_read : (room : ℕ) → room ≤ n → IsComplete (assoc_form all) (λ x. ends_expr Assigned) room (assoc_with inner room)
+  unfolding assoc_with default_assoc_with typed_assoc_with
+  assoc_read room less (default_assoc keyword colon e) s s' k h named low ended =
+      fits_is 2 room (keyword_text keywords.Default keyword (sign_text puncts.Colon colon (expr_text all e k))) _ (asks_two (expr_height e) room low (expr_high e)) ∙
+      bind_is _ refl (bind_is _ refl (bind_is _ (laws.exprs.complete Assigned (room - 1) (inside_less (expr_height e) room n less low) e s s' k (h.0, h.1) named (inside_low (expr_height e) room low) ended) refl))
+  assoc_read room less (typed_assoc ws d colon e) s s' k h named low ended =
+      let b = behind_ok (behind (spec_words_scopes ws s) (some_declr_scopes None d)) (expr_scopes e) s' named in
+      let c = behind_ok (spec_words_scopes ws s) (some_declr_scopes None d) b.0 b.1 in
+      let left = max_left (max (specs_height ws) (some_declr_height d) + 1) (expr_height e) room low in
+      let right = max_right (max (specs_height ws) (some_declr_height d) + 1) (expr_height e) room low in
+      let more = sign_text puncts.Colon colon (expr_text all e k) in
+      let begun = firsts.type_words_begin ws s c.0 (some_declr_text all d more) h.0 h.1 c.1 in
+      rw (specs_no_default s (kind_at (spec_words_text all ws (some_declr_text all d more))) begun, begun, firsts.words_stand Naming ws s c.0 (some_declr_text all d more) h.0 h.1 c.1)
+      (fits_is 3 room (spec_words_text all ws (some_declr_text all d more)) _ (three (specs_height ws) (some_declr_height d) room left (specs_high ws)) ∙
+      bind_is _ (laws.types.complete (room - 1) (inside_less (max (specs_height ws) (some_declr_height d) + 1) room n less left) (record { words = ws; declr = d }) s b.0 more (h.0, h.1, h.2) b.1
+      (inside_low (max (specs_height ws) (some_declr_height d) + 1) room left) refl) (bind_is _ refl
+      (bind_is _ (laws.exprs.complete Assigned (room - 1) (inside_less (expr_height e) room n less right) e b.0 s' k (h.3, h.4) b.2 (inside_low (expr_height e) room right) ended) refl)))
+
+  -- associations, the first of which stands behind a comma that was read
+  assocs_read : (room : ℕ) → room ≤ n → (x : Assoc) (xs : Assocs) (s s' : HeldScopes) (k : List Lexeme) → AreAssocs all (more_assocs x xs) → assocs_scopes (more_assocs x xs) s ≡ Some s' →
+      assocs_height (more_assocs x xs) ≤ room → is_close_paren (kind_at k) ≡ true →
+      listed (assoc_with inner room) (next_assoc inner room) s (assoc_text all x (assocs_text all xs k)) ≡ done (found (record { items = x ∷ assocs_items xs; ending = None }) s' k)
+  unfolding next_assoc
+  assocs_read room less x xs s s' k h named low ended =
+      let whole = more_assocs x xs in
+      ap (λ (ts : List Lexeme). listed (assoc_with inner room) (next_assoc inner room) s (assoc_text all x ts)) (sym (assocs_are all (assocs_items xs) k ∙ ap (λ (xs : Assocs). assocs_text all xs k) (assocs_back xs))) ∙
+      listed_complete (assoc_with inner room) (next_assoc inner room) (assoc_form all) no_ending (λ x. ends_expr Assigned) room (next_assoc_falls all tokens n inner laws room)
+      (λ x s t k h n l ended. assoc_read room less x s t k h n l ended)
+      (λ comma x s t k h n l ended. bind_is _ (assoc_read room less x s t k h n l ended) refl) (λ x. refl)
+      (record { items = assocs_items whole; ending = None }) s s' k tt (assocs_fit_back all whole h) (assocs_named all (assocs_items whole) s ∙ ap (λ (xs : Assocs). assocs_scopes xs s) (assocs_back whole) ∙ named)
+      (subst (λ (m : ℕ). m ≤ room) (sym (assocs_high all (assocs_items whole) ∙ ap assocs_height (assocs_back whole))) low)
+      (close_comma (kind_at k) ended, λ x. close_ends (kind_at k) ended)
+    where
+      close_comma : (kind : TokenKind) → is_close_paren kind ≡ true → is_comma kind ≡ false
+      close_comma (kinds.Punct puncts.CloseParen) e = refl
+      close_comma kind e = absurd cc
+
+      close_ends : (kind : TokenKind) → is_close_paren kind ≡ true → ends_expr Assigned kind ≡ true
+      close_ends (kinds.Punct puncts.CloseParen) e = refl
+      close_ends kind e = absurd cc
 
   one_token : (casts : Bool) (make : ℕ → Expr) (room : ℕ) (s : HeldScopes) (token : ℕ) (kind : TokenKind) (k : List Lexeme) → 1 ≤ room → is_open_paren kind ≡ false →
       unary_by inner (opening_of kind) room s (plain_text kind token k) ≡ primary_with inner make room s (plain_text kind token k) →
@@ -176,13 +229,15 @@ module _ (all : List Lexeme) (numbered : IsNumbered all) (tokens : TokenLaws all
   -- a primary expression or a compound literal is read, and then its postfix forms
   pub base_read : (casts : Bool) (room : ℕ) → room ≤ n → (b : Expr) (s m : HeldScopes) (k : List Lexeme) → IsBase all numbered tokens firsts n inner laws b → IsExpr all b → expr_scopes b s ≡ Some m → expr_height b ≤ room →
       is_text (kind_at k) ≡ false → tight casts room s (expr_text all b k) ≡ postfixed inner room b m k
-  unfolding opened_by statement_with paren_with typed_behind text_with va_arg_with va_two_with offset_with unary_by
+  unfolding opened_by statement_with paren_with typed_behind text_with va_arg_with va_two_with offset_with compat_with choose_with generic_with unary_by
   base_read casts room less (operation e op token e2) s m k base h named low no_text = absurd base
   base_read casts room less (cast opening ws d closing e) s m k base h named low no_text = absurd base
   base_read casts room less (prefix token p e) s m k base h named low no_text = absurd base
   base_read casts room less (sizeof_value word e) s m k base h named low no_text = absurd base
   base_read casts room less (sizeof_type word opening ws d closing) s m k base h named low no_text = absurd base
   base_read casts room less (extension keyword e) s m k base h named low no_text = absurd base
+  base_read casts room less (complex_part keyword e) s m k base h named low no_text = absurd base
+  base_read casts room less (label_use token name) s m k base h named low no_text = absurd base
   base_read casts room less (index e opening e2 closing) s m k base h named low no_text = absurd base
   base_read casts room less (call e opening es closing) s m k base h named low no_text = absurd base
   base_read casts room less (dot e token name) s m k base h named low no_text = absurd base
@@ -259,6 +314,63 @@ module _ (all : List Lexeme) (numbered : IsNumbered all) (tokens : TokenLaws all
       fits_is 3 room (keyword_text keywords.Offsetof keyword (sign_text puncts.OpenParen opening (spec_words_text all ws (some_declr_text all d behind_type)))) _ (three (specs_height ws) (some_declr_height d) room left (specs_high ws)) ∙
       bind_is _ refl (bind_is _ refl (bind_is _ typed (bind_is _ refl (bind_is _ refl (bind_is _ (steps_read room (inside_less (steps_height steps) room n less right) steps b.0 m (sign_text puncts.CloseParen closing k) h.3 b.2 (inside_low (steps_height steps) room right) refl)
       (bind_is _ refl (ap (λ (ds : Desigs). postfixed inner room (offset keyword opening ws d separator name ds closing) m k) (desigs_back steps))))))))
+  base_read casts room less (compat keyword opening ws d separator ws2 d2 closing) s m k base h named low no_text =
+      let b = behind_ok (behind (behind (spec_words_scopes ws s) (some_declr_scopes None d)) (spec_words_scopes ws2)) (some_declr_scopes None d2) m named in
+      let c = behind_ok (behind (spec_words_scopes ws s) (some_declr_scopes None d)) (spec_words_scopes ws2) b.0 b.1 in
+      let left = max_left (max (specs_height ws) (some_declr_height d) + 1) (max (specs_height ws2) (some_declr_height d2) + 1) room low in
+      let right = max_right (max (specs_height ws) (some_declr_height d) + 1) (max (specs_height ws2) (some_declr_height d2) + 1) room low in
+      let typed2 : behind (spec_words_scopes ws2 c.0) (some_declr_scopes None d2) ≡ Some m = rw c.2 b.2 in
+      let behind_type = sign_text puncts.Comma separator (type_text ws2 d2 closing k) in
+      let typed : inner.type_name (room - 1) s (spec_words_text all ws (some_declr_text all d behind_type)) ≡ done (found (record { words = ws; declr = d }) c.0 behind_type) =
+      laws.types.complete (room - 1) (inside_less (max (specs_height ws) (some_declr_height d) + 1) room n less left) (record { words = ws; declr = d }) s c.0 behind_type (h.0, h.1, h.2) c.1
+      (inside_low (max (specs_height ws) (some_declr_height d) + 1) room left) refl in
+      other_tight casts room s (record { kind = kinds.Keyword keywords.Compatible; at = keyword }) (sign_text puncts.OpenParen opening (spec_words_text all ws (some_declr_text all d behind_type))) refl ∙
+      fits_is 3 room (keyword_text keywords.Compatible keyword (sign_text puncts.OpenParen opening (spec_words_text all ws (some_declr_text all d behind_type)))) _ (three (specs_height ws) (some_declr_height d) room left (specs_high ws)) ∙
+      bind_is _ refl (bind_is _ refl (bind_is _ typed (bind_is _ refl (bind_is _ (typed_read (room - 1) c.0 ws2 d2 m closing k (record {
+        mix = h.3;
+        words = h.4;
+        declr = h.5;
+        named = typed2;
+        low = inside_low (max (specs_height ws2) (some_declr_height d2) + 1) room right;
+        less = inside_less (max (specs_height ws2) (some_declr_height d2) + 1) room n less right;
+      }))
+      (bind_is _ refl refl)))))
+  base_read casts room less (choose keyword opening e separator e2 separator2 e3 closing) s m k base h named low no_text =
+      let b = behind_ok (behind (expr_scopes e s) (expr_scopes e2)) (expr_scopes e3) m named in
+      let c = behind_ok (expr_scopes e s) (expr_scopes e2) b.0 b.1 in
+      let left = max_left (expr_height e) (max (expr_height e2) (expr_height e3)) room low in
+      let right = max_right (expr_height e) (max (expr_height e2) (expr_height e3)) room low in
+      let second = max_left (expr_height e2) (expr_height e3) room right in
+      let third = max_right (expr_height e2) (expr_height e3) room right in
+      let k3 = sign_text puncts.CloseParen closing k in
+      let k2 = sign_text puncts.Comma separator2 (expr_text all e3 k3) in
+      let k1 = sign_text puncts.Comma separator (expr_text all e2 k2) in
+      other_tight casts room s (record { kind = kinds.Keyword keywords.Choose; at = keyword }) (sign_text puncts.OpenParen opening (expr_text all e k1)) refl ∙
+      fits_is 2 room (keyword_text keywords.Choose keyword (sign_text puncts.OpenParen opening (expr_text all e k1))) _ (asks_two (expr_height e) room left (expr_high e)) ∙
+      bind_is _ refl (bind_is _ refl (bind_is _ (laws.exprs.complete Assigned (room - 1) (inside_less (expr_height e) room n less left) e s c.0 k1 (h.0, h.3) c.1 (inside_low (expr_height e) room left) refl)
+      (bind_is _ refl (bind_is _ (laws.exprs.complete Assigned (room - 1) (inside_less (expr_height e2) room n less second) e2 c.0 b.0 k2 (h.1, h.4) c.2 (inside_low (expr_height e2) room second) refl)
+      (bind_is _ refl (bind_is _ (laws.exprs.complete Assigned (room - 1) (inside_less (expr_height e3) room n less third) e3 b.0 m k3 (h.2, h.5) b.2 (inside_low (expr_height e3) room third) refl) (bind_is _ refl refl)))))))
+  base_read casts room less (generic keyword opening e no_assocs closing) s m k base h named low no_text = absurd (h.2 refl)
+  base_read casts room less (generic keyword opening e (more_assocs x xs) closing) s m k base h named low no_text =
+      let c = behind_ok (expr_scopes e s) (assocs_scopes (more_assocs x xs)) m named in
+      let left = max_left (expr_height e) (assocs_height (more_assocs x xs)) room low in
+      let right = max_right (expr_height e) (assocs_height (more_assocs x xs)) room low in
+      let more = separated (assoc_text all x (assocs_text all xs (sign_text puncts.CloseParen closing k))) in
+      other_tight casts room s (record { kind = kinds.Keyword keywords.Generic; at = keyword }) (sign_text puncts.OpenParen opening (expr_text all e more)) refl ∙
+      fits_is 3 room (keyword_text keywords.Generic keyword (sign_text puncts.OpenParen opening (expr_text all e more))) _ (assoc_asks (assoc_height x) (assocs_height xs) (expr_height e) room low (assoc_two x)) ∙
+      bind_is _ refl (bind_is _ refl (bind_is _ (laws.exprs.complete Assigned (room - 1) (inside_less (expr_height e) room n less left) e s c.0 more (h.0, h.1) c.1 (inside_low (expr_height e) room left) refl)
+      (bind_is _ refl (bind_is _ (assocs_read (room - 1) (room_less room n less) x xs c.0 m (sign_text puncts.CloseParen closing k) h.3 c.2 (inside_low (assocs_height (more_assocs x xs)) room right) refl)
+      (bind_is _ refl (ap (λ (xs : Assocs). postfixed inner room (generic keyword opening e xs closing) m k) (assocs_back (more_assocs x xs))))))))
+    where
+      assoc_two : (x : Assoc) → 2 ≤ assoc_height x
+      assoc_two (typed_assoc ws d colon e) = let high : 1 ≤ expr_height e = expr_high e in omega (arith, high)
+      assoc_two (default_assoc keyword colon e) = let high : 1 ≤ expr_height e = expr_high e in omega (arith, high)
+
+      assoc_asks : (a b h room : ℕ) → max h (max a b) + 1 ≤ room → 2 ≤ a → 3 ≤ room
+      assoc_asks a b h room p q = omega (arith, p, q)
+
+      room_less : (room n : ℕ) → room ≤ n → room - 1 ≤ n
+      room_less room n h = omega (arith, h)
 
   -- an operand with its postfix forms
   postfix_read : (casts : Bool) (room : ℕ) → room ≤ n → (e : Expr) (s s' : HeldScopes) (k : List Lexeme) → IsExpr all e → 15 ≤ expr_level e → expr_scopes e s ≡ Some s' → expr_height e ≤ room → ends_unary (kind_at k) ≡ true →
@@ -374,6 +486,9 @@ module _ (all : List Lexeme) (numbered : IsNumbered all) (tokens : TokenLaws all
       by_base (va_start keyword opening f separator e2 closing) k' m base same fits named2 lower goes = no_paren (rw same refl)
       by_base (va_copy keyword opening f separator e2 closing) k' m base same fits named2 lower goes = no_paren (rw same refl)
       by_base (offset keyword opening ws d separator name steps closing) k' m base same fits named2 lower goes = no_paren (rw same refl)
+      by_base (compat keyword opening ws d separator ws2 d2 closing) k' m base same fits named2 lower goes = no_paren (rw same refl)
+      by_base (choose keyword opening f separator e2 separator2 e3 closing) k' m base same fits named2 lower goes = no_paren (rw same refl)
+      by_base (generic keyword opening f xs closing) k' m base same fits named2 lower goes = no_paren (rw same refl)
       by_base b k' m base same fits named2 lower goes = absurd base
 
   -- the sign of a prefix is one
@@ -390,13 +505,15 @@ module _ (all : List Lexeme) (numbered : IsNumbered all) (tokens : TokenLaws all
   sizeof_operand word room less (sizeof_value word2 e) s s' k h l named low ended = without_paren word room less (sizeof_value word2 e) s s' k h l named low ended refl
   sizeof_operand word room less (sizeof_type word2 opening ws d closing) s s' k h l named low ended = without_paren word room less (sizeof_type word2 opening ws d closing) s s' k h l named low ended refl
   sizeof_operand word room less (extension keyword e) s s' k h l named low ended = without_paren word room less (extension keyword e) s s' k h l named low ended refl
+  sizeof_operand word room less (complex_part keyword e) s s' k h l named low ended = without_paren word room less (complex_part keyword e) s s' k h l named low ended refl
+  sizeof_operand word room less (label_use token name) s s' k h l named low ended = without_paren word room less (label_use token name) s s' k h l named low ended refl
   sizeof_operand word room less (index e opening e2 closing) s s' k h l named low ended = sizeof_postfix word room less (index e opening e2 closing) s s' k h (omega arith) named low ended
   sizeof_operand word room less e s s' k h l named low ended = sizeof_postfix word room less e s s' k h (omega arith) named low ended
 
   -- a unary form is read whole
   pub tight_unary : (casts : Bool) (room : ℕ) → room ≤ n → (e : Expr) (s s' : HeldScopes) (k : List Lexeme) → IsExpr all e → 14 ≤ expr_level e → expr_scopes e s ≡ Some s' → expr_height e ≤ room → ends_unary (kind_at k) ≡ true →
       tight casts room s (expr_text all e k) ≡ done (found e s' k)
-  unfolding unary_by prefix_with extension_with sizeof_with sizeof_behind sizeof_type_with sizeof_typed
+  unfolding unary_by prefix_with extension_with part_with label_use_with sizeof_with sizeof_behind sizeof_type_with sizeof_typed
   tight_unary casts room less (operation e op token e2) s s' k h l named low ended = absurd (let t : operator_level op ≤ 12 = operator_twelve op in omega (arith, t, l))
   tight_unary casts room less (cast opening ws d closing e) s s' k h l named low ended = absurd (omega (arith, l))
   tight_unary casts room less (prefix token p e) s s' k h l named low ended =
@@ -427,6 +544,15 @@ module _ (all : List Lexeme) (numbered : IsNumbered all) (tokens : TokenLaws all
       other_tight casts room s (record { kind = kinds.Keyword keywords.Extension; at = keyword }) (expr_text all e k) refl ∙
       fits_is 2 room (keyword_text keywords.Extension keyword (expr_text all e k)) _ (asks_two (expr_height e) room low (expr_high e)) ∙
       bind_is _ refl (bind_is _ (laws.exprs.complete Castable (room - 1) (inside_less (expr_height e) room n less low) e s s' k (h.0, h.1) named (inside_low (expr_height e) room low) (ends_castable (kind_at k) ended)) refl)
+  tight_unary casts room less (complex_part keyword e) s s' k h l named low ended =
+      other_tight casts room s (record { kind = kinds.Keyword keywords.Part; at = keyword }) (expr_text all e k) refl ∙
+      fits_is 2 room (keyword_text keywords.Part keyword (expr_text all e k)) _ (asks_two (expr_height e) room low (expr_high e)) ∙
+      bind_is _ refl (bind_is _ (laws.exprs.complete Castable (room - 1) (inside_less (expr_height e) room n less low) e s s' k (h.0, h.1) named (inside_low (expr_height e) room low) (ends_castable (kind_at k) ended)) refl)
+  tight_unary casts room less (label_use token name) s s' k h l named low ended =
+      let p = wide_parts s s' (is_wide s) named in
+      other_tight casts room s (record { kind = kinds.Punct puncts.AmpersandAmpersand; at = token }) (identifier_text name k) refl ∙
+      rw p.0 (fits_is 1 room (sign_text puncts.AmpersandAmpersand token (identifier_text name k)) _ low ∙
+      bind_is _ refl (bind_is _ refl (ap (λ (s : HeldScopes). done (found (label_use token name) s k)) p.1)))
   tight_unary casts room less (index e opening e2 closing) s s' k h l named low ended = postfix_read casts room less (index e opening e2 closing) s s' k h (omega arith) named low ended
   tight_unary casts room less e s s' k h l named low ended = postfix_read casts room less e s s' k h (omega arith) named low ended
 

@@ -1,15 +1,15 @@
 -- The readers of expressions take tokens.
 use Rattle.std.proofs.Common.{◌≡◌, ℕ, ◌<◌, ◌≤◌, Bool, true, false, List, length, Some, ap, arith}
-use Rattle.std.specs.Prelude.{◌-◌, nat_le}
+use Rattle.std.specs.Prelude.{◌+◌, ◌-◌, nat_le}
 use Rattle.c_words.specs.declared.kinds.Punct.{Punct}
 use Rattle.c_words.specs.declared.kinds.Keyword.{Keyword}
 use Rattle.c_tree.specs.declared.lexeme.Lexeme.{Lexeme}
 use Rattle.c_syntax.specs.declared.parts.Word.{Word}
-use Rattle.c_tree.specs.Tree.{Expr, name_use, number_use, char_use, va_start, va_copy, Operator}
+use Rattle.c_tree.specs.Tree.{Expr, name_use, number_use, char_use, va_start, va_copy, Operator, comma, assign, binary}
 use Rattle.c_tree.specs.Height.{expr_height}
-use Rattle.c_tree.specs.Levels.{expr_level}
+use Rattle.c_tree.specs.Levels.{binary_level, expr_level}
 use Rattle.c_ops.specs.Joining.{Settled, bottom}
-use Rattle.c_units.specs.HeldScopes.{names_type}
+use Rattle.c_units.specs.HeldScopes.{is_wide, names_type}
 use Rattle.c_reading.specs.declared.kinds.Reach.{Reach}
 use Rattle.c_reading.specs.declared.kinds.Reach.TheVariants.{Whole, Assigned, Conditional, Castable, Unary}
 use Rattle.c_reading.specs.declared.kinds.Opening.{Opening}
@@ -19,11 +19,12 @@ use Rattle.c_reading.specs.declared.kinds.PostfixForm.TheVariants as forms
 use Rattle.c_reading.specs.declared.kinds.Infix.{Infix}
 use Rattle.c_reading.specs.declared.kinds.Infix.TheVariants as infixes
 use Rattle.c_reading.specs.Reading.{Found, Read, kind_at, behind_first}
-use Rattle.c_reading.specs.Tokens.{is_open_paren, is_close_paren, is_close_bracket, is_open_brace, is_colon, is_comma}
-use Rattle.c_reading.specs.Specifying.{begins_specs}
+use Rattle.c_reading.specs.Tokens.{is_open_paren, is_close_paren, is_close_bracket, is_open_brace, is_colon, is_comma, is_default}
+use Rattle.c_reading.specs.Specifying.{begins_role, begins_specs}
+use Rattle.c_reading.specs.declared.kinds.Role.TheVariants.{Naming}
 use Rattle.c_reading.specs.Parts.{Inner, Begun, nothing, extensions, star, TypeName}
-use Rattle.c_reading.specs.Expressing.{infix_of, opening_of, form_of, takes_comma, takes_assign, is_dot, begins_desig, settled, next_argument, arguments_with, index_with, call_with, dot_with, arrow_with, post_with, postfix_by, lowered, postfix_turn, postfixed, primary_with, text_with, compound_with, cast_behind, typed_behind, typed_with, statement_with, paren_with, opened_by, opened_with, prefix_with, extension_with, sizeof_value_with, sizeof_typed, sizeof_type_with, sizeof_behind, sizeof_with, va_arg_with, va_two_with, step_with, offset_with, unary_by, unary_with, cast_with, operand_with, operation_with, middle_with, question_with, operation_by, operation_turn, row_with, expr_with}
-use Rattle.c_reading.proofs.Binding.{done, ok_is, bind_ok, fits_ok, if_ok, take_falls, token_falls, and_one, then_one, then_fewer, then_no_more}
+use Rattle.c_reading.specs.Expressing.{infix_of, opening_of, form_of, takes_comma, takes_assign, is_dot, begins_desig, settled, next_argument, arguments_with, index_with, call_with, dot_with, arrow_with, post_with, postfix_by, lowered, postfix_turn, postfixed, primary_with, text_with, compound_with, cast_behind, typed_behind, typed_with, statement_with, paren_with, opened_by, opened_with, prefix_with, extension_with, sizeof_value_with, sizeof_typed, sizeof_type_with, sizeof_behind, sizeof_with, va_arg_with, va_two_with, step_with, offset_with, part_with, label_use_with, compat_with, choose_with, default_assoc_with, typed_assoc_with, assoc_with, next_assoc, generic_with, unary_by, unary_with, cast_with, operand_with, operation_with, middle_with, question_with, operation_by, operation_turn, row_with, expr_with}
+use Rattle.c_reading.proofs.Binding.{done, ok_is, bind_ok, bind_in, fits_ok, if_ok, take_falls, token_falls, and_one, then_one, then_fewer, then_no_more}
 use Rattle.c_reading.proofs.Loops.{TurnShrinks, run-keep}
 use Rattle.c_reading.proofs.Forms.{Falls, Shrinks, name_falls}
 use Rattle.c_reading.proofs.Rows.{repeated_falls}
@@ -35,9 +36,9 @@ pub left_is : {A : Type 0} {y x : Found A} → done y ≡ done x → length y.re
 left_is e = ap (λ (x : Found _). length x.rest) (ok_is e)
 
 module _ (all : List Lexeme) (tokens : TokenLaws all) (n : ℕ) (inner : Inner) (laws : Laws all n inner) where
-  pub next_argument_falls : (room comma : ℕ) → Falls (next_argument inner room comma)
+  pub next_argument_falls : (room separator : ℕ) → Falls (next_argument inner room separator)
   unfolding next_argument
-  next_argument_falls room comma s ts x e =
+  next_argument_falls room separator s ts x e =
       let a = bind_ok e in
       omega (arith, laws.exprs.shrinks _ _ _ _ _ _ a.1, left_is a.2)
 
@@ -276,6 +277,80 @@ module _ (all : List Lexeme) (tokens : TokenLaws all) (n : ℕ) (inner : Inner) 
       (repeated_falls begins_desig (step_with inner room) (step_shrinks room) _ _ _ g.1)) (name_falls _ _ _ f.1)) (token_falls is_comma _ _ _ d.1)) (laws.types.shrinks _ _ _ _ c.1))
       (token_falls is_open_paren _ _ _ b.1)) (take_falls _ _ _ a.1)
 
+  part_shrinks : (room : ℕ) → Shrinks (part_with inner room)
+  unfolding part_with
+  part_shrinks room s ts x e =
+      let r = fits_ok _ _ _ e in
+      let a = bind_ok r.1 in
+      let b = bind_ok a.2 in
+      omega (arith, take_falls _ _ _ a.1, laws.exprs.shrinks _ _ _ _ _ _ b.1, left_is b.2)
+
+  label_use_shrinks : (room : ℕ) → Shrinks (label_use_with inner room)
+  unfolding label_use_with
+  label_use_shrinks room s ts x e =
+      if_ok (is_wide s) e (λ is e.
+      let r = fits_ok _ _ _ e in
+      let a = bind_ok r.1 in
+      let b = bind_ok a.2 in
+      omega (arith, take_falls _ _ _ a.1, name_falls _ _ _ b.1, left_is b.2)) (λ is e. absurd cc)
+
+  compat_shrinks : (room : ℕ) → Shrinks (compat_with inner room)
+  unfolding compat_with
+  compat_shrinks room s ts x e =
+      let r = fits_ok _ _ _ e in
+      let a = bind_ok r.1 in
+      let b = bind_ok a.2 in
+      let c = bind_ok b.2 in
+      let d = bind_ok c.2 in
+      let f = bind_ok d.2 in
+      let g = bind_ok f.2 in
+      then_one _ _ _ (then_one _ _ _ (then_fewer _ _ _ (then_one _ _ _ (then_fewer _ _ _ (and_one _ _ _ (postfixed_falls _ _ _ _ _ g.2) (token_falls is_close_paren _ _ _ g.1))
+      (laws.types.shrinks _ _ _ _ f.1)) (token_falls is_comma _ _ _ d.1)) (laws.types.shrinks _ _ _ _ c.1)) (token_falls is_open_paren _ _ _ b.1)) (take_falls _ _ _ a.1)
+
+  choose_shrinks : (room : ℕ) → Shrinks (choose_with inner room)
+  unfolding choose_with
+  choose_shrinks room s ts x e =
+      bind_in (fits_ok _ _ _ e).1 (λ a p e. bind_in e (λ b q e. bind_in e (λ c r e. bind_in e (λ d t e. bind_in e (λ f u e. bind_in e (λ g v e. bind_in e (λ h w e. bind_in e (λ i z e.
+      then_one _ _ _ (then_one _ _ _ (then_fewer _ _ _ (then_one _ _ _ (then_fewer _ _ _ (then_one _ _ _ (then_fewer _ _ _ (and_one _ _ _ (postfixed_falls _ _ _ _ _ e) (token_falls is_close_paren _ _ _ z))
+      (laws.exprs.shrinks _ _ _ _ _ _ w)) (token_falls is_comma _ _ _ v)) (laws.exprs.shrinks _ _ _ _ _ _ u)) (token_falls is_comma _ _ _ t)) (laws.exprs.shrinks _ _ _ _ _ _ r))
+      (token_falls is_open_paren _ _ _ q)) (take_falls _ _ _ p)))))))))
+
+  pub assoc_shrinks : (room : ℕ) → Shrinks (assoc_with inner room)
+  unfolding assoc_with default_assoc_with typed_assoc_with
+  assoc_shrinks room s ts x e =
+      if_ok (is_default (kind_at ts)) e (λ is e.
+      let r = fits_ok _ _ _ e in
+      let a = bind_ok r.1 in
+      let b = bind_ok a.2 in
+      let c = bind_ok b.2 in
+      omega (arith, take_falls _ _ _ a.1, token_falls is_colon _ _ _ b.1, laws.exprs.shrinks _ _ _ _ _ _ c.1, left_is c.2)) (λ is e.
+      if_ok (begins_role Naming s (kind_at ts)) e (λ is e.
+      let r = fits_ok _ _ _ e in
+      let a = bind_ok r.1 in
+      let b = bind_ok a.2 in
+      let c = bind_ok b.2 in
+      omega (arith, laws.types.shrinks _ _ _ _ a.1, token_falls is_colon _ _ _ b.1, laws.exprs.shrinks _ _ _ _ _ _ c.1, left_is c.2)) (λ is e. absurd cc))
+
+  pub next_assoc_falls : (room separator : ℕ) → Falls (next_assoc inner room separator)
+  unfolding next_assoc
+  next_assoc_falls room separator s ts x e =
+      let a = bind_ok e in
+      omega (arith, assoc_shrinks _ _ _ _ a.1, left_is a.2)
+
+  generic_shrinks : (room : ℕ) → Shrinks (generic_with inner room)
+  unfolding generic_with
+  generic_shrinks room s ts x e =
+      let r = fits_ok _ _ _ e in
+      let a = bind_ok r.1 in
+      let b = bind_ok a.2 in
+      let c = bind_ok b.2 in
+      let d = bind_ok c.2 in
+      let f = bind_ok d.2 in
+      let g = bind_ok f.2 in
+      then_one _ _ _ (then_one _ _ _ (then_fewer _ _ _ (then_one _ _ _ (then_fewer _ _ _ (and_one _ _ _ (postfixed_falls _ _ _ _ _ g.2) (token_falls is_close_paren _ _ _ g.1))
+      (listed_shrinks (assoc_with inner (room - 1)) (next_assoc inner (room - 1)) (next_assoc_falls (room - 1)) (assoc_shrinks (room - 1)) _ _ _ f.1)) (token_falls is_comma _ _ _ d.1)) (laws.exprs.shrinks _ _ _ _ _ _ c.1))
+      (token_falls is_open_paren _ _ _ b.1)) (take_falls _ _ _ a.1)
+
   unary_by_shrinks : (o : Opening) (room : ℕ) → Shrinks (unary_by inner o room)
   unfolding unary_by
   unary_by_shrinks (openings.Prefix p reach) room s ts x e = prefix_shrinks p reach room s ts x e
@@ -291,6 +366,11 @@ module _ (all : List Lexeme) (tokens : TokenLaws all) (n : ℕ) (inner : Inner) 
   unary_by_shrinks openings.VaStart room s ts x e = va_two_shrinks va_start room s ts x e
   unary_by_shrinks openings.VaCopy room s ts x e = va_two_shrinks va_copy room s ts x e
   unary_by_shrinks openings.Offset room s ts x e = offset_shrinks room s ts x e
+  unary_by_shrinks openings.Part room s ts x e = part_shrinks room s ts x e
+  unary_by_shrinks openings.Label room s ts x e = label_use_shrinks room s ts x e
+  unary_by_shrinks openings.Compat room s ts x e = compat_shrinks room s ts x e
+  unary_by_shrinks openings.Choose room s ts x e = choose_shrinks room s ts x e
+  unary_by_shrinks openings.Generic room s ts x e = generic_shrinks room s ts x e
   unary_by_shrinks openings.Nothing room s ts x e = absurd cc
 
   pub unary_shrinks : (room : ℕ) → Shrinks (unary_with inner room)
@@ -339,12 +419,12 @@ module _ (all : List Lexeme) (tokens : TokenLaws all) (n : ℕ) (inner : Inner) 
   operation_turn_shrinks reach room row s ts x e = by_infix (infix_of (kind_at ts)) e
     where
       by_infix : (f : Infix) → operation_by inner reach room f row s ts ≡ Some (done x) → length x.rest < length ts
-      by_infix infixes.Comma e = if_ok (takes_comma reach) e (λ is e. operation_shrinks _ _ _ _ _ _ (some_is e)) (λ is e. absurd cc)
+      by_infix infixes.Comma e = if_ok (takes_comma reach) e (λ is e. operation_shrinks comma (settled row 0) room s ts x (some_is e)) (λ is e. absurd cc)
       by_infix (infixes.Assign p) e =
           if_ok (nat_le 14 (expr_level (settled row 1).last)) e (λ is e.
-          if_ok (takes_assign reach) e (λ is e. operation_shrinks _ _ _ _ _ _ (some_is e)) (λ is e. absurd cc)) (λ is e. absurd cc)
-      by_infix infixes.Question e = question_shrinks _ _ _ _ _ (some_is e)
-      by_infix (infixes.Binary p) e = operation_shrinks _ _ _ _ _ _ (some_is e)
+          if_ok (takes_assign reach) e (λ is e. operation_shrinks (assign p) (settled row 1) room s ts x (some_is e)) (λ is e. absurd cc)) (λ is e. absurd cc)
+      by_infix infixes.Question e = question_shrinks (settled row 2) room s ts x (some_is e)
+      by_infix (infixes.Binary p) e = operation_shrinks (binary p) (settled row (binary_level p + 2)) room s ts x (some_is e)
       by_infix infixes.Nothing e = absurd cc
 
   row_shrinks : (reach : Reach) (begun : Begun) (room : ℕ) → Shrinks (row_with inner reach begun room)

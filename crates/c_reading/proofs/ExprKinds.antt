@@ -47,6 +47,11 @@ IsOpening openings.VaArg kind = kind ≡ kinds.Keyword keywords.VaArg
 IsOpening openings.VaStart kind = kind ≡ kinds.Keyword keywords.VaStart
 IsOpening openings.VaCopy kind = kind ≡ kinds.Keyword keywords.VaCopy
 IsOpening openings.Offset kind = kind ≡ kinds.Keyword keywords.Offsetof
+IsOpening openings.Part kind = kind ≡ kinds.Keyword keywords.Part
+IsOpening openings.Label kind = kind ≡ kinds.Punct puncts.AmpersandAmpersand
+IsOpening openings.Compat kind = kind ≡ kinds.Keyword keywords.Compatible
+IsOpening openings.Choose kind = kind ≡ kinds.Keyword keywords.Choose
+IsOpening openings.Generic kind = kind ≡ kinds.Keyword keywords.Generic
 IsOpening openings.Nothing kind = Unit {0}
 
 pub opening_is : (kind : TokenKind) → IsOpening (opening_of kind) kind
@@ -66,6 +71,11 @@ opening_is (kinds.Keyword keywords.VaArg) = refl
 opening_is (kinds.Keyword keywords.VaStart) = refl
 opening_is (kinds.Keyword keywords.VaCopy) = refl
 opening_is (kinds.Keyword keywords.Offsetof) = refl
+opening_is (kinds.Punct puncts.AmpersandAmpersand) = refl
+opening_is (kinds.Keyword keywords.Part) = refl
+opening_is (kinds.Keyword keywords.Compatible) = refl
+opening_is (kinds.Keyword keywords.Choose) = refl
+opening_is (kinds.Keyword keywords.Generic) = refl
 opening_is (kinds.Name name) = refl
 opening_is kinds.Number = refl
 opening_is kinds.Char = refl

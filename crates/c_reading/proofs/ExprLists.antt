@@ -1,19 +1,19 @@
 -- Arguments and steps of offsets: lists of expressions as lists of items.
-use Rattle.std.proofs.Common.{◌≡◌, List, [], ◌∷◌, refl, ap}
+use Rattle.std.proofs.Common.{◌≡◌, ◌≢◌, List, [], ◌∷◌, refl, ap}
 use Rattle.std.specs.Prelude.{max}
 use Rattle.c_tree.specs.declared.lexeme.Lexeme.{Lexeme}
-use Rattle.c_tree.specs.Tree.{Expr, Exprs, no_exprs, more_exprs, Desigs, no_desigs, more_desigs, Desig}
-use Rattle.c_tree.specs.Text.{exprs_text, other_exprs_text, expr_text, separated, desigs_text, desig_text}
-use Rattle.c_tree.specs.Height.{expr_height, exprs_height, steps_height, step_height}
-use Rattle.c_tree.specs.WellFormed.{AreArguments, AreSteps}
+use Rattle.c_tree.specs.Tree.{Assoc, Assocs, no_assocs, more_assocs, Expr, Exprs, no_exprs, more_exprs, Desigs, no_desigs, more_desigs, Desig}
+use Rattle.c_tree.specs.Text.{assoc_text, assocs_text, exprs_text, other_exprs_text, expr_text, separated, desigs_text, desig_text}
+use Rattle.c_tree.specs.Height.{assoc_height, assocs_height, expr_height, exprs_height, steps_height, step_height}
+use Rattle.c_tree.specs.WellFormed.{AreAssocs, AreArguments, AreSteps}
 use Rattle.c_units.specs.HeldScopes.{HeldScopes}
-use Rattle.c_units.specs.Scoping.{expr_scopes, exprs_scopes, desig_scopes, desigs_scopes}
+use Rattle.c_units.specs.Scoping.{assoc_scopes, assocs_scopes, expr_scopes, exprs_scopes, desig_scopes, desigs_scopes}
 use Rattle.c_reading.specs.declared.kinds.Reach.TheVariants.{Assigned}
-use Rattle.c_reading.specs.Parts.{exprs_from, desigs_from}
+use Rattle.c_reading.specs.Parts.{assocs_from, exprs_from, desigs_from}
 use Rattle.c_reading.proofs.Forms.{behind_same}
 use Rattle.c_reading.proofs.Rows.{AllFit, row_text, row_scopes, row_height}
-use Rattle.c_reading.proofs.Commas.{no_ending, others_text, commas_text}
-use Rattle.c_reading.proofs.Aims.{expr_form, step_form}
+use Rattle.c_reading.proofs.Commas.{HasItem, no_ending, others_text, commas_text}
+use Rattle.c_reading.proofs.Aims.{assoc_form, expr_form, step_form}
 
 -- the items of a tree of a list
 abbrev pub exprs_items : Exprs → List Expr
@@ -31,6 +31,14 @@ desigs_items (more_desigs d ds) = d ∷ desigs_items ds
 pub desigs_back : (ds : Desigs) → desigs_from (desigs_items ds) ≡ ds
 desigs_back no_desigs = refl
 desigs_back (more_desigs d ds) = ap (more_desigs d) (desigs_back ds)
+
+abbrev pub assocs_items : Assocs → List Assoc
+assocs_items no_assocs = []
+assocs_items (more_assocs x xs) = x ∷ assocs_items xs
+
+pub assocs_back : (xs : Assocs) → assocs_from (assocs_items xs) ≡ xs
+assocs_back no_assocs = refl
+assocs_back (more_assocs x xs) = ap (more_assocs x) (assocs_back xs)
 
 module _ (all : List Lexeme) where
   other_exprs_are : (es : List Expr) (k : List Lexeme) → others_text (expr_form all Assigned) no_ending es k ≡ other_exprs_text all (exprs_from es) k
@@ -56,6 +64,35 @@ module _ (all : List Lexeme) where
   pub exprs_high : (es : List Expr) → row_height (expr_form all Assigned) es ≡ exprs_height (exprs_from es)
   exprs_high [] = refl
   exprs_high (e ∷ es) = ap (max (expr_height e)) (exprs_high es)
+
+  -- associations, each behind a comma
+  pub assocs_are : (xs : List Assoc) (k : List Lexeme) → others_text (assoc_form all) no_ending xs k ≡ assocs_text all (assocs_from xs) k
+  assocs_are [] k = refl
+  assocs_are (x ∷ xs) k = ap (λ (k : List Lexeme). separated (assoc_text all x k)) (assocs_are xs k)
+
+  pub assocs_fit : (xs : List Assoc) → AllFit (assoc_form all) xs → AreAssocs all (assocs_from xs)
+  assocs_fit [] h = tt
+  assocs_fit (x ∷ xs) h = (h.0, assocs_fit xs h.1)
+
+  pub assocs_fit_back : (xs : Assocs) → AreAssocs all xs → AllFit (assoc_form all) (assocs_items xs)
+  assocs_fit_back no_assocs h = tt
+  assocs_fit_back (more_assocs x xs) h = (h.0, assocs_fit_back xs h.1)
+
+  pub some_assocs : (xs : List Assoc) → HasItem (assoc_form all) no_ending xs → assocs_from xs ≢ no_assocs
+  some_assocs [] h = absurd h
+  some_assocs (x ∷ xs) h = λ e. absurd cc
+
+  pub some_assocs_back : (xs : Assocs) → xs ≢ no_assocs → HasItem (assoc_form all) no_ending (assocs_items xs)
+  some_assocs_back no_assocs h = absurd (h refl)
+  some_assocs_back (more_assocs x xs) h = tt
+
+  pub assocs_named : (xs : List Assoc) (s : HeldScopes) → row_scopes (assoc_form all) xs s ≡ assocs_scopes (assocs_from xs) s
+  assocs_named [] s = refl
+  assocs_named (x ∷ xs) s = behind_same (assoc_scopes x s) _ _ (λ t. assocs_named xs t)
+
+  pub assocs_high : (xs : List Assoc) → row_height (assoc_form all) xs ≡ assocs_height (assocs_from xs)
+  assocs_high [] = refl
+  assocs_high (x ∷ xs) = ap (max (assoc_height x)) (assocs_high xs)
 
   pub steps_are : (ds : List Desig) (k : List Lexeme) → row_text (step_form all) ds k ≡ desigs_text all (desigs_from ds) k
   steps_are [] k = refl

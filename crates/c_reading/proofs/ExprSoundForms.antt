@@ -1,5 +1,5 @@
 -- What the readers of unary and postfix forms take is spelled so and well formed.
-use Rattle.std.proofs.Common.{◌≡◌, ℕ, ◌≤◌, Bool, true, false, List, ◌∷◌, Option, Some, None, refl, sym, ◌∙◌, ap, subst, arith}
+use Rattle.std.proofs.Common.{◌≡◌, ℕ, ◌<◌, ◌≤◌, Bool, true, false, List, [], ◌∷◌, length, Option, Some, None, refl, sym, ◌∙◌, ap, subst, arith}
 use Rattle.std.specs.Prelude.{◌+◌, ◌-◌, max, if◌then◌else◌}
 use Rattle.c_words.specs.declared.kinds.TokenKind.{TokenKind}
 use Rattle.c_words.specs.declared.kinds.TokenKind.TheVariants as kinds
@@ -9,13 +9,13 @@ use Rattle.c_words.specs.declared.kinds.Keyword.{Keyword}
 use Rattle.c_words.specs.declared.kinds.Keyword.TheVariants as keywords
 use Rattle.c_tree.specs.declared.lexeme.Lexeme.{Lexeme}
 use Rattle.c_syntax.specs.declared.parts.Word.{Word}
-use Rattle.c_tree.specs.Tree.{Expr, compound, name_use, number_use, char_use, text_use, paren, statement_expr, va_arg, va_start, va_copy, offset, Exprs, Desig}
-use Rattle.c_tree.specs.Text.{plain_text, sign_text, keyword_text, word_text, identifier_text, expr_text, exprs_text, spec_words_text, some_declr_text, block_items_text, desigs_text}
-use Rattle.c_tree.specs.Height.{expr_height, exprs_height, steps_height}
+use Rattle.c_tree.specs.Tree.{Expr, compound, name_use, number_use, char_use, text_use, paren, statement_expr, va_arg, va_start, va_copy, offset, complex_part, label_use, compat, choose, generic, Assoc, Exprs, Desig}
+use Rattle.c_tree.specs.Text.{separated, assocs_text, plain_text, sign_text, keyword_text, word_text, identifier_text, expr_text, exprs_text, spec_words_text, some_declr_text, block_items_text, desigs_text}
+use Rattle.c_tree.specs.Height.{expr_height, assocs_height, exprs_height, steps_height}
 use Rattle.c_tree.specs.Levels.{expr_level}
 use Rattle.c_tree.specs.WellFormed.{IsExpr, AreArguments, prefix_level, IsSomeAbstract, AreTypeWords, is_sizeof}
-use Rattle.c_units.specs.HeldScopes.{HeldScopes, names_type}
-use Rattle.c_units.specs.Scoping.{behind, expr_scopes, exprs_scopes, spec_words_scopes, some_declr_scopes, init_list_scopes, desigs_scopes}
+use Rattle.c_units.specs.HeldScopes.{HeldScopes, is_wide, names_type}
+use Rattle.c_units.specs.Scoping.{behind, where_true, assocs_scopes, expr_scopes, exprs_scopes, spec_words_scopes, some_declr_scopes, init_list_scopes, desigs_scopes}
 use Rattle.c_reading.specs.declared.kinds.Reach.{Reach}
 use Rattle.c_reading.specs.declared.kinds.Reach.TheVariants.{Whole, Assigned, Castable, Unary}
 use Rattle.c_reading.specs.declared.kinds.Opening.{Opening}
@@ -23,19 +23,21 @@ use Rattle.c_reading.specs.declared.kinds.Opening.TheVariants as openings
 use Rattle.c_reading.specs.declared.kinds.PostfixForm.{PostfixForm}
 use Rattle.c_reading.specs.declared.kinds.PostfixForm.TheVariants as forms
 use Rattle.c_reading.specs.Reading.{Found, Read, Reader, kind_at, behind_first, Next, one_more, IsNumbered, IsTail, CommaList, refuses}
-use Rattle.c_reading.specs.Tokens.{is_open_paren, is_close_paren, is_close_bracket, is_open_brace, is_comma, word_of}
-use Rattle.c_reading.specs.Specifying.{begins_specs}
-use Rattle.c_reading.specs.Parts.{Inner, nothing, TypeName, type_name_height, exprs_from, desigs_from}
-use Rattle.c_reading.specs.Expressing.{opening_of, form_of, is_dot, begins_desig, next_argument, arguments_with, postfix_by, lowered, postfix_turn, index_with, call_with, dot_with, arrow_with, post_with, postfixed, primary_with, text_with, compound_with, cast_behind, typed_behind, typed_with, statement_with, paren_with, opened_by, opened_with, prefix_with, extension_with, sizeof_value_with, sizeof_typed, sizeof_type_with, sizeof_behind, sizeof_with, va_arg_with, va_two_with, step_with, offset_with, unary_by, unary_with, cast_with, name_with}
+use Rattle.c_reading.specs.Tokens.{is_open_paren, is_close_paren, is_close_bracket, is_open_brace, is_comma, is_colon, is_default, word_of}
+use Rattle.c_reading.specs.Specifying.{begins_role, begins_specs}
+use Rattle.c_reading.specs.declared.kinds.Role.TheVariants.{Naming}
+use Rattle.c_reading.specs.Parts.{Inner, nothing, TypeName, type_name_height, assocs_from, exprs_from, desigs_from}
+use Rattle.c_reading.specs.Expressing.{opening_of, form_of, is_dot, begins_desig, next_argument, arguments_with, postfix_by, lowered, postfix_turn, index_with, call_with, dot_with, arrow_with, post_with, postfixed, primary_with, text_with, compound_with, cast_behind, typed_behind, typed_with, statement_with, paren_with, opened_by, opened_with, prefix_with, extension_with, sizeof_value_with, sizeof_typed, sizeof_type_with, sizeof_behind, sizeof_with, va_arg_with, va_two_with, step_with, offset_with, part_with, label_use_with, compat_with, choose_with, default_assoc_with, typed_assoc_with, assoc_with, next_assoc, generic_with, unary_by, unary_with, cast_with, name_with}
 use Rattle.c_reading.proofs.Binding.{found, done, bind_ok, fits_ok, if_ok}
 use Rattle.c_reading.proofs.Loops.{run-keep}
+use Rattle.c_reading.proofs.Tails.{comma_is}
 use Rattle.c_reading.proofs.Forms.{Form, Takes, IsSound, at_end, behind_is, through, behind_token, took, took_token, took_name}
 use Rattle.c_reading.proofs.Rows.{repeated_sound_at}
-use Rattle.c_reading.proofs.Commas.{no_ending, list_form, NextTakes, listed_sound, ending_text, commas_text}
-use Rattle.c_reading.proofs.KindFacts.{open_paren_kind, close_paren_kind, close_bracket_kind, comma_kind}
-use Rattle.c_reading.proofs.Aims.{reach_level, expr_form, step_form, TokenLaws, Laws}
-use Rattle.c_reading.proofs.ExprFalls.{some_is}
-use Rattle.c_reading.proofs.ExprLists.{exprs_are, exprs_fit, exprs_named, exprs_high, steps_are, steps_fit, steps_named, steps_high}
+use Rattle.c_reading.proofs.Commas.{HasItem, no_ending, list_form, NextTakes, listed_sound, listed_shrinks, ending_text, commas_text}
+use Rattle.c_reading.proofs.KindFacts.{open_paren_kind, close_paren_kind, close_bracket_kind, comma_kind, colon_kind, default_kind}
+use Rattle.c_reading.proofs.Aims.{reach_level, assoc_form, expr_form, step_form, TokenLaws, Laws}
+use Rattle.c_reading.proofs.ExprFalls.{some_is, assoc_shrinks, next_assoc_falls}
+use Rattle.c_reading.proofs.ExprLists.{assocs_are, assocs_fit, some_assocs, assocs_named, assocs_high, exprs_are, exprs_fit, exprs_named, exprs_high, steps_are, steps_fit, steps_named, steps_high}
 use Rattle.c_reading.proofs.ExprKinds.{IsForm, form_is, IsOpening, opening_is}
 use Rattle.c_reading.specs.declared.kinds.Fault.TheVariants.{Unexpected}
 use Rattle.c_tree.specs.Specifiers.{IsMix}
@@ -350,6 +352,42 @@ module _ (all : List Lexeme) where
           left = i.left;
         })
 
+    part_sound : (room : ℕ) (s : HeldScopes) (ts : List Lexeme) (x : Found Expr) → IsTail all ts → kind_at ts ≡ kinds.Keyword keywords.Part → part_with inner room s ts ≡ done x →
+        Takes all (level_form 14) room s ts x
+    unfolding part_with
+    part_sound room s ts x tail is e =
+        let r = fits_ok _ _ _ e in
+        let a = bind_ok r.1 in
+        let b = bind_ok a.2 in
+        let o = took all (kinds.Keyword keywords.Part) s ts a.0 tail is a.1 in
+        let i = laws.exprs.sound Castable (room - 1) a.0.scopes a.0.rest b.0 o.left b.1 in
+        at_end (Takes all (level_form 14) room s ts) b.2 (record {
+          spelled = o.spelled ∙ ap (keyword_text keywords.Part a.0.tree) i.spelled;
+          fits = ((i.fits.0, i.fits.1), omega arith);
+          named = through (expr_scopes b.0.tree) o.same i.named refl;
+          low = omega (arith, r.0, i.low);
+          left = i.left;
+        })
+
+    label_use_sound : (room : ℕ) (s : HeldScopes) (ts : List Lexeme) (x : Found Expr) → IsTail all ts → kind_at ts ≡ kinds.Punct puncts.AmpersandAmpersand → label_use_with inner room s ts ≡ done x →
+        Takes all (level_form 14) room s ts x
+    unfolding label_use_with
+    label_use_sound room s ts x tail is e =
+        if_ok (is_wide s) e (λ wide e.
+        let r = fits_ok _ _ _ e in
+        let a = bind_ok r.1 in
+        let b = bind_ok a.2 in
+        let o = took all (kinds.Punct puncts.AmpersandAmpersand) s ts a.0 tail is a.1 in
+        let q = took_name all a.0.scopes a.0.rest b.0 o.left b.1 in
+        let named : where_true (is_wide s) s ≡ Some b.0.scopes = rw wide (ap Some (sym o.same ∙ sym q.same)) in
+        at_end (Takes all (level_form 14) room s ts) b.2 (record {
+          spelled = o.spelled ∙ ap (sign_text puncts.AmpersandAmpersand a.0.tree) q.spelled;
+          fits = (tt, omega arith);
+          named = named;
+          low = r.0;
+          left = q.left;
+        })) (λ wide e. absurd cc)
+
     module _ (word : Word) (kind : is_sizeof word.keyword ≡ true) where
       sizeof_value_sound : (room : ℕ) (s : HeldScopes) (ts : List Lexeme) (x : Found Expr) → 1 ≤ room → IsTail all ts → sizeof_value_with inner word room s ts ≡ done x →
           Takes all (level_form 14) room s (word_text word ts) x
@@ -575,6 +613,167 @@ module _ (all : List Lexeme) where
         two_low : (h k room : ℕ) → 3 ≤ room → h ≤ room - 1 → k ≤ room - 1 → max h k + 1 ≤ room
         two_low h k room a b c = omega (arith, a, b, c)
 
+    compat_sound : (room : ℕ) (s : HeldScopes) (ts : List Lexeme) (x : Found Expr) → IsTail all ts → kind_at ts ≡ kinds.Keyword keywords.Compatible → compat_with inner room s ts ≡ done x →
+        Takes all (level_form 14) room s ts x
+    unfolding compat_with
+    compat_sound room s ts x tail is e =
+        let r = fits_ok _ _ _ e in
+        let a = bind_ok r.1 in
+        let b = bind_ok a.2 in
+        let c = bind_ok b.2 in
+        let d = bind_ok c.2 in
+        let f = bind_ok d.2 in
+        let g = bind_ok f.2 in
+        let o = took all (kinds.Keyword keywords.Compatible) s ts a.0 tail is a.1 in
+        let p = took_token all is_open_paren (kinds.Punct puncts.OpenParen) open_paren_kind a.0.scopes a.0.rest b.0 o.left b.1 in
+        let i = laws.types.sound (room - 1) b.0.scopes b.0.rest c.0 p.left c.1 in
+        let q = took_token all is_comma (kinds.Punct puncts.Comma) comma_kind c.0.scopes c.0.rest d.0 i.left d.1 in
+        let j = laws.types.sound (room - 1) d.0.scopes d.0.rest f.0 q.left f.1 in
+        let l = took_token all is_close_paren (kinds.Punct puncts.CloseParen) close_paren_kind f.0.scopes f.0.rest g.0 j.left g.1 in
+        lower 15 14 room s ts x unary_fifteen (postfixed_sound room s ts (compat a.0.tree b.0.tree c.0.tree.words c.0.tree.declr d.0.tree f.0.tree.words f.0.tree.declr g.0.tree) g.0.scopes g.0.rest x
+        (record {
+          spelled = o.spelled ∙ ap (keyword_text keywords.Compatible a.0.tree) (p.spelled ∙ ap (sign_text puncts.OpenParen b.0.tree) (i.spelled ∙
+              ap (λ (k : List Lexeme). spec_words_text all c.0.tree.words (some_declr_text all c.0.tree.declr k)) (q.spelled ∙ ap (sign_text puncts.Comma d.0.tree) (j.spelled ∙
+              ap (λ (k : List Lexeme). spec_words_text all f.0.tree.words (some_declr_text all f.0.tree.declr k)) l.spelled))));
+          fits = ((i.fits.0, i.fits.1, i.fits.2, j.fits.0, j.fits.1, j.fits.2), primary_fifteen);
+          named = behind_two (λ s. behind (spec_words_scopes c.0.tree.words s) (some_declr_scopes None c.0.tree.declr)) (spec_words_scopes f.0.tree.words) (some_declr_scopes None f.0.tree.declr) s d.0.scopes f.0.scopes g.0.scopes
+              (through (λ s. behind (spec_words_scopes c.0.tree.words s) (some_declr_scopes None c.0.tree.declr)) (p.same ∙ o.same) i.named q.same) j.named (sym l.same);
+          low = two_low (type_name_height c.0.tree) (type_name_height f.0.tree) room r.0 i.low j.low;
+          left = l.left;
+        }) g.2)
+      where
+        two_low : (h k room : ℕ) → 3 ≤ room → h ≤ room - 1 → k ≤ room - 1 → max h k + 1 ≤ room
+        two_low h k room a b c = omega (arith, a, b, c)
+
+    choose_sound : (room : ℕ) (s : HeldScopes) (ts : List Lexeme) (x : Found Expr) → IsTail all ts → kind_at ts ≡ kinds.Keyword keywords.Choose → choose_with inner room s ts ≡ done x →
+        Takes all (level_form 14) room s ts x
+    unfolding choose_with
+    choose_sound room s ts x tail is e =
+        let r = fits_ok _ _ _ e in
+        let a = bind_ok r.1 in
+        let b = bind_ok a.2 in
+        let c = bind_ok b.2 in
+        let d = bind_ok c.2 in
+        let f = bind_ok d.2 in
+        let g = bind_ok f.2 in
+        let h = bind_ok g.2 in
+        let v = bind_ok h.2 in
+        let o = took all (kinds.Keyword keywords.Choose) s ts a.0 tail is a.1 in
+        let p = took_token all is_open_paren (kinds.Punct puncts.OpenParen) open_paren_kind a.0.scopes a.0.rest b.0 o.left b.1 in
+        let i = laws.exprs.sound Assigned (room - 1) b.0.scopes b.0.rest c.0 p.left c.1 in
+        let q = took_token all is_comma (kinds.Punct puncts.Comma) comma_kind c.0.scopes c.0.rest d.0 i.left d.1 in
+        let j = laws.exprs.sound Assigned (room - 1) d.0.scopes d.0.rest f.0 q.left f.1 in
+        let q2 = took_token all is_comma (kinds.Punct puncts.Comma) comma_kind f.0.scopes f.0.rest g.0 j.left g.1 in
+        let m = laws.exprs.sound Assigned (room - 1) g.0.scopes g.0.rest h.0 q2.left h.1 in
+        let l = took_token all is_close_paren (kinds.Punct puncts.CloseParen) close_paren_kind h.0.scopes h.0.rest v.0 m.left v.1 in
+        lower 15 14 room s ts x unary_fifteen (postfixed_sound room s ts (choose a.0.tree b.0.tree c.0.tree d.0.tree f.0.tree g.0.tree h.0.tree v.0.tree) v.0.scopes v.0.rest x
+        (record {
+          spelled = o.spelled ∙ ap (keyword_text keywords.Choose a.0.tree) (p.spelled ∙ ap (sign_text puncts.OpenParen b.0.tree) (i.spelled ∙ ap (expr_text all c.0.tree) (q.spelled ∙
+              ap (sign_text puncts.Comma d.0.tree) (j.spelled ∙ ap (expr_text all f.0.tree) (q2.spelled ∙ ap (sign_text puncts.Comma g.0.tree) (m.spelled ∙ ap (expr_text all h.0.tree) l.spelled))))));
+          fits = ((i.fits.0, j.fits.0, m.fits.0, i.fits.1, j.fits.1, m.fits.1), primary_fifteen);
+          named = behind_is (expr_scopes h.0.tree) (behind_is (expr_scopes f.0.tree) (through (expr_scopes c.0.tree) (p.same ∙ o.same) i.named q.same) (through (expr_scopes f.0.tree) refl j.named q2.same))
+              (through (expr_scopes h.0.tree) refl m.named l.same);
+          low = three_low (expr_height c.0.tree) (expr_height f.0.tree) (expr_height h.0.tree) room r.0 i.low j.low m.low;
+          left = l.left;
+        }) v.2)
+      where
+        three_low : (h k l room : ℕ) → 2 ≤ room → h ≤ room - 1 → k ≤ room - 1 → l ≤ room - 1 → max h (max k l) + 1 ≤ room
+        three_low h k l room a b c d = omega (arith, a, b, c, d)
+
+    -- an association
+    assoc_sound : (room : ℕ) → IsSound all (assoc_form all) room (assoc_with inner room)
+    unfolding assoc_with default_assoc_with typed_assoc_with
+    assoc_sound room s ts x tail e =
+        if_ok (is_default (kind_at ts)) e (λ is e.
+        let r = fits_ok _ _ _ e in
+        let a = bind_ok r.1 in
+        let b = bind_ok a.2 in
+        let c = bind_ok b.2 in
+        let o = took all (kinds.Keyword keywords.Default) s ts a.0 tail (default_kind (kind_at ts) is) a.1 in
+        let q = took_token all is_colon (kinds.Punct puncts.Colon) colon_kind a.0.scopes a.0.rest b.0 o.left b.1 in
+        let i = laws.exprs.sound Assigned (room - 1) b.0.scopes b.0.rest c.0 q.left c.1 in
+        at_end (Takes all (assoc_form all) room s ts) c.2 (record {
+          spelled = o.spelled ∙ ap (keyword_text keywords.Default a.0.tree) (q.spelled ∙ ap (sign_text puncts.Colon b.0.tree) i.spelled);
+          fits = (i.fits.0, i.fits.1);
+          named = through (expr_scopes c.0.tree) (q.same ∙ o.same) i.named refl;
+          low = one_low (expr_height c.0.tree) room r.0 i.low;
+          left = i.left;
+        })) (λ is e.
+        if_ok (begins_role Naming s (kind_at ts)) e (λ is e.
+        let r = fits_ok _ _ _ e in
+        let a = bind_ok r.1 in
+        let b = bind_ok a.2 in
+        let c = bind_ok b.2 in
+        let i = laws.types.sound (room - 1) s ts a.0 tail a.1 in
+        let q = took_token all is_colon (kinds.Punct puncts.Colon) colon_kind a.0.scopes a.0.rest b.0 i.left b.1 in
+        let j = laws.exprs.sound Assigned (room - 1) b.0.scopes b.0.rest c.0 q.left c.1 in
+        at_end (Takes all (assoc_form all) room s ts) c.2 (record {
+          spelled = i.spelled ∙ ap (λ (k : List Lexeme). spec_words_text all a.0.tree.words (some_declr_text all a.0.tree.declr k)) (q.spelled ∙ ap (sign_text puncts.Colon b.0.tree) j.spelled);
+          fits = (i.fits.0, i.fits.1, i.fits.2, j.fits.0, j.fits.1);
+          named = behind_is (expr_scopes c.0.tree) i.named (through (expr_scopes c.0.tree) q.same j.named refl);
+          low = two_low (type_name_height a.0.tree) (expr_height c.0.tree) room r.0 i.low j.low;
+          left = j.left;
+        })) (λ is e. absurd cc))
+      where
+        one_low : (h room : ℕ) → 2 ≤ room → h ≤ room - 1 → h + 1 ≤ room
+        one_low h room a b = omega (arith, a, b)
+
+        two_low : (h k room : ℕ) → 3 ≤ room → h ≤ room - 1 → k ≤ room - 1 → max h k + 1 ≤ room
+        two_low h k room a b c = omega (arith, a, b, c)
+
+    next_assoc_sound : (room comma : ℕ) (s : HeldScopes) (ts : List Lexeme) (x : Found (Next Assoc ⊥)) → IsTail all ts → next_assoc inner room comma s ts ≡ done x →
+        NextTakes all (assoc_form all) no_ending room comma s ts x.tree x.scopes x.rest
+    unfolding next_assoc
+    next_assoc_sound room comma s ts x tail e =
+        let a = bind_ok e in
+        at_end (λ (x : Found (Next Assoc ⊥)). NextTakes all (assoc_form all) no_ending room comma s ts x.tree x.scopes x.rest) a.2
+        (assoc_sound room s ts a.0 tail a.1, assoc_shrinks all tokens n inner laws room s ts a.0 a.1)
+
+    -- a comma has the number before that of the token behind it
+    comma_separates : (token : ℕ) (ts : List Lexeme) → IsTail all (sign_text puncts.Comma token ts) → 0 < length ts → sign_text puncts.Comma token ts ≡ separated ts
+    comma_separates token [] tail more = absurd (omega (arith, more))
+    comma_separates token (u ∷ ts) tail more = comma_is all numbered (record { kind = kinds.Punct puncts.Comma; at = token }) u ts tail refl
+
+    generic_sound : (room : ℕ) (s : HeldScopes) (ts : List Lexeme) (x : Found Expr) → IsTail all ts → kind_at ts ≡ kinds.Keyword keywords.Generic → generic_with inner room s ts ≡ done x →
+        Takes all (level_form 14) room s ts x
+    unfolding generic_with
+    generic_sound room s ts x tail is e =
+        let r = fits_ok _ _ _ e in
+        let a = bind_ok r.1 in
+        let b = bind_ok a.2 in
+        let c = bind_ok b.2 in
+        let d = bind_ok c.2 in
+        let f = bind_ok d.2 in
+        let g = bind_ok f.2 in
+        let o = took all (kinds.Keyword keywords.Generic) s ts a.0 tail is a.1 in
+        let p = took_token all is_open_paren (kinds.Punct puncts.OpenParen) open_paren_kind a.0.scopes a.0.rest b.0 o.left b.1 in
+        let i = laws.exprs.sound Assigned (room - 1) b.0.scopes b.0.rest c.0 p.left c.1 in
+        let q = took_token all is_comma (kinds.Punct puncts.Comma) comma_kind c.0.scopes c.0.rest d.0 i.left d.1 in
+        let j = listed_sound (assoc_with inner (room - 1)) (next_assoc inner (room - 1)) all numbered (assoc_form all) no_ending (room - 1) (assoc_sound (room - 1)) (next_assoc_sound (room - 1)) d.0.scopes d.0.rest f.0 q.left f.1 in
+        let less : length f.0.rest < length d.0.rest =
+        listed_shrinks (assoc_with inner (room - 1)) (next_assoc inner (room - 1)) (next_assoc_falls all tokens n inner laws (room - 1)) (assoc_shrinks all tokens n inner laws (room - 1)) d.0.scopes d.0.rest f.0 f.1 in
+        let l = took_token all is_close_paren (kinds.Punct puncts.CloseParen) close_paren_kind f.0.scopes f.0.rest g.0 j.left g.1 in
+        let separates : c.0.rest ≡ separated d.0.rest = q.spelled ∙ comma_separates d.0.tree d.0.rest (subst (IsTail all) q.spelled i.left) (omega (arith, less)) in
+        lower 15 14 room s ts x unary_fifteen (postfixed_sound room s ts (generic a.0.tree b.0.tree c.0.tree (assocs_from f.0.tree.items) g.0.tree) g.0.scopes g.0.rest x
+        (record {
+          spelled = o.spelled ∙ ap (keyword_text keywords.Generic a.0.tree) (p.spelled ∙ ap (sign_text puncts.OpenParen b.0.tree) (i.spelled ∙ ap (expr_text all c.0.tree)
+              (separates ∙ by_items f.0.tree.items f.0.tree.ending d.0.rest f.0.rest j.fits.0 j.spelled ∙ ap (assocs_text all (assocs_from f.0.tree.items)) l.spelled)));
+          fits = ((i.fits.0, i.fits.1, some_assocs all f.0.tree.items j.fits.0, assocs_fit all f.0.tree.items j.fits.1), primary_fifteen);
+          named = behind_is (assocs_scopes (assocs_from f.0.tree.items)) (through (expr_scopes c.0.tree) (p.same ∙ o.same) i.named q.same)
+              (sym (assocs_named all f.0.tree.items d.0.scopes) ∙ j.named ∙ ap Some (sym l.same));
+          low = two_low (expr_height c.0.tree) (assocs_height (assocs_from f.0.tree.items)) room r.0 i.low (subst (λ (h : ℕ). h ≤ room - 1) (assocs_high all f.0.tree.items) j.low);
+          left = l.left;
+        }) g.2)
+      where
+        by_items : (xs : List Assoc) (o : Option ⊥) (ts k : List Lexeme) → HasItem (assoc_form all) no_ending xs → ts ≡ commas_text (assoc_form all) no_ending xs (ending_text (assoc_form all) no_ending o k) →
+            separated ts ≡ assocs_text all (assocs_from xs) k
+        by_items [] o ts k some is = absurd some
+        by_items (x ∷ xs) None ts k some is = ap separated is ∙ assocs_are all (x ∷ xs) k
+        by_items (x ∷ xs) (Some e) ts k some is = absurd e
+
+        two_low : (h k room : ℕ) → 3 ≤ room → h ≤ room - 1 → k ≤ room - 1 → max h k + 1 ≤ room
+        two_low h k room a b c = omega (arith, a, b, c)
+
     name_sound : (name room : ℕ) (s : HeldScopes) (ts : List Lexeme) (x : Found Expr) → IsTail all ts → kind_at ts ≡ kinds.Name name → name_with inner name room s ts ≡ done x →
         Takes all (level_form 14) room s ts x
     name_sound name room s ts x tail is e =
@@ -599,6 +798,11 @@ module _ (all : List Lexeme) where
     unary_by_sound openings.VaCopy room s ts x tail is e =
         va_two_sound va_copy keywords.VaCopy (λ a b c d e f k. refl) (λ a b c d e f g h i j. ((g, h, i, j), primary_fifteen)) (λ a b c d e f s. refl) (λ a b c d e f. refl) room s ts x tail is e
     unary_by_sound openings.Offset room s ts x tail is e = offset_sound room s ts x tail is e
+    unary_by_sound openings.Part room s ts x tail is e = part_sound room s ts x tail is e
+    unary_by_sound openings.Label room s ts x tail is e = label_use_sound room s ts x tail is e
+    unary_by_sound openings.Compat room s ts x tail is e = compat_sound room s ts x tail is e
+    unary_by_sound openings.Choose room s ts x tail is e = choose_sound room s ts x tail is e
+    unary_by_sound openings.Generic room s ts x tail is e = generic_sound room s ts x tail is e
     unary_by_sound openings.Nothing room s ts x tail is e = absurd cc
 
     pub unary_sound : (room : ℕ) → IsSound all (level_form 14) room (unary_with inner room)

@@ -1,12 +1,12 @@
 -- Items of initialisers and designators as lists of items.
-use Rattle.std.proofs.Common.{◌≡◌, ℕ, List, [], ◌∷◌, Option, Some, None, refl, ap}
+use Rattle.std.proofs.Common.{◌≡◌, ℕ, Bool, true, false, List, [], ◌∷◌, Option, Some, None, refl, ap}
 use Rattle.std.specs.Prelude.{max, ◌+◌}
 use Rattle.c_words.specs.declared.kinds.Punct.TheVariants as puncts
 use Rattle.c_tree.specs.declared.lexeme.Lexeme.{Lexeme}
-use Rattle.c_tree.specs.Tree.{InitItems, no_init_items, more_init_items, Desigs, no_desigs, more_desigs, Desig}
+use Rattle.c_tree.specs.Tree.{InitItems, no_init_items, more_init_items, Desigs, no_desigs, more_desigs, Desig, member_desig, index_desig, range_desig, old_desig}
 use Rattle.c_tree.specs.Text.{init_items_text, other_init_items_text, init_text, desigs_text, desig_text, some_sign_text, sign_text, separated}
 use Rattle.c_tree.specs.Height.{desigs_height, desig_height, init_height, init_items_height}
-use Rattle.c_tree.specs.WellFormed.{AreDesigs, AreInitItems}
+use Rattle.c_tree.specs.WellFormed.{has_no_old, AreDesigs, AreInitItems}
 use Rattle.c_units.specs.HeldScopes.{HeldScopes}
 use Rattle.c_units.specs.Scoping.{behind, desig_scopes, desigs_scopes, init_scopes, init_items_scopes}
 use Rattle.c_reading.specs.Parts.{ListItem, desigs_from, init_items_from}
@@ -63,11 +63,22 @@ module _ (all : List Lexeme) where
 
   pub desigs_fit : (ds : List Desig) → AllFit (desig_form all) ds → AreDesigs all (desigs_from ds)
   desigs_fit [] h = tt
-  desigs_fit (d ∷ ds) h = (h.0, desigs_fit ds h.1)
+  desigs_fit (d ∷ ds) h = (h.0.0, desigs_fit ds h.1)
 
-  pub desigs_fit_back : (ds : Desigs) → AreDesigs all ds → AllFit (desig_form all) (desigs_items ds)
-  desigs_fit_back no_desigs h = tt
-  desigs_fit_back (more_desigs d ds) h = (h.0, desigs_fit_back ds h.1)
+  -- no `m:` is among them
+  pub desigs_no_old : (ds : List Desig) → AllFit (desig_form all) ds → has_no_old (desigs_from ds) ≡ true
+  desigs_no_old [] h = refl
+  desigs_no_old (member_desig token name ∷ ds) h = desigs_no_old ds h.1
+  desigs_no_old (index_desig opening e closing ∷ ds) h = desigs_no_old ds h.1
+  desigs_no_old (range_desig opening e dots e2 closing ∷ ds) h = desigs_no_old ds h.1
+  desigs_no_old (old_desig name colon ∷ ds) h = let wrong : true ≡ false = h.0.1 in absurd cc
+
+  pub desigs_fit_back : (ds : Desigs) → AreDesigs all ds → has_no_old ds ≡ true → AllFit (desig_form all) (desigs_items ds)
+  desigs_fit_back no_desigs h plain = tt
+  desigs_fit_back (more_desigs (member_desig token name) ds) h plain = ((h.0, refl), desigs_fit_back ds h.1 plain)
+  desigs_fit_back (more_desigs (index_desig opening e closing) ds) h plain = ((h.0, refl), desigs_fit_back ds h.1 plain)
+  desigs_fit_back (more_desigs (range_desig opening e dots e2 closing) ds) h plain = ((h.0, refl), desigs_fit_back ds h.1 plain)
+  desigs_fit_back (more_desigs (old_desig name colon) ds) h plain = absurd cc
 
   pub desigs_named : (ds : List Desig) (s : HeldScopes) → row_scopes (desig_form all) ds s ≡ desigs_scopes (desigs_from ds) s
   desigs_named [] s = refl

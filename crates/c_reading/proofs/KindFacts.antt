@@ -6,7 +6,7 @@ use Rattle.c_words.specs.declared.kinds.TokenKind.TheVariants as kinds
 use Rattle.c_words.specs.declared.kinds.Punct.TheVariants as puncts
 use Rattle.c_words.specs.declared.kinds.Keyword.TheVariants as keywords
 use Rattle.c_units.specs.HeldScopes.{HeldScopes, names_type}
-use Rattle.c_reading.specs.Tokens.{is_open_brace, is_close_brace, is_open_paren, is_close_paren, is_open_bracket, is_close_bracket, is_semicolon, is_colon, is_comma, is_equal, is_star, is_dots, is_attribute, is_static_assert, is_extension, is_asm, is_else, is_while, is_end, is_text}
+use Rattle.c_reading.specs.Tokens.{is_open_brace, is_close_brace, is_open_paren, is_close_paren, is_open_bracket, is_close_bracket, is_semicolon, is_colon, is_comma, is_equal, is_star, is_dots, is_attribute, is_static_assert, is_extension, is_asm, is_else, is_while, is_end, is_text, is_default, is_base_word}
 use Rattle.c_reading.specs.declared.kinds.SpecStart.{SpecStart}
 use Rattle.c_reading.specs.declared.kinds.SpecStart.TheVariants as starts
 use Rattle.c_reading.specs.Specifying.{is_start, kind_start, typed_start, start_at, begins_specs}
@@ -135,6 +135,10 @@ pub specs_no_asm : (s : HeldScopes) (kind : TokenKind) → begins_specs s kind �
 specs_no_asm s (kinds.Keyword keywords.Asm) e = absurd cc
 specs_no_asm s kind e = refl
 
+pub specs_no_default : (s : HeldScopes) (kind : TokenKind) → begins_specs s kind ≡ true → is_default kind ≡ false
+specs_no_default s (kinds.Keyword keywords.Default) e = absurd cc
+specs_no_default s kind e = refl
+
 pub specs_no_else : (s : HeldScopes) (kind : TokenKind) → begins_specs s kind ≡ true → is_else kind ≡ false
 specs_no_else s (kinds.Keyword keywords.Else) e = absurd cc
 specs_no_else s kind e = refl
@@ -255,6 +259,10 @@ expr_no_specs s (kinds.Keyword keywords.VaArg) e = refl
 expr_no_specs s (kinds.Keyword keywords.VaStart) e = refl
 expr_no_specs s (kinds.Keyword keywords.VaCopy) e = refl
 expr_no_specs s (kinds.Keyword keywords.Offsetof) e = refl
+expr_no_specs s (kinds.Keyword keywords.Part) e = refl
+expr_no_specs s (kinds.Keyword keywords.Compatible) e = refl
+expr_no_specs s (kinds.Keyword keywords.Choose) e = refl
+expr_no_specs s (kinds.Keyword keywords.Generic) e = refl
 expr_no_specs s (kinds.Keyword keyword) e = absurd cc
 expr_no_specs s (kinds.Qual lattice elem) e = absurd cc
 expr_no_specs s kinds.Index e = absurd cc
@@ -280,17 +288,26 @@ pub typed_same : (s : HeldScopes) (kind : TokenKind) → is_start (start_at s tr
 typed_same s kind = typed_start_same s (kind_start kind)
 
 -- behind specifiers may stand a declarator
-pub named_ends_specs : (kind : TokenKind) → begins_named kind ≡ true → ends_specs kind ≡ true
-named_ends_specs (kinds.Punct puncts.Star) e = refl
-named_ends_specs (kinds.Punct puncts.OpenParen) e = refl
-named_ends_specs (kinds.Name name) e = refl
-named_ends_specs kind e = absurd cc
+pub named_ends_specs : (kind : TokenKind) → begins_named kind ≡ true → is_base_word kind ≡ false → ends_specs kind ≡ true
+named_ends_specs (kinds.Punct puncts.Star) e base = refl
+named_ends_specs (kinds.Punct puncts.OpenParen) e base = refl
+named_ends_specs (kinds.Name name) e base = refl
+named_ends_specs (kinds.Keyword keywords.BaseWord) e base = absurd cc
+named_ends_specs kind e base = absurd cc
 
 pub abstract_ends_specs : (kind : TokenKind) → begins_abstract kind ≡ true → ends_specs kind ≡ true
 abstract_ends_specs (kinds.Punct puncts.Star) e = refl
 abstract_ends_specs (kinds.Punct puncts.OpenParen) e = refl
 abstract_ends_specs (kinds.Punct puncts.OpenBracket) e = refl
 abstract_ends_specs kind e = absurd cc
+
+pub default_kind : (kind : TokenKind) → is_default kind ≡ true → kind ≡ kinds.Keyword keywords.Default
+default_kind (kinds.Keyword keywords.Default) e = refl
+default_kind kind e = absurd cc
+
+pub base_kind : (kind : TokenKind) → is_base_word kind ≡ true → kind ≡ kinds.Keyword keywords.BaseWord
+base_kind (kinds.Keyword keywords.BaseWord) e = refl
+base_kind kind e = absurd cc
 
 -- the parts of a test of two
 pub both_left : (a b : Bool) → (a && b) ≡ true → a ≡ true

@@ -80,8 +80,8 @@ module _ (whole_are : WholeAreMixes) (goes : MixesGoOn) where
     words = specs_laws [] none_numbered none_tokens firsts n inner laws whole_are goes;
     declrs = declr_laws [] none_numbered none_tokens goes n inner laws;
     lists = init_list_laws [] none_numbered none_tokens firsts n inner laws;
-    blocks = block_laws [] none_numbered none_tokens firsts n inner laws goes;
-    stmts = stmt_laws [] none_numbered none_tokens firsts n inner laws goes;
+    blocks = block_laws [] none_numbered none_tokens firsts n inner laws whole_are goes;
+    stmts = stmt_laws [] none_numbered none_tokens firsts n inner laws whole_are goes;
   }
 
   pub knot_laws : (n : ℕ) → Laws [] (suc n) (knot n)

@@ -70,6 +70,25 @@ module _ {S : Type 0} (turn : Turn S) where
   unfolding run
   run-keep P keeps a s ts y p e = turns-keep P keeps (suc (length ts)) a s ts y p e
 
+  -- where a loop ends, a turn reads nothing
+  turns-stop : TurnShrinks → (n : ℕ) (a : S) (s : HeldScopes) (ts : List Lexeme) (y : Found S) → length ts < n → turns turn n a s ts ≡ done y → turn y.tree y.scopes y.rest ≡ None
+  unfolding turns and_then
+  turns-stop shrinks zero a s ts y less e = absurd (omega arith)
+  turns-stop shrinks (suc n) a s ts y lower e =
+      by_turn (λ a s ts. turns-stop shrinks n a s ts y) (turn a s ts) refl (sym (turns-suc n a s ts) ∙ e)
+    where
+      by_turn : ((a : S) (s : HeldScopes) (ts : List Lexeme) → length ts < n → turns turn n a s ts ≡ done y → turn y.tree y.scopes y.rest ≡ None) →
+          (r : Option (Read S)) → turn a s ts ≡ r → after r a s ts (turns turn n) ≡ done y → turn y.tree y.scopes y.rest ≡ None
+      by_turn again None is e = subst (λ (z : Found S). turn z.tree z.scopes z.rest ≡ None) (ok_is e) is
+      by_turn again (Some (Err f)) is e = absurd cc
+      by_turn again (Some (Ok x)) is e =
+          let less : length x.rest < length ts = shrinks a s ts x is in
+          again x.tree x.scopes x.rest (omega (arith, less, lower)) e
+
+  pub run_stops : TurnShrinks → (a : S) (s : HeldScopes) (ts : List Lexeme) (y : Found S) → run turn a s ts ≡ done y → turn y.tree y.scopes y.rest ≡ None
+  unfolding run
+  run_stops shrinks a s ts y e = turns-stop shrinks (suc (length ts)) a s ts y (omega arith) e
+
   -- a turn that goes well, and the end of a loop
   pub run_on : TurnShrinks → (a : S) (s : HeldScopes) (ts : List Lexeme) (x : Found S) → turn a s ts ≡ Some (done x) → run turn a s ts ≡ run turn x.tree x.scopes x.rest
   unfolding and_then

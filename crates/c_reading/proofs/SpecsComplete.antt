@@ -1,39 +1,43 @@
 -- Specifiers are read from their text.
-use Rattle.std.proofs.Common.{◌≡◌, ℕ, ◌<◌, ◌≤◌, Bool, true, false, List, [], ◌∷◌, ◌++◌, length, Some, None, inl, inr, refl, sym, ◌∙◌, ap, subst, arith}
-use Rattle.std.specs.Prelude.{◌+◌, ◌-◌, max, not, ◌⊎◌, Any, IsPermutation, if◌then◌else◌}
+use Rattle.std.proofs.Common.{◌≡◌, ℕ, ◌<◌, ◌≤◌, Bool, true, false, List, [], ◌∷◌, ◌++◌, length, Option, Some, None, inl, inr, refl, sym, ◌∙◌, ap, subst, arith}
+use Rattle.std.specs.Prelude.{◌+◌, ◌-◌, max, not, ◌&&◌, ◌||◌, ◌⊎◌, Any, IsPermutation, if◌then◌else◌}
 use Rattle.c_words.specs.declared.kinds.TokenKind.{TokenKind}
 use Rattle.c_words.specs.declared.kinds.TokenKind.TheVariants as kinds
 use Rattle.c_words.specs.declared.kinds.Keyword.{Keyword}
+use Rattle.c_words.specs.declared.kinds.Keyword.TheVariants as keywords
 use Rattle.c_tree.specs.declared.lexeme.Lexeme.{Lexeme}
 use Rattle.c_syntax.specs.declared.parts.Qual.TheVariants as quals
+use Rattle.c_specs.specs.declared.mix.Class.TheVariants as classes
 use Rattle.c_specs.specs.Mix.{class_of, goes_on, is_whole_mix, is_typed, is_type_word}
 use Rattle.c_specs.specs.Reading.{append_words, pushed}
 use Rattle.c_specs.specs.Laws.{WholeAreMixes, MixesGoOn}
-use Rattle.c_tree.specs.Tree.{SpecWords, no_words, more_words, SpecWord, storage, thread, inline_word, noreturn, qualifier, basic, struct_type, enum_type, enum_of, typedef_name, attribute}
+use Rattle.c_tree.specs.Tree.{SpecWords, no_words, more_words, SpecWord, storage, thread, inline_word, noreturn, qualifier, basic, struct_type, enum_type, enum_of, typedef_name, attribute, typeof_value, typeof_type, align, auto_word}
 use Rattle.c_tree.specs.Text.{tokens_between, spec_words_text, spec_word_text}
-use Rattle.c_tree.specs.Height.{specs_height, spec_word_height}
-use Rattle.c_tree.specs.Specifiers.{type_words, type_count, basic_types, IsOneType, IsMix}
-use Rattle.c_tree.specs.WellFormed.{IsSpecWord, IsTypeWord, IsElementKind}
-use Rattle.c_units.specs.HeldScopes.{HeldScopes, names_type}
-use Rattle.c_units.specs.Scoping.{where_true, spec_words_scopes, spec_word_scopes}
+use Rattle.c_tree.specs.Height.{expr_height, some_declr_height, specs_height, spec_word_height}
+use Rattle.c_tree.specs.Specifiers.{storage_words, type_words, type_count, basic_types, IsOneType, IsMix}
+use Rattle.c_tree.specs.WellFormed.{IsSpecWord, IsTypeWord, IsElementKind, is_auto, has_auto}
+use Rattle.c_units.specs.HeldScopes.{HeldScopes, is_wide, names_type}
+use Rattle.c_units.specs.Scoping.{has_typedef_word, where_true, spec_words_scopes, spec_word_scopes}
 use Rattle.c_reading.specs.declared.kinds.Role.{Role}
-use Rattle.c_reading.specs.declared.kinds.Role.TheVariants.{Declaring, Naming}
+use Rattle.c_reading.specs.declared.kinds.Role.TheVariants.{Declaring, Typed, Naming}
 use Rattle.c_reading.specs.declared.kinds.SpecStart.{SpecStart}
+use Rattle.c_reading.specs.declared.kinds.SpecStart.TheVariants as starts
 use Rattle.c_reading.specs.Reading.{kind_at, take_one, run, IsNumbered}
-use Rattle.c_reading.specs.Tokens.{is_open_brace}
+use Rattle.c_reading.specs.Tokens.{is_open_brace, is_base_word}
 use Rattle.c_reading.specs.Parts.{Inner}
-use Rattle.c_reading.specs.Specifying.{start_at, is_start, class_of_start, may_stand, least_of, word_by, word_with, word_turn, word_turn_by, specs_with}
+use Rattle.c_reading.specs.Specifying.{start_at, is_start, is_base_start, ends_before, class_of_start, may_stand, least_of, word_by, word_with, word_turn, word_turn_by, specs_with}
 use Rattle.c_reading.proofs.Binding.{found, done, bind_is, fits_is}
 use Rattle.c_reading.proofs.Loops.{run_on, run_ends}
 use Rattle.c_reading.proofs.Tails.{element_spelled}
 use Rattle.c_reading.proofs.Forms.{behind_ok}
 use Rattle.c_reading.proofs.KindFacts.{typed_same, both_left, both_right, not_true}
-use Rattle.c_reading.proofs.Firsts.{start_of, starts_some, is_name, no_type_of_none, word_starts}
+use Rattle.c_reading.proofs.Firsts.{role_stands, role_word, role_words, start_of, former_start, starts_some, is_name, no_type_of_none, word_starts}
 use Rattle.c_reading.proofs.SpecsFalls.{word_turn_shrinks}
 use Rattle.c_reading.proofs.SpecsSound.{append_nothing, append_append}
-use Rattle.c_reading.proofs.SpecsCompleteBodies.{specs_high, some_same, struct_complete}
+use Rattle.c_reading.proofs.SpecsCompleteBodies.{expr_high, specs_high, some_same, struct_complete}
+use Rattle.c_reading.proofs.SpecsCompleteTypes.{typeof_complete, former_complete}
 use Rattle.c_reading.proofs.SpecsCompleteEnums.{enum_complete}
-use Rattle.c_reading.proofs.Aims.{ends_specs, FitsRole, TokenLaws, FirstLaws, Laws}
+use Rattle.c_reading.proofs.Aims.{ends_specs, EndsWords, FitsRole, TokenLaws, FirstLaws, Laws}
 
 -- how many words of types stand among words
 abbrev types_in : SpecWords → ℕ
@@ -63,6 +67,9 @@ count_append no_words more = omega arith
 count_append (more_words (struct_type a b c d) ws) more = let again = count_append ws more in omega (arith, again)
 count_append (more_words (enum_type e) ws) more = let again = count_append ws more in omega (arith, again)
 count_append (more_words (typedef_name name) ws) more = let again = count_append ws more in omega (arith, again)
+count_append (more_words (typeof_value a b e c) ws) more = let again = count_append ws more in omega (arith, again)
+count_append (more_words (typeof_type a b ws2 d c) ws) more = let again = count_append ws more in omega (arith, again)
+count_append (more_words (auto_word a) ws) more = let again = count_append ws more in omega (arith, again)
 count_append (more_words w ws) more = count_append ws more
 
 typed_is : (ws : SpecWords) → is_typed ws ≡ true → 1 ≤ types_in ws
@@ -120,6 +127,14 @@ where_same : (b : Bool) (s s' : HeldScopes) → where_true b s ≡ Some s' → s
 where_same true s s' e = cc
 where_same false s s' e = absurd cc
 
+former_class : (keyword : Keyword) → class_of_start (former_start keyword) ≡ classes.Named
+former_class keywords.AtomicType = refl
+former_class keyword = refl
+
+former_least : (keyword : Keyword) (h : ℕ) → 3 ≤ h → least_of (former_start keyword) ≤ h + 1
+former_least keywords.AtomicType h more = omega (arith, more)
+former_least keyword h more = omega (arith, more)
+
 class_is : (w : SpecWord) → class_of_start (start_of w) ≡ class_of w
 class_is (storage w) = refl
 class_is (thread token) = refl
@@ -133,6 +148,10 @@ class_is (struct_type w attrs tag body) = refl
 class_is (enum_type e) = refl
 class_is (typedef_name n) = refl
 class_is (attribute a) = refl
+class_is (typeof_value keyword opening e closing) = refl
+class_is (typeof_type w opening ws d closing) = former_class w.keyword
+class_is (align a) = refl
+class_is (auto_word token) = refl
 
 -- heights
 
@@ -149,6 +168,12 @@ least_high (struct_type w attrs tag body) = omega arith
 least_high (enum_type (enum_of keyword attrs tag body)) = omega arith
 least_high (typedef_name n) = omega arith
 least_high (attribute a) = omega arith
+least_high (typeof_value keyword opening e closing) = let one : 1 ≤ expr_height e = expr_high e in omega (arith, one)
+least_high (typeof_type w opening ws d closing) =
+    let one : 1 ≤ specs_height ws = specs_high ws in
+    former_least w.keyword (max (specs_height ws) (some_declr_height d) + 1 + 1) (omega (arith, one))
+least_high (align a) = omega arith
+least_high (auto_word token) = omega arith
 
 append_left : (a b : SpecWords) (room : ℕ) → specs_height (append_words a b) ≤ room → specs_height a ≤ room
 append_left no_words b room h = let one : 1 ≤ specs_height b = specs_high b in omega (arith, h, one)
@@ -184,33 +209,6 @@ element_no_brace : (kind : TokenKind) → IsElementKind kind → is_open_brace k
 element_no_brace (kinds.Qual lattice elem) h = refl
 element_no_brace kind h = absurd h
 
--- a word of the name of a type may stand in one
-stands : (w : SpecWord) → IsTypeWord w → may_stand Naming (start_of w) ≡ true
-stands (storage w) h = absurd h
-stands (thread a) h = absurd h
-stands (inline_word a) h = absurd h
-stands (noreturn a) h = absurd h
-stands (qualifier (quals.Word w)) h = refl
-stands (qualifier (quals.Element token)) h = refl
-stands (qualifier (quals.Index token)) h = refl
-stands (basic w) h = refl
-stands (struct_type a b c d) h = refl
-stands (enum_type e) h = refl
-stands (typedef_name name) h = refl
-stands (attribute a) h = refl
-
-role_stands : (all : List Lexeme) (role : Role) (w : SpecWord) (ws : SpecWords) → FitsRole all role (more_words w ws) → may_stand role (start_of w) ≡ true
-role_stands all Declaring w ws fits = refl
-role_stands all Naming w ws fits = stands w fits.1
-
-role_word : (all : List Lexeme) (role : Role) (w : SpecWord) (ws : SpecWords) → FitsRole all role (more_words w ws) → IsSpecWord all w
-role_word all Declaring w ws fits = fits.0
-role_word all Naming w ws fits = fits.0
-
-role_words : (all : List Lexeme) (role : Role) (w : SpecWord) (ws : SpecWords) → FitsRole all role (more_words w ws) → FitsRole all role ws
-role_words all Declaring w ws fits = fits.1
-role_words all Naming w ws fits = fits.2
-
 module _ (all : List Lexeme) (numbered : IsNumbered all) (tokens : TokenLaws all) (firsts : FirstLaws all) (n : ℕ) (inner : Inner) (laws : Laws all n inner) where
   word_no_brace : (w : SpecWord) (k : List Lexeme) → IsSpecWord all w → is_open_brace (kind_at (spec_word_text all w k)) ≡ false
   word_no_brace (storage w) k fits = refl
@@ -219,7 +217,7 @@ module _ (all : List Lexeme) (numbered : IsNumbered all) (tokens : TokenLaws all
   word_no_brace (noreturn token) k fits = refl
   word_no_brace (qualifier (quals.Word w)) k fits = refl
   word_no_brace (qualifier (quals.Element token)) k fits =
-      let e = element_spelled all numbered token fits in
+      let e = element_spelled all numbered token fits.0 in
       ap (λ (ts : List Lexeme). is_open_brace (kind_at (ts ++ k))) e.1 ∙ element_no_brace e.0.kind e.3
   word_no_brace (qualifier (quals.Index token)) k fits = refl
   word_no_brace (basic w) k fits = refl
@@ -227,9 +225,13 @@ module _ (all : List Lexeme) (numbered : IsNumbered all) (tokens : TokenLaws all
   word_no_brace (enum_type (enum_of keyword attrs tag body)) k fits = refl
   word_no_brace (typedef_name n) k fits = refl
   word_no_brace (attribute a) k fits = refl
+  word_no_brace (typeof_value keyword opening e closing) k fits = refl
+  word_no_brace (typeof_type w opening ws d closing) k fits = refl
+  word_no_brace (align a) k fits = refl
+  word_no_brace (auto_word token) k fits = refl
 
-  no_brace_behind : (role : Role) (ws : SpecWords) (k : List Lexeme) → FitsRole all role ws → ends_specs (kind_at k) ≡ true → is_open_brace (kind_at (spec_words_text all ws k)) ≡ false
-  no_brace_behind role no_words k fits ended = end_no_brace (kind_at k) ended
+  no_brace_behind : (role : Role) (ws : SpecWords) (k : List Lexeme) → FitsRole all role ws → is_open_brace (kind_at k) ≡ false → is_open_brace (kind_at (spec_words_text all ws k)) ≡ false
+  no_brace_behind role no_words k fits ended = ended
   no_brace_behind role (more_words w ws) k fits ended = word_no_brace w (spec_words_text all ws k) (role_word all role w ws fits)
 
   -- a word is read by what it begins with
@@ -242,7 +244,7 @@ module _ (all : List Lexeme) (numbered : IsNumbered all) (tokens : TokenLaws all
   word_complete (noreturn token) room less s s' k fits scopes low no_brace = bind_is _ refl (ap (λ (s : HeldScopes). done (found (noreturn token) s k)) (some_same scopes))
   word_complete (qualifier (quals.Word w)) room less s s' k fits scopes low no_brace = bind_is _ refl (ap (λ (s : HeldScopes). done (found (qualifier (quals.Word w)) s k)) (some_same scopes))
   word_complete (qualifier (quals.Element token)) room less s s' k fits scopes low no_brace =
-      let e = element_spelled all numbered token fits in
+      let e = element_spelled all numbered token fits.0 in
       let taken : take_one s (tokens_between all token token ++ k) ≡ done (found token s k) = ap (λ (ts : List Lexeme). take_one s (ts ++ k)) e.1 ∙ ap (λ (a : ℕ). done (found a s k)) e.2 in
       bind_is _ taken (ap (λ (s : HeldScopes). done (found (qualifier (quals.Element token)) s k)) (some_same scopes))
   word_complete (qualifier (quals.Index token)) room less s s' k fits scopes low no_brace = bind_is _ refl (ap (λ (s : HeldScopes). done (found (qualifier (quals.Index token)) s k)) (some_same scopes))
@@ -257,6 +259,39 @@ module _ (all : List Lexeme) (numbered : IsNumbered all) (tokens : TokenLaws all
       bind_is _ refl (ap (λ (s : HeldScopes). done (found (typedef_name name) s k)) (where_same (names_type s name.name) s s' scopes))
   word_complete (attribute a) room less s s' k fits scopes low no_brace =
       bind_is _ (tokens.attr_complete a s k fits) (ap (λ (s : HeldScopes). done (found (attribute a) s k)) (some_same scopes))
+  word_complete (typeof_value keyword opening e closing) room less s s' k fits scopes low no_brace =
+      typeof_complete all firsts n inner laws keyword opening e closing (room - 1) (inside_of_least (expr_height e + 1) room n low less) s s' k fits scopes (inside (expr_height e + 1) room low)
+  word_complete (typeof_type w opening ws d closing) room less s s' k fits scopes low no_brace =
+      former_complete all firsts n inner laws w opening ws d closing room (inside_of_least (max (specs_height ws) (some_declr_height d) + 1 + 1) room n low less) s s' k
+      fits.0 fits.1 fits.2 fits.3 scopes (inside (max (specs_height ws) (some_declr_height d) + 1 + 1) room low)
+  word_complete (align a) room less s s' k fits scopes low no_brace =
+      bind_is _ (tokens.align_complete room a s s' k fits scopes (omega arith) refl) refl
+  word_complete (auto_word token) room less s s' k fits scopes low no_brace = bind_is _ refl (ap (λ (s : HeldScopes). done (found (auto_word token) s k)) (some_same scopes))
+
+  -- a word that the others go on with does not end them
+  goes_through : (s : HeldScopes) (words : SpecWords) (start : SpecStart) → goes_on words (class_of_start start) ≡ true → ends_before s words start ≡ false
+  goes_through s words start on =
+      all_false (is_wide s || has_auto words) (is_base_start start) (has_typedef_word (storage_words words)) (is_whole_mix words) (goes_on words (class_of_start start)) on
+    where
+      all_false : (a b c d e : Bool) → e ≡ true → (a && b && c && d && not e) ≡ false
+      all_false a b c d false is = absurd cc
+      all_false false b c d true is = refl
+      all_false true false c d true is = refl
+      all_false true true false d true is = refl
+      all_false true true true false true is = refl
+      all_false true true true true true is = refl
+
+  none_either : {A : Type 0} (b : Bool) (o : Option A) → (if b then o else o) ≡ o
+  none_either true o = refl
+  none_either false o = refl
+
+  end_brace : (s : HeldScopes) (words : SpecWords) (kind : TokenKind) → EndsWords s words kind → is_open_brace kind ≡ false
+  end_brace s words kind (inl ended) = end_no_brace kind ended
+  end_brace s words kind (inr base) = base_no_brace kind base.0
+    where
+      base_no_brace : (kind : TokenKind) → is_base_word kind ≡ true → is_open_brace kind ≡ false
+      base_no_brace (kinds.Keyword keywords.BaseWord) is = refl
+      base_no_brace kind is = absurd cc
 
   module _ (goes : MixesGoOn) where
     -- behind other words
@@ -273,19 +308,26 @@ module _ (all : List Lexeme) (numbered : IsNumbered all) (tokens : TokenLaws all
         specs_height words ≤ room → is_open_brace (kind_at k) ≡ false → may_stand role (start_of w) ≡ true → goes_on words (class_of w) ≡ true → (is_name w ≡ true → is_typed words ≡ false) →
         word_turn inner role room words s (spec_word_text all w k) ≡ Some (done (found (pushed words w) s' k))
     turn_is role words w room less s s' k fits scopes low high no_brace stand on free =
+        let on' : goes_on words (class_of_start (start_of w)) ≡ true = ap (goes_on words) (class_is w) ∙ on in
         ap (λ (start : SpecStart). word_turn_by inner role room start words s (spec_word_text all w k)) (word_starts all numbered goes s s' (is_typed words) words w k fits scopes on free) ∙
-        rw (starts_some w) (ap Some (bind_is _ (word_is role words w room less s s' k fits scopes low high no_brace stand on) refl))
+        rw (goes_through s words (start_of w) on', starts_some w) (ap Some (bind_is _ (word_is role words w room less s s' k fits scopes low high no_brace stand on) refl))
 
-    turn_ends : (role : Role) (words : SpecWords) (room : ℕ) (s : HeldScopes) (k : List Lexeme) → IsMix words → ends_specs (kind_at k) ≡ true → word_turn inner role room words s k ≡ None
-    turn_ends role words room s k mix ended =
+    turn_ends : (role : Role) (words : SpecWords) (room : ℕ) (s : HeldScopes) (k : List Lexeme) → IsMix words → EndsWords s words (kind_at k) → word_turn inner role room words s k ≡ None
+    turn_ends role words room s k mix (inl ended) =
         let no_more : is_start (start_at s (is_typed words) (kind_at k)) ≡ false = ap (λ (b : Bool). is_start (start_at s b (kind_at k))) (mix_typed words mix) ∙ end_no_start s (kind_at k) ended in
-        rw no_more refl
+        rw no_more (none_either (ends_before s words (start_at s (is_typed words) (kind_at k))) None)
+    turn_ends role words room s k mix (inr base) = at_kind (kind_at k) base.0 base.1
+      where
+        at_kind : (kind : TokenKind) → is_base_word kind ≡ true → ends_before s words (starts.Basic keywords.BaseWord) ≡ true → word_turn_by inner role room (start_at s (is_typed words) kind) words s k ≡ None
+        at_kind (kinds.Keyword keywords.BaseWord) is e = rw e refl
+        at_kind kind is e = absurd cc
 
     words_complete : (role : Role) (words rest : SpecWords) (room : ℕ) → room ≤ n → (s s' : HeldScopes) (k : List Lexeme) → IsMix (append_words words rest) → FitsRole all role rest → spec_words_scopes rest s ≡ Some s' →
-        (rest ≡ no_words) ⊎ (specs_height (append_words words rest) ≤ room) → ends_specs (kind_at k) ≡ true →
+        (rest ≡ no_words) ⊎ (specs_height (append_words words rest) ≤ room) → EndsWords s' (append_words words rest) (kind_at k) →
         run (word_turn inner role room) words s (spec_words_text all rest k) ≡ done (found (append_words words rest) s' k)
     words_complete role words no_words room less s s' k mix fits scopes low ended =
-        run_ends (word_turn inner role room) (word_turn_shrinks all tokens n inner laws role room) words s k (turn_ends role words room s k (subst IsMix (append_nothing words) mix) ended) ∙
+        run_ends (word_turn inner role room) (word_turn_shrinks all tokens n inner laws role room) words s k (turn_ends role words room s k (subst IsMix (append_nothing words) mix)
+        (subst (λ (ws : SpecWords). EndsWords s ws (kind_at k)) (append_nothing words) (subst (λ (t : HeldScopes). EndsWords t (append_words words no_words) (kind_at k)) (sym (some_same scopes)) ended))) ∙
         ap (λ (s : HeldScopes). done (found words s k)) (some_same scopes) ∙
         ap (λ (words : SpecWords). done (found words s' k)) (sym (append_nothing words))
     words_complete role words (more_words w rest) room less s s' k mix fits scopes low ended =
@@ -295,9 +337,9 @@ module _ (all : List Lexeme) (numbered : IsNumbered all) (tokens : TokenLaws all
         run_on (word_turn inner role room) (word_turn_shrinks all tokens n inner laws role room) words s (spec_word_text all w (spec_words_text all rest k)) (found (pushed words w) b.0 (spec_words_text all rest k))
         (turn_is role words w room less s b.0 (spec_words_text all rest k) (role_word all role w rest fits) b.1
         (first_low (spec_word_height w) (specs_height rest) room (append_right words (more_words w rest) room high)) (append_left words (more_words w rest) room high)
-        (no_brace_behind role rest k (role_words all role w rest fits) ended) (role_stands all role w rest fits) (goes words w rest mix) (named_once words w rest mix)) ∙
+        (no_brace_behind role rest k (role_words all role w rest fits) (end_brace s' (append_words words (more_words w rest)) (kind_at k) ended)) (role_stands all role w rest fits) (goes words w rest mix) (named_once words w rest mix)) ∙
         words_complete role (pushed words w) rest room less b.0 s' k (subst IsMix (sym same) mix) (role_words all role w rest fits) b.2
-        (inr (subst (λ (ws : SpecWords). specs_height ws ≤ room) (sym same) high)) ended ∙
+        (inr (subst (λ (ws : SpecWords). specs_height ws ≤ room) (sym same) high)) (subst (λ (ws : SpecWords). EndsWords s' ws (kind_at k)) (sym same) ended) ∙
         ap (λ (words : SpecWords). done (found words s' k)) same
       where
         high_of : (more_words w rest ≡ no_words) ⊎ (specs_height (append_words words (more_words w rest)) ≤ room) → specs_height (append_words words (more_words w rest)) ≤ room
@@ -305,7 +347,7 @@ module _ (all : List Lexeme) (numbered : IsNumbered all) (tokens : TokenLaws all
         high_of (inr high) = high
 
     pub specs_complete : WholeAreMixes → (role : Role) (words rest : SpecWords) (room : ℕ) → room ≤ n → (s s' : HeldScopes) (k : List Lexeme) → IsMix (append_words words rest) → FitsRole all role rest →
-        spec_words_scopes rest s ≡ Some s' → (rest ≡ no_words) ⊎ (specs_height (append_words words rest) ≤ room) → ends_specs (kind_at k) ≡ true →
+        spec_words_scopes rest s ≡ Some s' → (rest ≡ no_words) ⊎ (specs_height (append_words words rest) ≤ room) → EndsWords s' (append_words words rest) (kind_at k) →
         specs_with inner role words room s (spec_words_text all rest k) ≡ done (found (append_words words rest) s' k)
     unfolding specs_with
     specs_complete whole_are role words rest room less s s' k mix fits scopes low ended =

@@ -11,7 +11,7 @@ use Rattle.c_tree.specs.declared.lexeme.Lexeme.{Lexeme}
 use Rattle.c_syntax.specs.declared.parts.Identifier.{Identifier}
 use Rattle.c_syntax.specs.declared.parts.Attr.{Attr}
 use Rattle.c_syntax.specs.declared.parts.Word.{Word}
-use Rattle.c_tree.specs.Tree.{Expr, operation, cast, prefix, sizeof_value, sizeof_type, extension, index, call, dot, arrow, post, compound, name_use, number_use, char_use, text_use, paren, statement_expr, va_arg, va_start, va_copy, offset, SpecWords, no_words, more_words, struct_type, SomeBody, no_body, some_body, StructItems, StructItem, member, member_semi, member_assert, MemDeclrs, no_mem_declrs, more_mem_declrs, MemDeclr, named, unnamed, SomeValue, no_value, some_value, Declr}
+use Rattle.c_tree.specs.Tree.{Expr, operation, cast, prefix, sizeof_value, sizeof_type, extension, index, call, dot, arrow, post, compound, name_use, number_use, char_use, text_use, paren, statement_expr, va_arg, va_start, va_copy, offset, complex_part, label_use, compat, choose, generic, SpecWords, no_words, more_words, struct_type, SomeBody, no_body, some_body, StructItems, StructItem, member, member_semi, member_assert, MemDeclrs, no_mem_declrs, more_mem_declrs, MemDeclr, named, unnamed, SomeValue, no_value, some_value, Declr}
 use Rattle.c_tree.specs.Text.{sign_text, tag_text, attrs_text, extensions_text, expr_text, spec_words_text, spec_word_text, some_body_text, struct_items_text, struct_item_text, mem_declrs_text, other_mem_declrs_text, mem_declr_text, some_value_text, declr_text, assert_text}
 use Rattle.c_tree.specs.Height.{attrs_height, expr_height, specs_height, some_body_height, struct_items_height, struct_item_height, mem_declrs_height, mem_declr_height, some_value_height, declr_height}
 use Rattle.c_tree.specs.Groups.{IsGroup}
@@ -20,6 +20,7 @@ use Rattle.c_tree.specs.WellFormed.{AreAttrs, AreSpecWords, IsSomeValue, IsStruc
 use Rattle.c_units.specs.HeldScopes.{HeldScopes}
 use Rattle.c_units.specs.Scoping.{expr_scopes, spec_words_scopes, some_body_scopes, struct_item_scopes, struct_items_scopes, mem_declr_scopes, mem_declrs_scopes, some_value_scopes, declr_scopes}
 use Rattle.c_reading.specs.declared.kinds.Reach.TheVariants.{Conditional}
+use Rattle.c_reading.specs.declared.kinds.Role.TheVariants.{Typed}
 use Rattle.c_reading.specs.Reading.{Reader, ◌>>=◌, ends, kind_at, listed, repeated, Next, one_more, IsNumbered}
 use Rattle.c_reading.specs.Tokens.{is_semicolon, is_colon, is_open_brace, is_close_brace, is_static_assert, is_attribute, attrs_at, tag_at}
 use Rattle.c_reading.specs.Parts.{Inner, MemberItem, struct_items_from, mem_declrs_from}
@@ -29,7 +30,7 @@ use Rattle.c_reading.proofs.Forms.{IsComplete, always, behind_ok}
 use Rattle.c_reading.proofs.Rows.{repeated_complete}
 use Rattle.c_reading.proofs.Commas.{commas_text, listed_complete}
 use Rattle.c_reading.proofs.KindFacts.{named_no_colon, named_no_semicolon, named_no_attribute, named_ends_specs, specs_no_extension, specs_no_semicolon, specs_no_static_assert, specs_no_close_brace, both_left, both_right, not_true, not_false}
-use Rattle.c_reading.proofs.Shared.{specs_here_complete, named_declr_complete}
+use Rattle.c_reading.proofs.Shared.{no_base, specs_here_complete, named_declr_complete}
 use Rattle.c_reading.proofs.SpecsFalls.{struct_item_shrinks, next_member_falls}
 use Rattle.c_reading.proofs.SpecsSoundBodies.{declr_high}
 use Rattle.c_reading.proofs.SpecsLists.{struct_items, struct_items_back, mem_items, mem_items_back, items_are, items_fit_back, items_named, items_high, member_ending, declrs_are, declrs_fit_back, declrs_named, declrs_high}
@@ -49,7 +50,7 @@ exts_room : (exts : List ℕ) (room : ℕ) → 2 ≤ room → least_with exts �
 exts_room [] room h = omega arith
 exts_room (x ∷ xs) room h = h
 
-expr_high : (e : Expr) → 1 ≤ expr_height e
+pub expr_high : (e : Expr) → 1 ≤ expr_height e
 expr_high (operation e op token e2) = omega arith
 expr_high (cast opening ws d closing e) = omega arith
 expr_high (prefix token p e) = omega arith
@@ -72,6 +73,11 @@ expr_high (va_arg keyword opening e separator ws d closing) = omega arith
 expr_high (va_start keyword opening e separator e2 closing) = omega arith
 expr_high (va_copy keyword opening e separator e2 closing) = omega arith
 expr_high (offset keyword opening ws d separator name steps closing) = omega arith
+expr_high (complex_part token e) = omega arith
+expr_high (label_use token name) = omega arith
+expr_high (compat keyword opening ws d separator ws2 d2 closing) = omega arith
+expr_high (choose keyword opening e separator e2 separator2 e3 closing) = omega arith
+expr_high (generic keyword opening e items closing) = omega arith
 
 pub specs_high : (ws : SpecWords) → 1 ≤ specs_height ws
 specs_high no_words = omega arith
@@ -179,7 +185,7 @@ module _ (all : List Lexeme) (numbered : IsNumbered all) (tokens : TokenLaws all
   field_complete d width attrs room less s s' k fits scopes low ended =
       let b = behind_ok (declr_scopes None d s) (some_value_scopes width) s' scopes in
       let rest : max (some_value_height width) (attrs_height attrs) + 1 ≤ room = right_of_two (declr_height d) (max (some_value_height width) (attrs_height attrs)) room low in
-      bind_is _ (named_declr_complete all n inner laws None (room - 1) (inside_less room n less) d s b.0 (some_value_text all puncts.Colon width (attrs_text all attrs k)) (fits.0, fits.1) b.1
+      bind_is _ (named_declr_complete all n inner laws None (room - 1) (inside_less room n less) d s b.0 (some_value_text all puncts.Colon width (attrs_text all attrs k)) (fits.0, fits.1, fits.4) b.1
       (inside_low (declr_height d) room (left_of_two (declr_height d) (max (some_value_height width) (attrs_height attrs)) room low)) (suffix_ends width attrs k ended))
       (bind_is _ (value_complete is_colon puncts.Colon refl room less width b.0 s' (attrs_text all attrs k) fits.2 b.2
       (inside_low (some_value_height width) room (left_of_two (some_value_height width) (attrs_height attrs) room rest))
@@ -204,10 +210,12 @@ module _ (all : List Lexeme) (numbered : IsNumbered all) (tokens : TokenLaws all
       named_no_semicolon (kind_at (declr_text all d (some_value_text all puncts.Colon width (attrs_text all attrs k)))) (firsts.named_begins d (some_value_text all puncts.Colon width (attrs_text all attrs k)) fits.0 fits.1)
   declr_no_semicolon (unnamed colon e attrs) k fits = refl
 
-  declr_ends_specs : (d : MemDeclr) (k : List Lexeme) → IsMemDeclr all d → ends_specs (kind_at (mem_declr_text all d k)) ≡ true
-  declr_ends_specs (named d width attrs) k fits =
-      named_ends_specs (kind_at (declr_text all d (some_value_text all puncts.Colon width (attrs_text all attrs k)))) (firsts.named_begins d (some_value_text all puncts.Colon width (attrs_text all attrs k)) fits.0 fits.1)
-  declr_ends_specs (unnamed colon e attrs) k fits = refl
+  declr_ends_specs : (d : MemDeclr) (s s' : HeldScopes) (k : List Lexeme) → IsMemDeclr all d → mem_declr_scopes d s ≡ Some s' → ends_specs (kind_at (mem_declr_text all d k)) ≡ true
+  declr_ends_specs (named d width attrs) s s' k fits scopes =
+      let more = some_value_text all puncts.Colon width (attrs_text all attrs k) in
+      let b = behind_ok (declr_scopes None d s) (some_value_scopes width) s' scopes in
+      named_ends_specs (kind_at (declr_text all d more)) (firsts.named_begins d more fits.0 fits.1) (firsts.named_base d more fits.0 fits.1 ∙ no_base None refl d s b.0 b.1)
+  declr_ends_specs (unnamed colon e attrs) s s' k fits scopes = refl
 
   -- a declarator with attributes before it, which the first has none of
   abbrev some_member : ℕ → Reader MemberItem
@@ -258,10 +266,13 @@ module _ (all : List Lexeme) (numbered : IsNumbered all) (tokens : TokenLaws all
       (first_same room s (mem_declrs_text all (more_mem_declrs [] d ds) (sign_text puncts.Semicolon semi k)) (declr_no_attribute d (other_mem_declrs_text all ds (sign_text puncts.Semicolon semi k)) fits.1))) ∙
       ap (listed (some_member room) (next_member inner room) s) text ∙ list) refl)
 
-  declrs_end_specs : (ds : MemDeclrs) (semi : ℕ) (k : List Lexeme) → IsMemStart ds → AreMemDeclrs all ds → ends_specs (kind_at (mem_declrs_text all ds (sign_text puncts.Semicolon semi k))) ≡ true
-  declrs_end_specs no_mem_declrs semi k start fits = refl
-  declrs_end_specs (more_mem_declrs (a ∷ attrs) d ds) semi k start fits = absurd cc
-  declrs_end_specs (more_mem_declrs [] d ds) semi k start fits = declr_ends_specs d (other_mem_declrs_text all ds (sign_text puncts.Semicolon semi k)) fits.1
+  declrs_end_specs : (ds : MemDeclrs) (s s' : HeldScopes) (semi : ℕ) (k : List Lexeme) → IsMemStart ds → AreMemDeclrs all ds → mem_declrs_scopes ds s ≡ Some s' →
+      ends_specs (kind_at (mem_declrs_text all ds (sign_text puncts.Semicolon semi k))) ≡ true
+  declrs_end_specs no_mem_declrs s s' semi k start fits scopes = refl
+  declrs_end_specs (more_mem_declrs (a ∷ attrs) d ds) s s' semi k start fits scopes = absurd cc
+  declrs_end_specs (more_mem_declrs [] d ds) s s' semi k start fits scopes =
+      let b = behind_ok (mem_declr_scopes d s) (mem_declrs_scopes ds) s' scopes in
+      declr_ends_specs d s b.0 (other_mem_declrs_text all ds (sign_text puncts.Semicolon semi k)) fits.1 b.1
 
   member_complete : (exts : List ℕ) (ws : SpecWords) (ds : MemDeclrs) (semi : ℕ) (room : ℕ) → room < n → (s s' : HeldScopes) (k : List Lexeme) → IsStructItem all (member exts ws ds semi) →
       struct_item_scopes (member exts ws ds semi) s ≡ Some s' → struct_item_height (member exts ws ds semi) ≤ room →
@@ -274,8 +285,8 @@ module _ (all : List Lexeme) (numbered : IsNumbered all) (tokens : TokenLaws all
       let tail = mem_declrs_text all ds (sign_text puncts.Semicolon semi k) in
       let begun = firsts.words_begin ws s b.0 tail fits.0 fits.1 b.1 in
       bind_is _ (tokens.exts_complete room exts s s (spec_words_text all ws tail) tt refl (exts_room exts room (two_of_one (specs_height ws) room (specs_high ws) words)) (not_false (specs_no_extension s (kind_at (spec_words_text all ws tail)) begun)))
-      (bind_is _ (specs_here_complete all n inner laws firsts room (less_least room n less) ws s b.0 tail (fits.0, fits.1) b.1 words (declrs_end_specs ds semi k fits.2 fits.3))
-      (bind_is _ (mem_declrs_complete ds (room - 1) (inside_less room n less) b.0 s' semi k fits.2 fits.3 b.2 declrs)
+      (bind_is _ (specs_here_complete all n inner laws firsts Typed room (less_least room n less) ws s b.0 tail (fits.0, (fits.1, fits.2)) b.1 words (declrs_end_specs ds b.0 s' semi k fits.3 fits.4 b.2))
+      (bind_is _ (mem_declrs_complete ds (room - 1) (inside_less room n less) b.0 s' semi k fits.3 fits.4 b.2 declrs)
       (bind_is _ refl (ap (λ (ds : MemDeclrs). done (found (member exts ws ds semi) s' k)) (mem_items_back ds)))))
 
   -- what a member begins with

@@ -12,12 +12,13 @@ use Rattle.c_tree.specs.Height.{specs_height}
 use Rattle.typedef_scope.specs.declared.kind.Kind.TheVariants.{Constant}
 use Rattle.c_units.specs.HeldScopes.{HeldScopes, innermost, may_declare, is_name, declare}
 use Rattle.c_reading.specs.declared.kinds.Role.{Role}
+use Rattle.c_reading.specs.declared.kinds.Role.TheVariants.{Typed}
 use Rattle.c_reading.specs.declared.kinds.SpecStart.{SpecStart}
 use Rattle.c_reading.specs.declared.kinds.SpecStart.TheVariants as starts
 use Rattle.c_reading.specs.Reading.{Found, Read, ends, and_then, kind_at, run}
-use Rattle.c_reading.specs.Tokens.{is_semicolon, is_colon, is_equal, is_open_brace, is_close_brace, is_static_assert}
+use Rattle.c_reading.specs.Tokens.{is_semicolon, is_colon, is_equal, is_open_brace, is_close_brace, is_static_assert, is_open_paren, is_close_paren}
 use Rattle.c_reading.specs.Parts.{Inner}
-use Rattle.c_reading.specs.Specifying.{start_at, is_start, class_of_start, may_stand, least_of, without_body, declared, value_with, width_with, field_with, mem_declr_with, first_member, next_member, mem_declrs_with, member_with, struct_item_with, members_with, body_with, struct_with, enumerator_behind, enumerator_named, enumerator_with, next_enumerator, enumerators_with, enum_body_with, enum_with, word_at, word_by, word_with, word_turn, word_turn_by, whole, specs_with}
+use Rattle.c_reading.specs.Specifying.{start_at, is_start, class_of_start, may_stand, least_of, without_body, declared, value_with, width_with, field_with, mem_declr_with, first_member, next_member, mem_declrs_with, member_with, struct_item_with, members_with, body_with, struct_with, enumerator_behind, enumerator_named, enumerator_with, next_enumerator, enumerators_with, enum_body_with, enum_with, ends_before, begins_specs, typed_word_with, typeof_value_with, typeof_with, atomic_with, word_at, word_by, word_with, word_turn, word_turn_by, whole, specs_with}
 use Rattle.c_reading.proofs.Binding.{found, done, ok_is, bind_ok, fits_ok, if_ok, take_falls, token_falls}
 use Rattle.c_reading.proofs.Loops.{TurnShrinks, run_is, run-keep, after}
 use Rattle.c_reading.proofs.Forms.{Falls, Shrinks, name_falls, tag_falls}
@@ -93,7 +94,7 @@ module _ (all : List Lexeme) (tokens : TokenLaws all) (n : ℕ) (inner : Inner) 
       let b = bind_ok a.2 in
       let c = bind_ok b.2 in
       let d = bind_ok c.2 in
-      omega (arith, tokens.exts_falls room _ _ _ a.1, specs_here_shrinks all n inner laws room _ _ _ b.1, mem_declrs_falls (room - 1) _ _ _ c.1, token_falls is_semicolon _ _ _ d.1, end_is d.2)
+      omega (arith, tokens.exts_falls room _ _ _ a.1, specs_here_shrinks all n inner laws Typed room _ _ _ b.1, mem_declrs_falls (room - 1) _ _ _ c.1, token_falls is_semicolon _ _ _ d.1, end_is d.2)
 
   pub struct_item_shrinks : (room : ℕ) → Shrinks (struct_item_with inner room)
   unfolding struct_item_with
@@ -189,6 +190,36 @@ module _ (all : List Lexeme) (tokens : TokenLaws all) (n : ℕ) (inner : Inner) 
       let d = bind_ok c.2 in
       omega (arith, take_falls _ _ _ a.1, tokens.attrs_falls room _ _ _ b.1, tag_falls _ _ _ c.1, enum_body_falls c.0.tree room _ _ _ d.1, end_is d.2)
 
+  typed_word_shrinks : (keyword : Keyword) (token opening room : ℕ) → Shrinks (typed_word_with inner keyword token opening room)
+  unfolding typed_word_with
+  typed_word_shrinks keyword token opening room s ts x e =
+      let a = bind_ok e in
+      let b = bind_ok a.2 in
+      omega (arith, laws.types.shrinks _ _ _ _ a.1, token_falls is_close_paren _ _ _ b.1, end_is b.2)
+
+  typeof_value_shrinks : (token opening room : ℕ) → Shrinks (typeof_value_with inner token opening room)
+  unfolding typeof_value_with
+  typeof_value_shrinks token opening room s ts x e =
+      let a = bind_ok e in
+      let b = bind_ok a.2 in
+      omega (arith, laws.exprs.shrinks _ _ _ _ _ _ a.1, token_falls is_close_paren _ _ _ b.1, end_is b.2)
+
+  typeof_shrinks : (room : ℕ) → Shrinks (typeof_with inner room)
+  unfolding typeof_with
+  typeof_shrinks room s ts x e =
+      let a = bind_ok e in
+      let b = bind_ok a.2 in
+      let less : length x.rest < length b.0.rest = if_ok (begins_specs b.0.scopes (kind_at b.0.rest)) b.2
+      (λ is e. typed_word_shrinks _ _ _ room _ _ _ e) (λ is e. typeof_value_shrinks _ _ room _ _ _ e) in
+      omega (arith, take_falls _ _ _ a.1, token_falls is_open_paren _ _ _ b.1, less)
+
+  atomic_shrinks : (room : ℕ) → Shrinks (atomic_with inner room)
+  unfolding atomic_with
+  atomic_shrinks room s ts x e =
+      let a = bind_ok e in
+      let b = bind_ok a.2 in
+      omega (arith, take_falls _ _ _ a.1, token_falls is_open_paren _ _ _ b.1, typed_word_shrinks _ _ _ room _ _ _ b.2)
+
   -- a word of one token
   one_shrinks : (make : ℕ → SpecWord) → Shrinks (word_at inner make)
   one_shrinks make s ts x e = let a = bind_ok e in omega (arith, take_falls _ _ _ a.1, end_is a.2)
@@ -207,6 +238,10 @@ module _ (all : List Lexeme) (tokens : TokenLaws all) (n : ℕ) (inner : Inner) 
   word_by_shrinks starts.Enum room s ts x e = enum_shrinks (room - 1) s ts x e
   word_by_shrinks starts.Attribute room s ts x e = let a = bind_ok e in omega (arith, tokens.attr_shrinks _ _ _ a.1, end_is a.2)
   word_by_shrinks (starts.Name name) room s ts x e = one_shrinks _ s ts x e
+  word_by_shrinks starts.Typeof room s ts x e = typeof_shrinks (room - 1) s ts x e
+  word_by_shrinks starts.Atomic room s ts x e = atomic_shrinks (room - 1) s ts x e
+  word_by_shrinks starts.Align room s ts x e = let a = bind_ok e in omega (arith, tokens.align_shrinks _ _ _ a.1, end_is a.2)
+  word_by_shrinks starts.Auto room s ts x e = one_shrinks _ s ts x e
   word_by_shrinks starts.Nothing room s ts x e = absurd cc
 
   -- what a word that was read may be
@@ -233,9 +268,15 @@ module _ (all : List Lexeme) (tokens : TokenLaws all) (n : ℕ) (inner : Inner) 
           let b = bind_ok e' in
           (is, b.0, b.1, ok_is b.2)
 
+      by_end : (start : SpecStart) (b : Bool) →
+          (if b then None else (if is_start start then Some (and_then (word_with inner role words start room s ts) (λ word. ends (pushed words word.tree) word.scopes word.rest)) else None)) ≡ Some (done x) →
+          (is_start start ≡ true) × (y : Found SpecWord) × (word_with inner role words start room s ts ≡ done y) × (found (pushed words y.tree) y.scopes y.rest ≡ x)
+      by_end start true e = absurd cc
+      by_end start false e = by_test start (is_start start) refl e
+
       by_start : (start : SpecStart) → word_turn_by inner role room start words s ts ≡ Some (done x) →
           (is_start start ≡ true) × (y : Found SpecWord) × (word_with inner role words start room s ts ≡ done y) × (found (pushed words y.tree) y.scopes y.rest ≡ x)
-      by_start start e = by_test start (is_start start) refl e
+      by_start start e = by_end start (ends_before s words start) e
 
   pub word_turn_shrinks : (role : Role) (room : ℕ) → TurnShrinks (word_turn inner role room)
   word_turn_shrinks role room words s ts x e =

@@ -10,7 +10,7 @@ use Rattle.c_words.specs.declared.kinds.Keyword.{Keyword}
 use Rattle.c_tree.specs.declared.lexeme.Lexeme.{Lexeme}
 use Rattle.c_syntax.specs.declared.parts.Identifier.{Identifier}
 use Rattle.c_syntax.specs.declared.parts.Attr.{Attr}
-use Rattle.c_tree.specs.Tree.{SpecWord, SomeBody, no_body, some_body, StructItems, MemDeclr, Declr, pointer, declr_name, declr_paren, array, params, abs_pointer, abs_paren, abs_array, abs_params}
+use Rattle.c_tree.specs.Tree.{SpecWord, SomeBody, no_body, some_body, StructItems, MemDeclr, Declr, pointer, declr_name, declr_paren, array, params, abs_pointer, abs_paren, abs_array, abs_params, identifiers, base_name, identifiers, base_name}
 use Rattle.c_tree.specs.Text.{sign_text, keyword_text, tag_text, attrs_text, extensions_text, expr_text, spec_words_text, spec_word_text, some_body_text, struct_items_text, mem_declrs_text, some_value_text, declr_text}
 use Rattle.c_tree.specs.Height.{attrs_height, expr_height, specs_height, spec_word_height, some_body_height, mem_declrs_height, mem_declr_height, some_value_height, declr_height}
 use Rattle.c_tree.specs.Groups.{IsGroup}
@@ -18,6 +18,7 @@ use Rattle.c_tree.specs.WellFormed.{IsSpecWord, IsBody, HasTagOrBody, IsMemStart
 use Rattle.c_units.specs.HeldScopes.{HeldScopes}
 use Rattle.c_units.specs.Scoping.{behind, expr_scopes, spec_word_scopes, spec_words_scopes, some_body_scopes, struct_items_scopes, mem_declrs_scopes, some_value_scopes, declr_scopes, mem_declr_scopes}
 use Rattle.c_reading.specs.declared.kinds.Reach.TheVariants.{Conditional}
+use Rattle.c_reading.specs.declared.kinds.Role.TheVariants.{Typed}
 use Rattle.c_reading.specs.Reading.{Found, kind_at, listed, comma_turn, with_next, Next, one_more, list_end, CommaList, IsNumbered, IsTail}
 use Rattle.c_reading.specs.Tokens.{is_semicolon, is_colon, is_open_brace, is_close_brace, is_static_assert}
 use Rattle.c_reading.specs.Parts.{Inner, MemberItem, struct_items_from, mem_declrs_from}
@@ -49,6 +50,8 @@ declr_high (abs_pointer star words d) = omega arith
 declr_high (abs_paren opening attrs d closing) = omega arith
 declr_high (abs_array d opening words size closing) = omega arith
 declr_high (abs_params d opening ps dots closing) = omega arith
+declr_high (identifiers d opening names closing) = omega arith
+declr_high (base_name token) = omega arith
 
 pub two_low : (a b room : ℕ) → 1 ≤ room → a ≤ room - 1 → b ≤ room - 1 → max a b + 1 ≤ room
 two_low a b room one h k = omega (arith, one, h, k)
@@ -133,7 +136,7 @@ module _ (all : List Lexeme) where
         let q = tokens.attrs_sound room b.0.scopes b.0.rest c.0 v.left c.1 in
         at_end (Takes all (mem_declr_form all) room s ts) c.2 (record {
           spelled = d.spelled ∙ ap (declr_text all a.0.tree) (v.spelled ∙ ap (some_value_text all puncts.Colon b.0.tree) q.spelled);
-          fits = (d.fits.0, d.fits.1, v.fits, q.fits);
+          fits = (d.fits.0, d.fits.1, v.fits, q.fits, d.fits.2);
           named = behind_is (some_value_scopes b.0.tree) d.named (v.named ∙ q.named);
           low = three_low (declr_height a.0.tree) (some_value_height b.0.tree) (attrs_height c.0.tree) room (declr_high a.0.tree) d.low v.low (attrs_low c.0.tree room q.low);
           left = q.left;
@@ -238,12 +241,12 @@ module _ (all : List Lexeme) where
         let c = bind_ok b.2 in
         let d = bind_ok c.2 in
         let g = tokens.exts_sound room s ts a.0 tail a.1 in
-        let w = specs_here_sound all n inner laws room a.0.scopes a.0.rest b.0 g.left b.1 in
+        let w = specs_here_sound all n inner laws Typed room a.0.scopes a.0.rest b.0 g.left b.1 in
         let m = mem_declrs_sound (room - 1) b.0.scopes b.0.rest c.0 w.left c.1 in
         let q = took_token all is_semicolon (kinds.Punct puncts.Semicolon) semicolon_kind c.0.scopes c.0.rest d.0 m.left d.1 in
         at_end (Takes all (struct_item_form all) room s ts) d.2 (record {
           spelled = g.spelled ∙ ap (extensions_text a.0.tree) (w.spelled ∙ ap (spec_words_text all b.0.tree) (m.spelled ∙ ap (mem_declrs_text all (mem_declrs_from c.0.tree)) q.spelled));
-          fits = (w.fits.0, w.fits.1, m.fits.0, m.fits.1);
+          fits = (w.fits.0, w.fits.1.0, w.fits.1.1, m.fits.0, m.fits.1);
           named = behind_is (mem_declrs_scopes (mem_declrs_from c.0.tree)) (through (spec_words_scopes b.0.tree) (same_scopes g.named) w.named refl) (m.named ∙ ap Some (sym q.same));
           low = member_low (specs_height b.0.tree) (mem_declrs_height (mem_declrs_from c.0.tree)) room w.low m.low;
           left = q.left;

@@ -11,25 +11,28 @@ use Rattle.c_syntax.specs.declared.parts.Attr.{Attr}
 use Rattle.c_syntax.specs.declared.parts.Word.{Word}
 use Rattle.c_syntax.specs.declared.parts.Group.{Group}
 use Rattle.c_syntax.specs.declared.parts.Identifier.{Identifier}
-use Rattle.c_tree.specs.Tree.{Expr, SomeExpr, no_expr, some_expr, Declaration, declaration, BlockItems, no_block_items, more_block_items, Stmt, block, expr_stmt, attr_stmt, label, case_stmt, default_stmt, if_stmt, switch_stmt, while_stmt, do_stmt, for_stmt, goto_stmt, continue_stmt, break_stmt, return_stmt, asm_stmt, SomeElse, no_else, some_else, ForStart, start_declaration, start_value, no_words, SpecWords}
+use Rattle.c_tree.specs.Tree.{Expr, SomeExpr, no_expr, some_expr, Declaration, declaration, BlockItems, no_block_items, more_block_items, Stmt, block, case_range, goto_value, expr_stmt, attr_stmt, label, case_stmt, default_stmt, if_stmt, switch_stmt, while_stmt, do_stmt, for_stmt, goto_stmt, continue_stmt, break_stmt, return_stmt, asm_stmt, SomeElse, no_else, some_else, ForStart, start_declaration, start_value, no_words, SpecWords}
 use Rattle.c_tree.specs.Text.{sign_text, keyword_text, group_text, expr_text, some_expr_text, spec_words_text, init_declrs_text, declaration_text, stmt_text, some_else_text, for_start_text}
 use Rattle.c_tree.specs.Height.{attrs_height, expr_height, some_expr_height, specs_height, init_declrs_height, declaration_height, stmt_height, some_else_height, for_start_height}
 use Rattle.c_tree.specs.Groups.{IsGroup}
 use Rattle.c_tree.specs.WellFormed.{is_asm_word, AreAttrs, IsExpr, IsSomeExpr, IsDeclaration, IsStmt, IsNoAttrStmt, IsOther, IsStart, takes_else, other_takes_else}
-use Rattle.c_units.specs.HeldScopes.{HeldScopes, enter, leave}
-use Rattle.c_units.specs.Scoping.{behind, in_own_scope, expr_scopes, some_expr_scopes, declared_kind, spec_words_scopes, init_declrs_scopes, declaration_scopes, stmt_scopes, some_else_scopes, for_start_scopes}
+use Rattle.c_units.specs.HeldScopes.{HeldScopes, is_wide, enter, leave}
+use Rattle.c_units.specs.Scoping.{behind, where_true, in_own_scope, expr_scopes, some_expr_scopes, declared_kind, spec_words_scopes, init_declrs_scopes, declaration_scopes, stmt_scopes, some_else_scopes, for_start_scopes}
 use Rattle.c_reading.specs.declared.kinds.Reach.TheVariants.{Whole, Conditional}
 use Rattle.c_reading.specs.Reading.{Reader, kind_at, IsNumbered}
 use Rattle.c_reading.specs.Tokens.{is_close_paren, is_semicolon, is_else, is_extension, is_attribute, is_made, asm_word_of}
 use Rattle.c_reading.specs.Parts.{Inner, Begun, nothing, extensions}
 use Rattle.c_reading.specs.Expressing.{begins_expr}
-use Rattle.c_reading.specs.Stating.{in_own, expr_stmt_with, label_with, part_with, some_expr_with, case_with, default_with, some_else_with, if_inside, headed_inside, do_inside, start_value_with, extended_start, for_start_with, for_inside, goto_with, jump_with, return_with, asm_with, attr_stmt_with}
+use Rattle.c_reading.specs.Stating.{in_own, range_behind, value_behind, goto_value_with, goto_name, expr_stmt_with, label_with, part_with, some_expr_with, case_with, default_with, some_else_with, if_inside, headed_inside, do_inside, start_value_with, extended_start, for_start_with, for_inside, goto_with, jump_with, return_with, asm_with, attr_stmt_with}
 use Rattle.c_reading.proofs.Binding.{found, done, bind_is, fits_is}
 use Rattle.c_reading.proofs.Forms.{behind_ok}
 use Rattle.c_reading.proofs.KindFacts.{and_false, not_true, not_false, expr_no_attribute, expr_no_semicolon, expr_no_close_paren, expr_no_specs, specs_no_semicolon, specs_no_extension}
 use Rattle.c_reading.proofs.Aims.{least_with, ends_expr, ends_stmt, IsBegun, behind_exts, behind_begun, TokenLaws, FirstLaws, Laws}
 use Rattle.c_reading.proofs.DeclLists.{attrs_asks, block_some}
 use Rattle.c_reading.proofs.DeclComplete.{declaration_read}
+use Rattle.c_reading.proofs.BaseWords.{words_declrs_scopes}
+use Rattle.c_reading.proofs.SpecsCompleteBodies.{expr_high}
+use Rattle.c_specs.specs.Laws.{WholeAreMixes}
 use Rattle.c_reading.proofs.StmtKinds.{lead_exts, IsLead, lead_of}
 use Rattle.c_tree.specs.Levels.{expr_level}
 
@@ -92,6 +95,10 @@ own_ok f s s' e =
 pub in_own_read : {A : Type 0} (read : Reader A) (s u s' : HeldScopes) (ts k : List Lexeme) (a : A) → read (enter s) ts ≡ done (found a u k) → leave u ≡ s' → in_own read s ts ≡ done (found a s' k)
 in_own_read read s u s' ts k a is same = bind_is _ is (ap (λ (t : HeldScopes). done (found a t k)) same)
 
+where_is : (b : Bool) (t u : HeldScopes) → where_true b t ≡ Some u → (b ≡ true) × (t ≡ u)
+where_is true t u e = (refl, cc)
+where_is false t u e = absurd cc
+
 module _ (all : List Lexeme) where
   -- a statement has a level at least
   pub stmt_high : (t : Stmt) → 1 ≤ stmt_height t
@@ -103,7 +110,7 @@ module _ (all : List Lexeme) where
   before_else t no_else k h ended = not_else t (kind_at k) (not_true ended)
   before_else t (some_else keyword u) k h ended = rw h.1 refl
 
-module _ (all : List Lexeme) (numbered : IsNumbered all) (tokens : TokenLaws all) (firsts : FirstLaws all) (n : ℕ) (inner : Inner) (laws : Laws all n inner) where
+module _ (all : List Lexeme) (numbered : IsNumbered all) (tokens : TokenLaws all) (firsts : FirstLaws all) (n : ℕ) (inner : Inner) (laws : Laws all n inner) (whole_are : WholeAreMixes) where
   -- an expression or none, before a token that none begins with
   some_expr_read : (test : TokenKind → Bool) (room : ℕ) → room < n → (e : SomeExpr) (s s' : HeldScopes) (k : List Lexeme) → IsSomeExpr all e → some_expr_scopes e s ≡ Some s' → some_expr_height e ≤ room →
       test (kind_at k) ≡ true → ends_expr Whole (kind_at k) ≡ true → ((kind : TokenKind) → begins_expr s kind ≡ true → test kind ≡ false) → some_expr_with inner test room s (some_expr_text all e k) ≡ done (found e s' k)
@@ -144,13 +151,35 @@ module _ (all : List Lexeme) (numbered : IsNumbered all) (tokens : TokenLaws all
   pub case_read : (room : ℕ) → room ≤ n → (keyword : ℕ) (e : Expr) (colon : ℕ) (t : Stmt) (s s' : HeldScopes) (k : List Lexeme) → IsExpr all e × (2 ≤ expr_level e) × IsStmt all t →
       behind (expr_scopes e s) (stmt_scopes t) ≡ Some s' → max (expr_height e) (stmt_height t) + 1 ≤ room → ends_stmt t (kind_at k) ≡ true →
       case_with inner room s (stmt_text all (case_stmt keyword e colon t) k) ≡ done (found (case_stmt keyword e colon t) s' k)
-  unfolding case_with
+  unfolding case_with value_behind
   case_read room less keyword e colon t s s' k fit named low ended =
       let b = behind_ok (expr_scopes e s) (stmt_scopes t) s' named in
       let inside = part_less (max (expr_height e) (stmt_height t)) room n less low in
       fits_is 2 room (stmt_text all (case_stmt keyword e colon t) k) _ (asks_right (expr_height e) (stmt_height t) room (stmt_high all t) low) ∙
       bind_is _ refl (bind_is _ (laws.exprs.complete Conditional (room - 1) inside e s b.0 (sign_text puncts.Colon colon (stmt_text all t k)) (fit.0, fit.1) b.1 (left_low (expr_height e) (stmt_height t) room low) refl)
-      (bind_is _ refl (bind_is _ (laws.stmts.complete (room - 1) inside t b.0 s' k fit.2 b.2 (right_low (expr_height e) (stmt_height t) room low) ended) refl)))
+      (rw (and_false (is_wide b.0)) (bind_is _ refl (bind_is _ (laws.stmts.complete (room - 1) inside t b.0 s' k fit.2 b.2 (right_low (expr_height e) (stmt_height t) room low) ended) refl))))
+
+  -- a range of values
+  pub range_read : (room : ℕ) → room ≤ n → (keyword : ℕ) (e : Expr) (dots : ℕ) (e2 : Expr) (colon : ℕ) (t : Stmt) (s s' : HeldScopes) (k : List Lexeme) →
+      IsExpr all e × (2 ≤ expr_level e) × IsExpr all e2 × (2 ≤ expr_level e2) × IsStmt all t → stmt_scopes (case_range keyword e dots e2 colon t) s ≡ Some s' →
+      max (max (expr_height e) (expr_height e2)) (stmt_height t) + 1 ≤ room → ends_stmt t (kind_at k) ≡ true →
+      case_with inner room s (stmt_text all (case_range keyword e dots e2 colon t) k) ≡ done (found (case_range keyword e dots e2 colon t) s' k)
+  unfolding case_with range_behind
+  range_read room less keyword e dots e2 colon t s s' k fit named low ended =
+      let b = behind_ok (behind (behind (expr_scopes e s) (λ u. where_true (is_wide u) u)) (expr_scopes e2)) (stmt_scopes t) s' named in
+      let c = behind_ok (behind (expr_scopes e s) (λ u. where_true (is_wide u) u)) (expr_scopes e2) b.0 b.1 in
+      let d = behind_ok (expr_scopes e s) (λ u. where_true (is_wide u) u) c.0 c.1 in
+      let wide = where_is (is_wide d.0) d.0 c.0 d.2 in
+      let inside = part_less (max (max (expr_height e) (expr_height e2)) (stmt_height t)) room n less low in
+      let first : expr_height e ≤ room - 1 = omega (arith, low) in
+      let second : expr_height e2 ≤ room - 1 = omega (arith, low) in
+      let third : stmt_height t ≤ room - 1 = omega (arith, low) in
+      let named2 : expr_scopes e2 d.0 ≡ Some b.0 = ap (expr_scopes e2) wide.1 ∙ c.2 in
+      let last = sign_text puncts.Colon colon (stmt_text all t k) in
+      fits_is 2 room (stmt_text all (case_range keyword e dots e2 colon t) k) _ (asks_right (max (expr_height e) (expr_height e2)) (stmt_height t) room (stmt_high all t) low) ∙
+      bind_is _ refl (bind_is _ (laws.exprs.complete Conditional (room - 1) inside e s d.0 (sign_text puncts.Ellipsis dots (expr_text all e2 last)) (fit.0, fit.1) d.1 first refl)
+      (rw wide.0 (bind_is _ refl (bind_is _ (laws.exprs.complete Conditional (room - 1) inside e2 d.0 b.0 last (fit.2, fit.3) named2 second refl)
+      (bind_is _ refl (bind_is _ (laws.stmts.complete (room - 1) inside t b.0 s' k fit.4 b.2 third ended) refl))))))
 
   pub default_read : (room : ℕ) → room ≤ n → (keyword colon : ℕ) (t : Stmt) (s s' : HeldScopes) (k : List Lexeme) → IsStmt all t → stmt_scopes t s ≡ Some s' → stmt_height t + 1 ≤ room → ends_stmt t (kind_at k) ≡ true →
       default_with inner room s (stmt_text all (default_stmt keyword colon t) k) ≡ done (found (default_stmt keyword colon t) s' k)
@@ -235,19 +264,19 @@ module _ (all : List Lexeme) (numbered : IsNumbered all) (tokens : TokenLaws all
       for_start_with inner room s (declaration_text all d k) ≡ done (found (start_declaration d) s' k)
   unfolding for_start_with extended_start
   for_declaration_read room less (declaration [] words ds semi) s s' k fit named low =
-      let b = behind_ok (spec_words_scopes words s) (init_declrs_scopes (declared_kind words) ds) s' named in
+      let b = behind_ok (spec_words_scopes words s) (words_declrs_scopes words ds) s' named in
       let begun = firsts.words_begin words s b.0 (init_declrs_text all ds (sign_text puncts.Semicolon semi k)) fit.0 fit.1 b.1 in
       let kind = kind_at (spec_words_text all words (init_declrs_text all ds (sign_text puncts.Semicolon semi k))) in
       rw (specs_no_semicolon s kind begun, specs_no_extension s kind begun, begun)
-      (bind_is _ (declaration_read all numbered tokens firsts n inner laws [] room (within room n less) words ds semi s s' k fit.0 fit.1 fit.2 fit.3 named low) refl)
+      (bind_is _ (declaration_read all numbered tokens firsts n inner laws whole_are [] room (within room n less) words ds semi s s' k fit.0 fit.1 fit.2 fit.3 fit.4 fit.5 named low) refl)
     where
       within : (room n : ℕ) → room < n → room ≤ n
       within room n a = omega (arith, a)
   for_declaration_read room less (declaration (x ∷ exts) words ds semi) s s' k fit named low =
-      let b = behind_ok (spec_words_scopes words s) (init_declrs_scopes (declared_kind words) ds) s' named in
+      let b = behind_ok (spec_words_scopes words s) (words_declrs_scopes words ds) s' named in
       let begun = firsts.words_begin words s b.0 (init_declrs_text all ds (sign_text puncts.Semicolon semi k)) fit.0 fit.1 b.1 in
       let rest = spec_words_text all words (init_declrs_text all ds (sign_text puncts.Semicolon semi k)) in
-      let d = declaration_read all numbered tokens firsts n inner laws (x ∷ exts) room (within room n less) words ds semi s s' k fit.0 fit.1 fit.2 fit.3 named low in
+      let d = declaration_read all numbered tokens firsts n inner laws whole_are (x ∷ exts) room (within room n less) words ds semi s s' k fit.0 fit.1 fit.2 fit.3 fit.4 fit.5 named low in
       bind_is _ (tokens.exts_complete room (x ∷ exts) s s rest tt refl (two_low (specs_height words) (init_declrs_height ds) room (words_high words) low) (not_false (specs_no_extension s (kind_at rest) begun)))
       (rw begun (bind_is _ d refl))
     where
@@ -289,8 +318,23 @@ module _ (all : List Lexeme) (numbered : IsNumbered all) (tokens : TokenLaws all
       (bind_is _ (part_read (room - 1) inside t b.0 s' k fit.3 b.2 (four_fourth (for_start_height start) (some_expr_height e) (some_expr_height e2) (stmt_height t) room low) ended) refl)))))))
 
   pub goto_read : (room keyword : ℕ) (name : Identifier) (semi : ℕ) (s : HeldScopes) (k : List Lexeme) → 1 ≤ room → goto_with inner room s (stmt_text all (goto_stmt keyword name semi) k) ≡ done (found (goto_stmt keyword name semi) s k)
-  unfolding goto_with
-  goto_read room keyword name semi s k low = fits_is 1 room (stmt_text all (goto_stmt keyword name semi) k) _ low ∙ bind_is _ refl (bind_is _ refl (bind_is _ refl refl))
+  unfolding goto_with goto_name
+  goto_read room keyword name semi s k low =
+      fits_is 1 room (stmt_text all (goto_stmt keyword name semi) k) _ low ∙ bind_is _ refl (rw (and_false (is_wide s)) (bind_is _ refl (bind_is _ refl refl)))
+
+  -- to a value
+  pub goto_value_read : (room : ℕ) → room ≤ n → (keyword star : ℕ) (e : Expr) (semi : ℕ) (s s' : HeldScopes) (k : List Lexeme) → IsExpr all e → behind (where_true (is_wide s) s) (expr_scopes e) ≡ Some s' →
+      expr_height e + 1 ≤ room → goto_with inner room s (stmt_text all (goto_value keyword star e semi) k) ≡ done (found (goto_value keyword star e semi) s' k)
+  unfolding goto_with goto_value_with
+  goto_value_read room less keyword star e semi s s' k fit named low =
+      let b = behind_ok (where_true (is_wide s) s) (expr_scopes e) s' named in
+      let wide = where_is (is_wide s) s b.0 b.1 in
+      let named2 : expr_scopes e s ≡ Some s' = ap (expr_scopes e) wide.1 ∙ b.2 in
+      let two : 2 ≤ room = asks_two (expr_height e) room (expr_high e) low in
+      fits_is 1 room (stmt_text all (goto_value keyword star e semi) k) _ (omega (arith, two)) ∙ bind_is _ refl (rw wide.0
+      (fits_is 2 room (sign_text puncts.Star star (expr_text all e (sign_text puncts.Semicolon semi k))) _ two ∙ bind_is _ refl
+      (bind_is _ (laws.exprs.complete Whole (room - 1) (part_less (expr_height e) room n less low) e s s' (sign_text puncts.Semicolon semi k) (fit, omega arith) named2 (part_low (expr_height e) room low) refl)
+      (bind_is _ refl refl))))
 
   pub jump_read : (make : ℕ → ℕ → Stmt) (word : Keyword) (room keyword semi : ℕ) (s : HeldScopes) (k : List Lexeme) → 1 ≤ room →
       jump_with inner make room s (keyword_text word keyword (sign_text puncts.Semicolon semi k)) ≡ done (found (make keyword semi) s k)

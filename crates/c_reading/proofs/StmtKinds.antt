@@ -216,7 +216,7 @@ element_no_colon kind h = refl
 
 pub word_no_colon : (all : List Lexeme) → IsNumbered all → (w : SpecWord) (k : List Lexeme) → IsSpecWord all w → is_colon (kind_at (spec_word_text all w k)) ≡ false
 word_no_colon all numbered (qualifier (quals.Element token)) k h =
-    let e = element_spelled all numbered token h in
+    let e = element_spelled all numbered token h.0 in
     ap (λ (ts : List Lexeme). is_colon (kind_at (ts ++ k))) e.1 ∙ element_no_colon e.0.kind e.3
 word_no_colon all numbered (qualifier (quals.Word w)) k h = refl
 word_no_colon all numbered (qualifier (quals.Index token)) k h = refl

@@ -1,5 +1,5 @@
 -- What the readers of blocks and statements take is spelled so and well formed.
-use Rattle.std.proofs.Common.{◌≡◌, ◌≢◌, ℕ, ◌≤◌, Bool, true, false, List, [], ◌∷◌, Option, Some, None, refl, sym, ◌∙◌, ap, subst, arith}
+use Rattle.std.proofs.Common.{◌≡◌, ◌≢◌, ℕ, ◌≤◌, Bool, true, false, List, [], ◌∷◌, ◌++◌, Option, Some, None, refl, sym, ◌∙◌, ap, subst, arith}
 use Rattle.std.specs.Prelude.{◌+◌, ◌-◌, max, not}
 use Rattle.std.proofs.lemmas.List.Elements.{All-head, All-tail}
 use Rattle.c_words.specs.declared.kinds.TokenKind.{TokenKind}
@@ -7,11 +7,12 @@ use Rattle.c_words.specs.declared.kinds.TokenKind.TheVariants as kinds
 use Rattle.c_words.specs.declared.kinds.Punct.TheVariants as puncts
 use Rattle.c_words.specs.declared.kinds.Keyword.TheVariants as keywords
 use Rattle.c_tree.specs.declared.lexeme.Lexeme.{Lexeme}
+use Rattle.c_specs.specs.Laws.{MixesGoOn}
 use Rattle.c_syntax.specs.declared.parts.Attr.{Attr}
 use Rattle.c_tree.specs.Tree.{SomeExpr, no_words, more_words, typedef_name, Declaration, decl_declaration, BlockItem, block_decl, block_stmt, Stmt, block, attr_stmt}
 use Rattle.c_tree.specs.Text.{sign_text, name_text, identifier_text, attrs_text, attr_text, extensions_text, expr_text, some_expr_text, spec_words_text, block_items_text, stmt_text}
 use Rattle.c_tree.specs.Height.{attrs_height, expr_height, some_expr_height, specs_height, block_height, stmt_height}
-use Rattle.c_tree.specs.WellFormed.{AreAttrs, AreSpecWords, IsSomeExpr, AreBlockItems, IsStmt, IsNoAttrStmt, takes_else}
+use Rattle.c_tree.specs.WellFormed.{AreLabelsFirst, is_labels, AreAttrs, AreSpecWords, IsSomeExpr, AreBlockItems, IsStmt, IsNoAttrStmt, takes_else}
 use Rattle.c_tree.specs.Groups.{IsGroup}
 use Rattle.c_units.specs.HeldScopes.{HeldScopes, names_type, enter, leave}
 use Rattle.c_units.specs.Scoping.{in_own_scope, some_expr_scopes, spec_words_scopes, declaration_scopes, block_items_scopes, block_item_scopes, stmt_scopes}
@@ -19,18 +20,19 @@ use Rattle.c_reading.specs.declared.kinds.Reach.TheVariants.{Whole}
 use Rattle.c_reading.specs.declared.kinds.StmtStart.{StmtStart}
 use Rattle.c_reading.specs.declared.kinds.StmtStart.TheVariants as starts
 use Rattle.c_reading.specs.Reading.{Found, Read, Reader, kind_at, behind_first, IsNumbered, IsTail}
-use Rattle.c_reading.specs.Tokens.{is_open_paren, is_close_paren, is_open_brace, is_close_brace, is_colon, is_semicolon, is_while, is_else, is_extension, is_attribute, is_static_assert, spelled_name, extensions_at, attrs_at, attr_at}
+use Rattle.c_reading.specs.Tokens.{is_open_paren, is_close_paren, is_open_brace, is_close_brace, is_colon, is_semicolon, is_while, is_else, is_extension, is_attribute, is_static_assert, is_label_word, spelled_name, extensions_at, attrs_at, attr_at}
 use Rattle.c_reading.specs.Parts.{Inner, Begun, nothing, extensions, Block, block_items_from}
 use Rattle.c_reading.specs.Specifying.{begins_specs}
 use Rattle.c_reading.specs.Declaring.{words_of_attrs}
-use Rattle.c_reading.specs.Stating.{stmt_start, expr_stmt_with, label_with, named_item, extended_item, attr_item_by, attr_item, other_item, block_item_with, block_body, block_with, part_with, some_expr_with}
+use Rattle.c_reading.specs.Stating.{as_item as reads_item, as_stmt as reads_stmt, labels_with, stmt_start, expr_stmt_with, label_with, named_item, extended_item, attr_item_by, attr_item, other_item, block_item_with, block_body, block_with, part_with, some_expr_with}
 use Rattle.c_reading.proofs.Binding.{found, done, bind_ok, fits_ok, if_ok}
 use Rattle.c_reading.proofs.Forms.{Form, Takes, IsSound, at_end, behind_is, through, took, took_token, took_name, name_kind}
-use Rattle.c_reading.proofs.Rows.{repeated_sound}
+use Rattle.c_reading.proofs.Rows.{row_text, repeated_sound, repeated_sound_at}
 use Rattle.c_reading.proofs.Ended.{repeated_stops, exts_stop}
 use Rattle.c_reading.proofs.KindFacts.{open_brace_kind, close_brace_kind, colon_kind, semicolon_kind}
 use Rattle.c_reading.proofs.Aims.{least_with, begun_text, declaration_form, block_form, block_item_form, stmt_form, TokenLaws, Laws}
-use Rattle.c_reading.proofs.DeclLists.{attrs_room, block_items_are, block_items_fit, block_items_named, block_high}
+use Rattle.c_reading.proofs.DeclLists.{attrs_room}
+use Rattle.c_reading.proofs.LabelLists.{labels_form, plain_form, items_text, items_fit, items_first, items_named, items_high, labels_sound}
 use Rattle.c_reading.proofs.DeclSound.{declaration_sound, declaration_from_sound}
 
 abbrev pub IsStmtStart : StmtStart → TokenKind → Type 0
@@ -115,7 +117,7 @@ some_scopes s t e = cc
 pub own_is : (f : HeldScopes → Option HeldScopes) (s t : HeldScopes) → f (enter s) ≡ Some t → in_own_scope f s ≡ Some (leave t)
 own_is f s t h = behind_is (λ inner. Some (leave inner)) h refl
 
-module _ (all : List Lexeme) (numbered : IsNumbered all) (tokens : TokenLaws all) (n : ℕ) (inner : Inner) (laws : Laws all n inner) where
+module _ (all : List Lexeme) (numbered : IsNumbered all) (tokens : TokenLaws all) (n : ℕ) (inner : Inner) (laws : Laws all n inner) (goes : MixesGoOn) where
   abbrev pub some_expr_form : Form SomeExpr
   some_expr_form = record { text = some_expr_text all; Fits = IsSomeExpr all; scopes = some_expr_scopes; height = some_expr_height }
 
@@ -225,7 +227,7 @@ module _ (all : List Lexeme) (numbered : IsNumbered all) (tokens : TokenLaws all
       let b = bind_ok a.2 in
       let o = took all (kinds.Name name) s ts a.0 tail is a.1 in
       at_end (Takes all (block_item_form all) room s ts) b.2 (as_decl room s ts b.0 (from_start (declaration_form all) room s s ts (name_text name a.0.tree a.0.rest) b.0 o.spelled refl
-      (declaration_from_sound all numbered tokens n inner laws (more_words (typedef_name (record { token = a.0.tree; name = name })) no_words) room s a.0.scopes a.0.rest b.0 (tt, tt)
+      (declaration_from_sound all numbered tokens n inner laws goes (more_words (typedef_name (record { token = a.0.tree; name = name })) no_words) room s a.0.scopes a.0.rest b.0 (tt, tt)
       (behind_is (spec_words_scopes no_words) (rw typed refl) (ap Some (sym o.same))) (omega arith) o.left b.1)))) (λ typed e.
       let a = bind_ok e in
       at_end (Takes all (block_item_form all) room s ts) a.2 (as_stmt room s ts a.0 (expr_stmt_sound nothing room s ts a.0 (some_room room r.0) tail a.1))))
@@ -243,7 +245,7 @@ module _ (all : List Lexeme) (numbered : IsNumbered all) (tokens : TokenLaws all
       if_ok (begins_specs a.0.scopes (kind_at a.0.rest)) a.2 (λ begun e.
       let b = bind_ok e in
       at_end (Takes all (block_item_form all) room s ts) b.2 (as_decl room s ts b.0 (from_start (declaration_form all) room s a.0.scopes ts (extensions_text a.0.tree a.0.rest) b.0 i.spelled (some_scopes s a.0.scopes i.named)
-      (declaration_sound all numbered tokens n inner laws a.0.tree room a.0.scopes a.0.rest b.0 i.left b.1)))) (λ begun e.
+      (declaration_sound all numbered tokens n inner laws goes a.0.tree room a.0.scopes a.0.rest b.0 i.left b.1)))) (λ begun e.
       let b = bind_ok e in
       at_end (Takes all (block_item_form all) room s ts) b.2 (as_stmt room s ts b.0 (from_start (stmt_form all) room s a.0.scopes ts (extensions_text a.0.tree a.0.rest) b.0 i.spelled (some_scopes s a.0.scopes i.named)
       (expr_stmt_sound (extensions a.0.tree) room a.0.scopes a.0.rest b.0 some i.left b.1))))
@@ -277,7 +279,7 @@ module _ (all : List Lexeme) (numbered : IsNumbered all) (tokens : TokenLaws all
       if_ok (begins_specs a.0.scopes (kind_at a.0.rest)) e (λ begun e.
       let b = bind_ok e in
       at_end (Takes all (block_item_form all) room s ts) b.2 (as_decl room s ts b.0 (from_start (declaration_form all) room s s ts (spec_words_text all (words_of_attrs a.0.tree) a.0.rest) b.0 (i.spelled ∙ sym (attr_words_text all a.0.tree a.0.rest)) refl
-      (declaration_from_sound all numbered tokens n inner laws (words_of_attrs a.0.tree) room s a.0.scopes a.0.rest b.0 (attr_words_fit all a.0.tree i.fits) (attr_words_scopes a.0.tree s ∙ i.named) (attr_words_two a.0.tree) i.left b.1)))) (λ begun e. absurd cc))
+      (declaration_from_sound all numbered tokens n inner laws goes (words_of_attrs a.0.tree) room s a.0.scopes a.0.rest b.0 (attr_words_fit all a.0.tree i.fits) (attr_words_scopes a.0.tree s ∙ i.named) (attr_words_two a.0.tree) i.left b.1)))) (λ begun e. absurd cc))
     where
       some_attrs : (a : Found (List Attr)) → ts ≡ attrs_text all a.tree a.rest → attrs_at room s ts ≡ done a → a.tree ≢ []
       some_attrs a spelled e none = no_attr (is_attribute (kind_at ts)) is (ap (λ (k : List Lexeme). is_attribute (kind_at k)) (spelled ∙ ap (λ (them : List Attr). attrs_text all them a.rest) none) ∙ attrs_end room s ts a e)
@@ -292,7 +294,7 @@ module _ (all : List Lexeme) (numbered : IsNumbered all) (tokens : TokenLaws all
   other_item_sound None room s ts x tail is e =
       if_ok (begins_specs s (kind_at ts)) e (λ begun e.
       let a = bind_ok e in
-      at_end (Takes all (block_item_form all) room s ts) a.2 (as_decl room s ts a.0 (declaration_sound all numbered tokens n inner laws [] room s ts a.0 tail a.1))) (λ begun e.
+      at_end (Takes all (block_item_form all) room s ts) a.2 (as_decl room s ts a.0 (declaration_sound all numbered tokens n inner laws goes [] room s ts a.0 tail a.1))) (λ begun e.
       let a = bind_ok e in
       at_end (Takes all (block_item_form all) room s ts) a.2 (as_stmt room s ts a.0 (laws.stmts.sound room s ts a.0 tail a.1)))
 
@@ -307,10 +309,49 @@ module _ (all : List Lexeme) (numbered : IsNumbered all) (tokens : TokenLaws all
       if_ok (is_extension (kind_at ts)) e (λ is e. extended_item_sound room s ts x tail is e) (λ is e.
       if_ok (is_attribute (kind_at ts)) e (λ is e. attr_item_sound room s ts x tail is e) (λ is e. other_item_sound (spelled_name (kind_at ts)) room s ts x tail refl e)))
 
+  -- what is read there declares no labels
+
+  item_plain : {x : Found BlockItem} (read : Read Declaration) → reads_item inner read ≡ done x → is_labels x.tree ≡ false
+  item_plain {x} read e = let a = bind_ok e in at_end (λ (x : Found BlockItem). is_labels x.tree ≡ false) a.2 refl
+
+  stmt_plain : {x : Found BlockItem} (read : Read Stmt) → reads_stmt inner read ≡ done x → is_labels x.tree ≡ false
+  stmt_plain {x} read e = let a = bind_ok e in at_end (λ (x : Found BlockItem). is_labels x.tree ≡ false) a.2 refl
+
+  named_plain : (name room : ℕ) (s : HeldScopes) (ts : List Lexeme) (x : Found BlockItem) → named_item inner name room s ts ≡ done x → is_labels x.tree ≡ false
+  unfolding named_item
+  named_plain name room s ts x e =
+      if_ok (is_colon (kind_at (behind_first ts))) (fits_ok _ _ _ e).1 (λ is e. stmt_plain _ e) (λ is e.
+      if_ok (names_type s name) e (λ is e. let a = bind_ok e in item_plain _ a.2) (λ is e. stmt_plain _ e))
+
+  block_item_plain : (room : ℕ) (s : HeldScopes) (ts : List Lexeme) (x : Found BlockItem) → block_item_with inner room s ts ≡ done x → is_labels x.tree ≡ false
+  unfolding block_item_with extended_item attr_item attr_item_by other_item
+  block_item_plain room s ts x e =
+      if_ok (is_static_assert (kind_at ts)) e (λ is e. let r = fits_ok _ _ _ e in let a = bind_ok r.1 in at_end plain a.2 refl) (λ is e.
+      if_ok (is_extension (kind_at ts)) e (λ is e.
+      let a = bind_ok e in
+      if_ok (begins_specs a.0.scopes (kind_at a.0.rest)) a.2 (λ is e. item_plain _ e) (λ is e. stmt_plain _ e)) (λ is e.
+      if_ok (is_attribute (kind_at ts)) e (λ is e.
+      let a = bind_ok e in
+      if_ok (is_semicolon (kind_at a.0.rest)) a.2 (λ is e. let b = bind_ok e in at_end plain b.2 refl) (λ is e.
+      if_ok (begins_specs a.0.scopes (kind_at a.0.rest)) e (λ is e. item_plain _ e) (λ is e. absurd cc))) (λ is e. by_name (spelled_name (kind_at ts)) e)))
+    where
+      plain : Found BlockItem → Type 0
+      plain x = is_labels x.tree ≡ false
+
+      by_name : (o : Option ℕ) → other_item inner o room s ts ≡ done x → is_labels x.tree ≡ false
+      by_name (Some name) e = named_plain name room s ts x e
+      by_name None e = if_ok (begins_specs s (kind_at ts)) e (λ is e. item_plain _ e) (λ is e. stmt_plain _ e)
+
+  plain_sound : (room : ℕ) → IsSound all (plain_form all) room (block_item_with inner room)
+  plain_sound room s ts x tail e =
+      let i = block_item_sound room s ts x tail e in
+      record { spelled = i.spelled; fits = (i.fits, block_item_plain room s ts x e); named = i.named; low = i.low; left = i.left }
+
   -- a block at its brace, in a scope that is open
   pub record TookBody (room : ℕ) (s : HeldScopes) (ts : List Lexeme) (x : Found Block) : Type 0 where
     pub spelled : ts ≡ sign_text puncts.OpenBrace x.tree.opening (block_items_text all x.tree.items (sign_text puncts.CloseBrace x.tree.closing x.rest))
     pub fits : AreBlockItems all x.tree.items
+    pub first : AreLabelsFirst x.tree.items
     pub named : block_items_scopes x.tree.items s ≡ Some x.scopes
     pub low : block_height x.tree.items ≤ room
     pub left : IsTail all x.rest
@@ -321,14 +362,18 @@ module _ (all : List Lexeme) (numbered : IsNumbered all) (tokens : TokenLaws all
       let a = bind_ok e in
       let b = bind_ok a.2 in
       let c = bind_ok b.2 in
+      let d = bind_ok c.2 in
       let o = took all (kinds.Punct puncts.OpenBrace) s ts a.0 tail is a.1 in
-      let i = repeated_sound (λ kind. not (is_close_brace kind)) (block_item_with inner (room - 1)) all (block_item_form all) (room - 1) (block_item_sound (room - 1)) a.0.scopes a.0.rest b.0 o.left b.1 in
-      let q = took_token all is_close_brace (kinds.Punct puncts.CloseBrace) close_brace_kind b.0.scopes b.0.rest c.0 i.left c.1 in
-      at_end (TookBody room s ts) c.2 (record {
-        spelled = o.spelled ∙ ap (sign_text puncts.OpenBrace a.0.tree) (i.spelled ∙ block_items_are all b.0.tree b.0.rest ∙ ap (block_items_text all (block_items_from b.0.tree)) q.spelled);
-        fits = block_items_fit all b.0.tree i.fits;
-        named = through (block_items_scopes (block_items_from b.0.tree)) o.same (sym (block_items_named all b.0.tree a.0.scopes) ∙ i.named) q.same;
-        low = block_high all b.0.tree room least i.low;
+      let l = repeated_sound_at is_label_word (labels_with inner (room - 1)) all (labels_form all) (room - 1) (λ s ts x tail begun e. labels_sound all numbered inner (room - 1) s ts x tail begun e) a.0.scopes a.0.rest b.0 o.left b.1 in
+      let i = repeated_sound (λ kind. not (is_close_brace kind)) (block_item_with inner (room - 1)) all (plain_form all) (room - 1) (plain_sound (room - 1)) b.0.scopes b.0.rest c.0 l.left c.1 in
+      let q = took_token all is_close_brace (kinds.Punct puncts.CloseBrace) close_brace_kind c.0.scopes c.0.rest d.0 i.left d.1 in
+      at_end (TookBody room s ts) d.2 (record {
+        spelled = o.spelled ∙ ap (sign_text puncts.OpenBrace a.0.tree) (l.spelled ∙ ap (row_text (labels_form all) b.0.tree) i.spelled ∙ items_text all b.0.tree c.0.tree c.0.rest
+            ∙ ap (block_items_text all (block_items_from (b.0.tree ++ c.0.tree))) q.spelled);
+        fits = items_fit all b.0.tree c.0.tree l.fits i.fits;
+        first = items_first all b.0.tree c.0.tree l.fits i.fits;
+        named = through (block_items_scopes (block_items_from (b.0.tree ++ c.0.tree))) o.same (items_named all b.0.tree c.0.tree a.0.scopes b.0.scopes c.0.scopes l.named i.named) q.same;
+        low = items_high all b.0.tree c.0.tree room least l.low i.low;
         left = q.left;
       })
 
@@ -339,4 +384,10 @@ module _ (all : List Lexeme) (numbered : IsNumbered all) (tokens : TokenLaws all
       let r = fits_ok _ _ _ e in
       let a = bind_ok r.1 in
       let i = block_body_sound room (enter s) ts a.0 r.0 tail (open_brace_kind (kind_at ts) is) a.1 in
-      at_end (Takes all (block_form all) room s ts) a.2 (record { spelled = i.spelled; fits = i.fits; named = own_is (block_items_scopes a.0.tree.items) s a.0.scopes i.named; low = i.low; left = i.left })) (λ is e. absurd cc)
+      at_end (Takes all (block_form all) room s ts) a.2 (record {
+        spelled = i.spelled;
+        fits = (i.fits, i.first);
+        named = own_is (block_items_scopes a.0.tree.items) s a.0.scopes i.named;
+        low = i.low;
+        left = i.left;
+      })) (λ is e. absurd cc)

@@ -8,7 +8,7 @@ use Rattle.c_words.specs.declared.kinds.Keyword.{Keyword}
 use Rattle.c_words.specs.declared.kinds.Keyword.TheVariants as keywords
 use Rattle.c_tree.specs.declared.lexeme.Lexeme.{Lexeme}
 use Rattle.c_tree.specs.Text.{plain_text, keyword_text, word_text, extensions_text, texts_text, qual_text, quals_text, array_words_text, words_text, tokens_between}
-use Rattle.c_tree.specs.WellFormed.{is_qual, is_asm_word, IsElement, IsElementKind, IsQual, IsArrayWord}
+use Rattle.c_tree.specs.WellFormed.{is_qual, is_asm_word, IsElement, IsElementKind, IsQual, is_word_qual, IsWordQual, IsArrayWord}
 use Rattle.c_syntax.specs.declared.parts.Word.{Word}
 use Rattle.c_syntax.specs.declared.parts.Qual.{Qual}
 use Rattle.c_syntax.specs.declared.parts.Qual.TheVariants as quals
@@ -17,7 +17,7 @@ use Rattle.c_syntax.specs.declared.parts.ArrayWord.TheVariants as array_words
 use Rattle.c_units.specs.HeldScopes.{HeldScopes}
 use Rattle.c_units.specs.Scoping.{behind}
 use Rattle.c_reading.specs.Reading.{IsNumbered, Found, Reader, ends, fits, kind_at, take_one, repeated, repeated_turn, and_then, IsTail}
-use Rattle.c_reading.specs.Tokens.{made_at, made_by, is_made, is_extension, is_text, is_static, extensions_at, texts_at, word_of, qual_of, quals_at, array_word_of, array_word_by, array_words_at, asm_word_of, asm_words_at}
+use Rattle.c_reading.specs.Tokens.{made_at, made_by, is_made, is_extension, is_text, is_static, extensions_at, texts_at, word_of, qual_of, word_qual_of, quals_at, array_word_of, array_word_by, array_words_at, asm_word_of, asm_words_at}
 use Rattle.c_reading.proofs.Aims.{exts_form, texts_form, quals_form, array_words_form, asm_words_form}
 use Rattle.c_reading.proofs.KindFacts.{extension_kind, text_kind}
 use Rattle.c_reading.proofs.Binding.{found, done, ok_is, bind_ok, fits_ok, fits_is, take_falls}
@@ -259,6 +259,10 @@ module _ (all : List Lexeme) where
   abbrev pub qual_item : Form Qual
   qual_item = record { text = qual_text all; Fits = IsQual all; scopes = λ q s. Some s; height = λ q. 0 }
 
+  -- among specifiers
+  abbrev pub word_item : Form Qual
+  word_item = record { text = qual_text all; Fits = IsWordQual all; scopes = λ q s. Some s; height = λ q. 0 }
+
   abbrev pub array_item : Form ArrayWord
   array_item = record { text = array_word_text; Fits = IsArrayWord all; scopes = λ w s. Some s; height = λ w. 0 }
     where
@@ -269,7 +273,7 @@ module _ (all : List Lexeme) where
   abbrev pub asm_item : Form Word
   asm_item = record { text = word_text; Fits = λ w. is_asm_word w.keyword ≡ true; scopes = λ w s. Some s; height = λ w. 0 }
 
-  qual_row : (xs : List Qual) (k : List Lexeme) → row_text qual_item xs k ≡ quals_text all xs k
+  qual_row : (xs : List Qual) (k : List Lexeme) → row_text word_item xs k ≡ quals_text all xs k
   qual_row [] k = refl
   qual_row (x ∷ xs) k = ap (qual_text all x) (qual_row xs k)
 
@@ -282,14 +286,14 @@ module _ (all : List Lexeme) where
   asm_row [] k = refl
   asm_row (x ∷ xs) k = ap (word_text x) (asm_row xs k)
 
-  quals_same : Same (row_form qual_item) (quals_form all)
+  quals_same : Same (row_form word_item) (quals_form all)
   quals_same = record {
     text = qual_row;
-    there = fit_all qual_item (IsQual all) (λ x h. h);
-    back = all_fit qual_item (IsQual all) (λ x h. h);
-    scopes = λ xs s. flat_scopes qual_item (λ x s. refl) xs s;
+    there = fit_all word_item (IsWordQual all) (λ x h. h);
+    back = all_fit word_item (IsWordQual all) (λ x h. h);
+    scopes = λ xs s. flat_scopes word_item (λ x s. refl) xs s;
     lower = λ xs room h. omega arith;
-    higher = λ xs room h. low_row qual_item room (λ x. omega arith) xs;
+    higher = λ xs room h. low_row word_item room (λ x. omega arith) xs;
   }
 
   array_words_same : Same (row_form array_item) (array_words_form all)
@@ -323,6 +327,9 @@ module _ (all : List Lexeme) where
     qual_by_kind (kinds.Keyword keywords.Const) n ts make tail e = subst (Says n ts (kinds.Keyword keywords.Const)) (make_is e) (refl, refl)
     qual_by_kind (kinds.Keyword keywords.Volatile) n ts make tail e = subst (Says n ts (kinds.Keyword keywords.Volatile)) (make_is e) (refl, refl)
     qual_by_kind (kinds.Keyword keywords.Restrict) n ts make tail e = subst (Says n ts (kinds.Keyword keywords.Restrict)) (make_is e) (refl, refl)
+    qual_by_kind (kinds.Keyword keywords.Atomic) n ts make tail e = subst (Says n ts (kinds.Keyword keywords.Atomic)) (make_is e) (refl, refl)
+    qual_by_kind (kinds.Keyword keywords.AtomicType) n ts make tail e = subst (Says n ts (kinds.Keyword keywords.AtomicType)) (make_is e) (refl, refl)
+    qual_by_kind (kinds.Keyword keywords.Seg) n ts make tail e = subst (Says n ts (kinds.Keyword keywords.Seg)) (make_is e) (refl, refl)
     qual_by_kind (kinds.Qual lattice elem) n ts make tail e =
         let is = element_is all numbered (record { kind = kinds.Qual lattice elem; at = n }) ts tail in
         subst (Says n ts (kinds.Qual lattice elem)) (make_is e)
@@ -337,14 +344,38 @@ module _ (all : List Lexeme) where
     pub qual_sound : (room : ℕ) → IsSound all qual_item room (made_at qual_of)
     qual_sound room = made_sound all qual_of qual_item room (λ q s. refl) (λ q. omega arith) qual_spells
 
+    -- a qualifier among specifiers is one, and `_Atomic` before a parenthesis is none
+    word_qual_is : (kind : TokenKind) (make : ℕ → Qual) → word_qual_of kind ≡ Some make → qual_of kind ≡ Some make
+    word_qual_is (kinds.Keyword keywords.AtomicType) make e = absurd cc
+    word_qual_is kind make e = e
+
+    word_plain : (kind : TokenKind) (n : ℕ) (make : ℕ → Qual) → word_qual_of kind ≡ Some make → is_word_qual (make n) ≡ true
+    word_plain (kinds.Keyword keywords.Const) n make e = subst (λ (make : ℕ → Qual). is_word_qual (make n) ≡ true) (make_is e) refl
+    word_plain (kinds.Keyword keywords.Volatile) n make e = subst (λ (make : ℕ → Qual). is_word_qual (make n) ≡ true) (make_is e) refl
+    word_plain (kinds.Keyword keywords.Restrict) n make e = subst (λ (make : ℕ → Qual). is_word_qual (make n) ≡ true) (make_is e) refl
+    word_plain (kinds.Keyword keywords.Atomic) n make e = subst (λ (make : ℕ → Qual). is_word_qual (make n) ≡ true) (make_is e) refl
+    word_plain (kinds.Keyword keywords.Seg) n make e = subst (λ (make : ℕ → Qual). is_word_qual (make n) ≡ true) (make_is e) refl
+    word_plain (kinds.Qual lattice elem) n make e = subst (λ (make : ℕ → Qual). is_word_qual (make n) ≡ true) (make_is e) refl
+    word_plain kinds.Index n make e = subst (λ (make : ℕ → Qual). is_word_qual (make n) ≡ true) (make_is e) refl
+    word_plain kind n make e = absurd cc
+
+    word_spells : (t : Lexeme) (ts : List Lexeme) (make : ℕ → Qual) → IsTail all (t ∷ ts) → word_qual_of t.kind ≡ Some make →
+        (t ∷ ts ≡ qual_text all (make t.at) ts) × IsWordQual all (make t.at)
+    word_spells t ts make tail e =
+        let p = qual_spells t ts make tail (word_qual_is t.kind make e) in
+        (p.0, (p.1, word_plain t.kind t.at make e))
+
+    word_sound : (room : ℕ) → IsSound all word_item room (made_at word_qual_of)
+    word_sound room = made_sound all word_qual_of word_item room (λ q s. refl) (λ q. omega arith) word_spells
+
     pub quals_falls : Falls quals_at
     unfolding quals_at
-    quals_falls s ts x e = repeated_falls (λ kind. is_made (qual_of kind)) (made_at qual_of) (made_shrinks qual_of) s ts x e
+    quals_falls s ts x e = repeated_falls (λ kind. is_made (word_qual_of kind)) (made_at word_qual_of) (made_shrinks word_qual_of) s ts x e
 
     pub quals_sound : (room : ℕ) → IsSound all (quals_form all) room quals_at
     unfolding quals_at
-    quals_sound room = sound_as all (row_form qual_item) (quals_form all) quals_same room (repeated (λ kind. is_made (qual_of kind)) (made_at qual_of))
-        (repeated_sound (λ kind. is_made (qual_of kind)) (made_at qual_of) all qual_item room (qual_sound room))
+    quals_sound room = sound_as all (row_form word_item) (quals_form all) quals_same room (repeated (λ kind. is_made (word_qual_of kind)) (made_at word_qual_of))
+        (repeated_sound (λ kind. is_made (word_qual_of kind)) (made_at word_qual_of) all word_item room (word_sound room))
 
     -- the first token of a qualifier, as what it is
     pub record QualToken (q : Qual) (k : List Lexeme) : Type 0 where
@@ -359,6 +390,10 @@ module _ (all : List Lexeme) where
     word_token keywords.Const token k h = record { kind = kinds.Keyword keywords.Const; token = token; make = λ n. quals.Word (word_of keywords.Const n); is = refl; text = refl; made = refl }
     word_token keywords.Volatile token k h = record { kind = kinds.Keyword keywords.Volatile; token = token; make = λ n. quals.Word (word_of keywords.Volatile n); is = refl; text = refl; made = refl }
     word_token keywords.Restrict token k h = record { kind = kinds.Keyword keywords.Restrict; token = token; make = λ n. quals.Word (word_of keywords.Restrict n); is = refl; text = refl; made = refl }
+    word_token keywords.Atomic token k h = record { kind = kinds.Keyword keywords.Atomic; token = token; make = λ n. quals.Word (word_of keywords.Atomic n); is = refl; text = refl; made = refl }
+    word_token keywords.AtomicType token k h =
+        record { kind = kinds.Keyword keywords.AtomicType; token = token; make = λ n. quals.Word (word_of keywords.AtomicType n); is = refl; text = refl; made = refl }
+    word_token keywords.Seg token k h = record { kind = kinds.Keyword keywords.Seg; token = token; make = λ n. quals.Word (word_of keywords.Seg n); is = refl; text = refl; made = refl }
     word_token keyword token k h = absurd cc
 
     element_token : (kind : TokenKind) (n token : ℕ) (k : List Lexeme) → IsElementKind kind → tokens_between all token token ≡ record { kind = kind; at = n } ∷ [] → n ≡ token → QualToken (quals.Element token) k
@@ -386,10 +421,29 @@ module _ (all : List Lexeme) where
         let t = qual_token q k h in
         ap (λ (ts : List Lexeme). is_made (qual_of (kind_at ts))) t.text ∙ some_made qual_of t.kind t.make t.is
 
-    pub quals_complete : (room : ℕ) → IsComplete (quals_form all) (λ xs kind. not (is_made (qual_of kind))) room quals_at
+    -- the token of a qualifier among specifiers is such a one
+    word_from : (kind : TokenKind) (make : ℕ → Qual) (token : ℕ) (q : Qual) → qual_of kind ≡ Some make → make token ≡ q → is_word_qual q ≡ true → word_qual_of kind ≡ Some make
+    word_from (kinds.Keyword keywords.AtomicType) make token q e made word =
+        let no : is_word_qual (make token) ≡ false = ap (λ (f : ℕ → Qual). is_word_qual (f token)) (sym (make_is e)) in
+        let yes : is_word_qual (make token) ≡ true = ap is_word_qual made ∙ word in
+        absurd cc
+    word_from kind make token q e made word = e
+
+    word_read : (q : Qual) (s : HeldScopes) (k : List Lexeme) → IsWordQual all q → made_at word_qual_of s (qual_text all q k) ≡ done (found q s k)
+    word_read q s k h =
+        let t = qual_token q k h.0 in
+        ap (λ (ts : List Lexeme). made_at word_qual_of s ts) t.text ∙ made_is word_qual_of t.make t.kind t.token s k (word_from t.kind t.make t.token q t.is t.made h.1) ∙
+        ap (λ (q : Qual). done (found q s k)) t.made
+
+    word_starts : (q : Qual) (k : List Lexeme) → IsWordQual all q → is_made (word_qual_of (kind_at (qual_text all q k))) ≡ true
+    word_starts q k h =
+        let t = qual_token q k h.0 in
+        ap (λ (ts : List Lexeme). is_made (word_qual_of (kind_at ts))) t.text ∙ some_made word_qual_of t.kind t.make (word_from t.kind t.make t.token q t.is t.made h.1)
+
+    pub quals_complete : (room : ℕ) → IsComplete (quals_form all) (λ xs kind. not (is_made (word_qual_of kind))) room quals_at
     unfolding quals_at
-    quals_complete room = row_complete (λ kind. is_made (qual_of kind)) (made_at qual_of) qual_item (quals_form all) quals_same room (made_shrinks qual_of)
-        (λ x s k f l. qual_read x s k f) (λ x s. refl) qual_starts
+    quals_complete room = row_complete (λ kind. is_made (word_qual_of kind)) (made_at word_qual_of) word_item (quals_form all) quals_same room (made_shrinks word_qual_of)
+        (λ x s k f l. word_read x s k f) (λ x s. refl) word_starts
 
     -- words in brackets
 

@@ -1,5 +1,5 @@
 -- Attributes, words behind a star, assertions; what is shown of all rows of tokens.
-use Rattle.std.proofs.Common.{◌≡◌, ℕ, ◌≤◌, Bool, true, false, if◌then◌else◌, List, [], ◌∷◌, length, Some, refl, sym, ◌∙◌, ap, arith}
+use Rattle.std.proofs.Common.{◌≡◌, ◌<◌, ℕ, ◌≤◌, Bool, true, false, if◌then◌else◌, List, [], ◌∷◌, length, Some, refl, sym, ◌∙◌, ap, arith}
 use Rattle.std.specs.Prelude.{not}
 use Rattle.std.proofs.lemmas.List.Elements.{All-nil, All-cons}
 use Rattle.c_words.specs.declared.kinds.TokenKind.{TokenKind}
@@ -16,12 +16,12 @@ use Rattle.c_tree.specs.Groups.{IsGroup}
 use Rattle.c_tree.specs.WellFormed.{IsPointerWord}
 use Rattle.c_units.specs.HeldScopes.{HeldScopes}
 use Rattle.c_reading.specs.Reading.{IsNumbered, IsTail, Found, Reader, fits, kind_at, repeated}
-use Rattle.c_reading.specs.Tokens.{is_attribute, is_static_assert, is_semicolon, is_made, qual_of, begins_pointer_word, attr_at, attrs_at, pointer_word_at, pointer_words_at, assert_at}
-use Rattle.c_reading.proofs.Binding.{found, done, ok_is, bind_ok, bind_is, fits_ok, fits_is, token_falls, if_ok}
-use Rattle.c_reading.proofs.Forms.{Form, Falls, Shrinks, Takes, IsSound, IsComplete, always, at_end, took_token}
+use Rattle.c_reading.specs.Tokens.{is_attribute, is_static_assert, is_semicolon, is_made, qual_of, begins_pointer_word, align_at, attr_at, attrs_at, pointer_word_at, pointer_words_at, assert_at}
+use Rattle.c_reading.proofs.Binding.{found, done, ok_is, bind_ok, bind_is, fits_ok, fits_is, take_falls, token_falls, if_ok}
+use Rattle.c_reading.proofs.Forms.{Form, Falls, Shrinks, Takes, IsSound, IsComplete, always, at_end, took, took_token}
 use Rattle.c_reading.proofs.Rows.{row_form, row_text, row_height, repeated_falls, repeated_sound}
 use Rattle.c_reading.proofs.KindFacts.{attribute_kind, static_assert_kind, semicolon_kind}
-use Rattle.c_reading.proofs.Aims.{attrs_form, pointer_words_form, assert_form, TokenLaws}
+use Rattle.c_reading.proofs.Aims.{align_form, attrs_form, pointer_words_form, assert_form, TokenLaws}
 use Rattle.c_reading.proofs.TokenRows
 use Rattle.c_reading.proofs.TokenRows.{Same, sound_as, row_complete, made_shrinks, qual_sound, qual_read, qual_starts, flat_scopes, low_row, fit_all, all_fit}
 use Rattle.c_reading.proofs.Groups.{group_shrinks, took_group, group_sound, group_read, group_complete}
@@ -122,6 +122,21 @@ module _ (all : List Lexeme) where
   unfolding attr_at
   attr_read a s k h = bind_is _ refl (bind_is _ (group_read all a.group s k h) refl)
 
+  pub align_shrinks : Shrinks align_at
+  unfolding align_at
+  align_shrinks s ts x e =
+      let a = bind_ok e in
+      let b = bind_ok a.2 in
+      let end = ap (λ (x : Found Attr). length x.rest) (ok_is b.2) in
+      let one = take_falls s ts a.0 a.1 in
+      let less : length b.0.rest < length a.0.rest = group_shrinks a.0.scopes a.0.rest b.0 b.1 in
+      omega (arith, end, one, less)
+
+  pub align_complete : (room : ℕ) → IsComplete (align_form all) always room align_at
+  unfolding align_at
+  align_complete room a s s' k h n l ended =
+      bind_is _ refl (bind_is _ (group_read all a.group s k h) (ap (λ (t : HeldScopes). done (found a t k)) (some_is s s' n)))
+
   abbrev attr_reader : ℕ → Reader Attr
   attr_reader room s ts = fits 2 room ts (attr_at s ts)
 
@@ -205,6 +220,23 @@ module _ (all : List Lexeme) where
           left = g.left;
         })
 
+    -- `_Alignas`, whose keyword is known
+    pub align_sound : (room : ℕ) (s : HeldScopes) (ts : List Lexeme) (x : Found Attr) → IsTail all ts → kind_at ts ≡ kinds.Keyword keywords.Alignas → align_at s ts ≡ done x →
+        Takes all (align_form all) room s ts x
+    unfolding align_at
+    align_sound room s ts x tail is e =
+        let a = bind_ok e in
+        let b = bind_ok a.2 in
+        let w = took all (kinds.Keyword keywords.Alignas) s ts a.0 tail is a.1 in
+        let g = took_group all numbered a.0.scopes a.0.rest b.0 w.left b.1 in
+        at_end (Takes all (align_form all) room s ts) b.2 (record {
+          spelled = w.spelled ∙ ap (λ (us : List Lexeme). keyword_text keywords.Alignas a.0.tree us) g.spelled;
+          fits = g.fits;
+          named = ap Some (sym (g.same ∙ w.same));
+          low = omega arith;
+          left = g.left;
+        })
+
     attr_sound_item : (room : ℕ) → IsSound all attr_item room (attr_reader room)
     attr_sound_item room s ts x tail e =
         let r = fits_ok 2 room ts e in
@@ -280,6 +312,9 @@ token_laws all numbered = record {
   attr_shrinks = attr_shrinks;
   attr_sound = attr_sound all numbered;
   attr_complete = attr_complete all numbered;
+  align_shrinks = align_shrinks all;
+  align_sound = align_sound all numbered;
+  align_complete = align_complete all;
   attrs_falls = attrs_falls all;
   attrs_sound = attrs_sound all numbered;
   attrs_complete = attrs_complete all;

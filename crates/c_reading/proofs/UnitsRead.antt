@@ -1,5 +1,5 @@
 -- The laws of the reader of units, over those of all families.
-use Rattle.std.proofs.Common.{◌≡◌, ℕ, zero, suc, ◌<◌, ◌≤◌, true, false, List, [], ◌∷◌, Some, refl, sym, ◌∙◌, ap, subst, arith}
+use Rattle.std.proofs.Common.{◌≡◌, ℕ, Bool, zero, suc, ◌<◌, ◌≤◌, true, false, List, [], ◌∷◌, Some, refl, sym, ◌∙◌, ap, subst, arith}
 use Rattle.std.specs.Prelude.{◌+◌, ◌-◌, max, not, All}
 use Rattle.std.proofs.lemmas.List.Elements.{All-nil, All-cons, All-head, All-tail}
 use Rattle.c_words.specs.declared.kinds.TokenKind.{TokenKind}
@@ -9,7 +9,7 @@ use Rattle.c_tree.specs.Tree.{SpecWords, declaration, decl_declaration, decl_ass
 use Rattle.c_tree.specs.Text.{spec_words_text, extensions_text}
 use Rattle.c_tree.specs.Specifiers.{IsMix}
 use Rattle.c_tree.specs.WellFormed.{AreSpecWords}
-use Rattle.c_tree.specs.Unit.{Item, function_item, decl_item, asm_item, semi_item, item_text, items_text, item_height, unit_height, IsItem}
+use Rattle.c_tree.specs.Unit.{Item, function_item, old_function_item, decl_item, asm_item, semi_item, item_text, items_text, item_height, unit_height, IsItem}
 use Rattle.c_specs.specs.Laws.{WholeAreMixes, MixesGoOn}
 use Rattle.c_units.specs.HeldScopes.{HeldScopes, file_scope}
 use Rattle.c_units.specs.Scoping.{spec_words_scopes}
@@ -105,8 +105,8 @@ module _ (whole_are : WholeAreMixes) (goes : MixesGoOn) (all : List Lexeme) (num
     words = specs_laws all numbered tokens firsts n inner laws whole_are goes;
     declrs = declr_laws all numbered tokens goes n inner laws;
     lists = init_list_laws all numbered tokens firsts n inner laws;
-    blocks = block_laws all numbered tokens firsts n inner laws goes;
-    stmts = stmt_laws all numbered tokens firsts n inner laws goes;
+    blocks = block_laws all numbered tokens firsts n inner laws whole_are goes;
+    stmts = stmt_laws all numbered tokens firsts n inner laws whole_are goes;
   }
 
   knot_laws : (n : ℕ) → Laws all (suc n) (knot n)
@@ -146,28 +146,28 @@ module _ (whole_are : WholeAreMixes) (goes : MixesGoOn) (all : List Lexeme) (num
   rows_low_back h r e l = omega (arith, e, l)
 
   -- what is read is well formed
-  pub unit_sound : (x : Found (List Item)) → unit_at all ≡ done x → IsWellFormed all x.tree
+  pub unit_sound : (wide : Bool) (x : Found (List Item)) → unit_at wide all ≡ done x → IsWellFormed wide all x.tree
   unfolding unit_at items_with
-  unit_sound x e =
+  unit_sound wide x e =
       let a = bind_ok e in
       let b = bind_ok a.2 in
-      let i = repeated_sound (λ kind. not (is_end kind)) (item_with (knot most) (most - 1)) all (item_form all) 499 (item_sound all numbered tokens (suc most) (knot most) (knot_laws most) 499) file_scope all a.0 (0, refl) a.1 in
+      let i = repeated_sound (λ kind. not (is_end kind)) (item_with (knot most) (most - 1)) all (item_form all) 499 (item_sound all numbered tokens (suc most) (knot most) (knot_laws most) goes 499) (file_scope wide) all a.0 (0, refl) a.1 in
       let q = took_token all is_end kinds.End end_kind a.0.scopes a.0.rest b.0 i.left b.1 in
       at_last a.0 b.0 b.0.rest refl i q b.2
     where
-      at_last : (a : Found (List Item)) (b : Found ℕ) (rest : List Lexeme) → b.rest ≡ rest → Takes all (row_form (item_form all)) 499 file_scope all a → Took all kinds.End a.scopes a.rest b → alone a.tree rest ≡ done x → IsWellFormed all x.tree
+      at_last : (a : Found (List Item)) (b : Found ℕ) (rest : List Lexeme) → b.rest ≡ rest → Takes all (row_form (item_form all)) 499 (file_scope wide) all a → Took all kinds.End a.scopes a.rest b → alone wide a.tree rest ≡ done x → IsWellFormed wide all x.tree
       at_last a b [] is i q e =
-          subst (λ (x : Found (List Item)). IsWellFormed all x.tree) (ok_is e) (record {
+          subst (λ (x : Found (List Item)). IsWellFormed wide all x.tree) (ok_is e) (record {
             tokens = record { last = b.tree; spelled = i.spelled ∙ rows_are a.tree a.rest ∙ ap (items_text all a.tree) (q.spelled ∙ ap (λ (k : List Lexeme). record { kind = kinds.End; at = b.tree } ∷ k) is) };
             rules = record { parts = rows_fit a.tree i.fits; low = rows_low (unit_height a.tree) (row_height (item_form all) a.tree) (rows_high a.tree) i.low };
             scopes = a.scopes;
-            named = sym (rows_named a.tree file_scope) ∙ i.named;
+            named = sym (rows_named a.tree (file_scope wide)) ∙ i.named;
           })
       at_last a b (t ∷ ts) is i q e = absurd cc
 
   -- what is well formed is read
   body_read : BodyRead all (suc most) (knot most)
-  body_read = block_body_read all numbered tokens goes firsts (suc most) (knot most) (knot_laws most)
+  body_read = block_body_read all numbered tokens goes firsts (suc most) (knot most) (knot_laws most) whole_are
 
   words_no_end : (exts : List ℕ) (ws : SpecWords) (s t : HeldScopes) (k : List Lexeme) → IsMix ws → AreSpecWords all ws → spec_words_scopes ws s ≡ Some t → not (is_end (kind_at (extensions_text exts (spec_words_text all ws k)))) ≡ true
   words_no_end [] ws s t k mix fit named = not_false (specs_no_end s (kind_at (spec_words_text all ws k)) (firsts.words_begin ws s t k mix fit named))
@@ -183,24 +183,27 @@ module _ (whole_are : WholeAreMixes) (goes : MixesGoOn) (all : List Lexeme) (num
   item_starts (function_item exts ws d attrs opening items closing) s t k fit named =
       let b = behind_ok (spec_words_scopes ws s) _ t named in
       words_no_end exts ws s b.0 _ fit.0 fit.1 b.1
+  item_starts (old_function_item exts ws d attrs ds opening items closing) s t k fit named =
+      let b = behind_ok (spec_words_scopes ws s) _ t named in
+      words_no_end exts ws s b.0 _ fit.0 fit.1 b.1
 
-  pub unit_complete : (items : List Item) → IsWellFormed all items → unit_at all ≡ done (found items file_scope [])
+  pub unit_complete : (wide : Bool) (items : List Item) → IsWellFormed wide all items → unit_at wide all ≡ done (found items (file_scope wide) [])
   unfolding unit_at items_with
-  unit_complete items w =
+  unit_complete wide items w =
       let end : List Lexeme = record { kind = kinds.End; at = w.tokens.last } ∷ [] in
       let spelled : all ≡ row_text (item_form all) items end = w.tokens.spelled ∙ sym (rows_are items end) in
-      bind_is _ (ap (repeated (λ kind. not (is_end kind)) (item_with (knot most) (most - 1)) file_scope) spelled ∙
+      bind_is _ (ap (repeated (λ kind. not (is_end kind)) (item_with (knot most) (most - 1)) (file_scope wide)) spelled ∙
       repeated_complete (λ kind. not (is_end kind)) (item_with (knot most) (most - 1)) (item_form all) always 499 (item_shrinks all tokens (suc most) (knot most) (knot_laws most) 499)
-      (item_complete all numbered tokens firsts (suc most) (knot most) (knot_laws most) body_read 499 (omega arith)) item_starts (λ x kind e. refl) items file_scope w.scopes end (rows_fit_back items w.rules.parts)
-      (rows_named items file_scope ∙ w.named) (rows_low_back (unit_height items) (row_height (item_form all) items) (rows_high items) w.rules.low) refl (λ x. refl))
+      (item_complete all numbered tokens firsts (suc most) (knot most) (knot_laws most) whole_are goes body_read 499 (omega arith)) item_starts (λ x kind e. refl) items (file_scope wide) w.scopes end (rows_fit_back items w.rules.parts)
+      (rows_named items (file_scope wide) ∙ w.named) (rows_low_back (unit_height items) (row_height (item_form all) items) (rows_high items) w.rules.low) refl (λ x. refl))
       (bind_is _ refl refl)
 
 module _ (whole_are : WholeAreMixes) (goes : MixesGoOn) where
   pub unit_is_well_formed : UnitIsWellFormed
-  unit_is_well_formed all numbered x e = unit_sound whole_are goes all numbered x e
+  unit_is_well_formed wide all numbered x e = unit_sound whole_are goes all numbered wide x e
 
   pub well_formed_is_read : WellFormedIsRead
-  well_formed_is_read all numbered items w = unit_complete whole_are goes all numbered items w
+  well_formed_is_read wide all numbered items w = unit_complete whole_are goes all numbered wide items w
 
   pub one_unit_at_most : OneUnitAtMost
-  one_unit_at_most all numbered items others w o = ap (λ (x : Found (List Item)). x.tree) (ok_is (sym (unit_complete whole_are goes all numbered items w) ∙ unit_complete whole_are goes all numbered others o))
+  one_unit_at_most wide all numbered items others w o = ap (λ (x : Found (List Item)). x.tree) (ok_is (sym (unit_complete whole_are goes all numbered wide items w) ∙ unit_complete whole_are goes all numbered wide others o))

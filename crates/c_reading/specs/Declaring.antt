@@ -3,24 +3,25 @@ use Rattle.std.specs.Prelude.{ℕ, suc, ◌-◌, Bool, true, false, ◌&&◌, �
 use Rattle.c_words.specs.declared.kinds.TokenKind.{TokenKind}
 use Rattle.c_tree.specs.declared.lexeme.Lexeme.{Lexeme}
 use Rattle.c_syntax.specs.declared.parts.Attr.{Attr}
+use Rattle.c_syntax.specs.declared.parts.Identifier.{Identifier}
 use Rattle.c_syntax.specs.declared.parts.Qual.{Qual}
 use Rattle.c_syntax.specs.declared.parts.PointerWord.{PointerWord}
 use Rattle.c_syntax.specs.declared.parts.ArrayWord.{ArrayWord}
-use Rattle.c_tree.specs.Tree.{SpecWords, no_words, more_words, qualifier, attribute, Declr, pointer, declr_name, declr_paren, array, params, abs_pointer, abs_paren, abs_array, abs_params, SomeDeclr, no_declr, some_declr, SomeSize, no_size, some_size, size_value, size_star, Params, Dots}
+use Rattle.c_tree.specs.Tree.{SpecWords, no_words, more_words, qualifier, attribute, Declr, pointer, declr_name, declr_paren, array, params, abs_pointer, abs_paren, abs_array, abs_params, SomeDeclr, no_declr, some_declr, SomeSize, no_size, some_size, size_value, size_star, Params, Dots, identifiers, base_name}
 use Rattle.c_tree.specs.Height.{some_declr_height}
 use Rattle.c_tree.specs.WellFormed.{is_named, ends_starred_some}
 use Rattle.typedef_scope.specs.declared.kind.Kind.{Kind}
-use Rattle.typedef_scope.specs.declared.kind.Kind.TheVariants.{Value}
-use Rattle.c_units.specs.HeldScopes.{HeldScopes, HeldScope, enter, leave, innermost, release}
+use Rattle.typedef_scope.specs.declared.kind.Kind.TheVariants.{Typedef, Value}
+use Rattle.c_units.specs.HeldScopes.{HeldScopes, HeldScope, is_wide, new_scope, names_type, enter, leave, innermost, release}
 use Rattle.c_units.specs.Scoping.{at_name}
 use Rattle.c_units.specs.Units.{bare_name}
 use Rattle.c_reading.specs.declared.kinds.Fault.TheVariants.{Unexpected, Redeclared}
 use Rattle.c_reading.specs.declared.kinds.Reach.TheVariants.{Assigned}
-use Rattle.c_reading.specs.declared.kinds.Role.TheVariants.{Declaring, Naming}
+use Rattle.c_reading.specs.declared.kinds.Role.TheVariants.{Typed, Naming}
 use Rattle.c_reading.specs.declared.kinds.Mode.{Mode}
 use Rattle.c_reading.specs.declared.kinds.Mode.TheVariants.{Named, Abstract, Either}
 use Rattle.c_reading.specs.Reading.{Reader, Read, Turn, ◌>>=◌, ends, refuses, fits, kind_at, take_one, token_at, run, listed, Next, one_more, list_end, CommaList}
-use Rattle.c_reading.specs.Tokens.{is_open_paren, is_close_paren, is_open_bracket, is_close_bracket, is_star, is_dots, spelled_name, quals_at, array_words_at, pointer_words_at, attrs_at}
+use Rattle.c_reading.specs.Tokens.{is_open_paren, is_close_paren, is_open_bracket, is_close_bracket, is_star, is_dots, is_base_word, spelled_name, name_at, quals_at, array_words_at, pointer_words_at, attrs_at}
 use Rattle.c_reading.specs.Specifying.{begins_specs, present, specs_here}
 use Rattle.c_reading.specs.Parts.{Inner, nothing, star, TypeName, Declared, ParamItem, params_from}
 
@@ -88,6 +89,38 @@ abbrev pub takes_attrs : SomeDeclr → Bool
 takes_attrs no_declr = false
 takes_attrs (some_declr d) = not (ends_starred_some (some_declr d))
 
+-- a list of identifiers begins: in wider C with a name that is no typedef name
+abbrev pub is_identifier : HeldScopes → Option ℕ → Bool
+is_identifier s None = false
+is_identifier s (Some name) = not (names_type s name)
+
+abbrev pub begins_identifiers : HeldScopes → TokenKind → Bool
+begins_identifiers s kind = is_wide s && is_identifier s (spelled_name kind)
+
+-- an identifier of a list, which is no typedef name
+abbrev pub identifier_at : Reader Identifier
+identifier_at s ts = if is_identifier s (spelled_name (kind_at ts)) then name_at s ts else refuses Unexpected ts
+
+abbrev pub next_name : Reader Identifier → ℕ → Reader (Next Identifier ⊥)
+next_name name token s ts = name s ts >>= λ x. ends (one_more x.tree) x.scopes x.rest
+
+-- names with a comma between two
+unfoldable pub names_list : Reader Identifier → Reader (List Identifier)
+names_list name s ts = listed name (next_name name) s ts >>= λ xs. ends xs.tree.items xs.scopes xs.rest
+
+-- what is done with a declarator, and else
+abbrev pub identifiers_of : SomeDeclr → (Declr → Read Declared) → Read Declared → Read Declared
+identifiers_of no_declr here other = other
+identifiers_of (some_declr d) here other = here d
+
+-- in wider C a base word names a typedef, and declares nothing
+abbrev pub names_base : HeldScopes → Mode → Option Kind → TokenKind → Bool
+names_base s Named (Some Typedef) kind = is_wide s && is_base_word kind
+names_base s mode wanted kind = false
+
+abbrev pub base_named : ℕ → Reader Declared
+base_named room s ts = fits 1 room ts (take_one s ts >>= λ token. ends (record { declr = some_declr (base_name token.tree); closed = None }) token.scopes token.rest)
+
 -- where no name may be absent, one is missing
 abbrev pub absent : Mode → Reader Declared
 absent Named s ts = refuses Unexpected ts
@@ -124,8 +157,8 @@ module _ (inner : Inner) where
     ends (record { declr = some_declr (with_array d.declr opening.tree words.tree size.tree closing.tree); closed = d.closed }) closing.scopes closing.rest
 
   abbrev pub param_words : SpecWords → ℕ → Reader SpecWords
-  param_words no_words room s ts = specs_here inner room s ts
-  param_words (more_words w ws) room s ts = inner.specs Declaring (more_words w ws) (room - 1) s ts
+  param_words no_words room s ts = specs_here inner Typed room s ts
+  param_words (more_words w ws) room s ts = inner.specs Typed (more_words w ws) (room - 1) s ts
 
   abbrev pub param_attrs : SomeDeclr → ℕ → Reader (List Attr)
   param_attrs d room s ts = if takes_attrs d then attrs_at room s ts else ends [] s ts
@@ -162,14 +195,25 @@ module _ (inner : Inner) where
       closed = closed_by d.declr (innermost closing.scopes) d.closed;
     }) (leave closing.scopes) closing.rest
 
-  abbrev pub params_behind : Declared → ℕ → Reader Declared
-  params_behind d room s ts = take_one s ts >>= λ opening. prototype_with d opening.tree [] room opening.scopes opening.rest
+  -- Params = direct ( Name (, Name)* ), behind the parenthesis; the scope of the declarations behind it has no names yet
+  unfoldable pub identifiers_with : Declr → ℕ → Reader Declared
+  identifiers_with d opening s ts = do
+    names ← names_list identifier_at s ts
+    closing ← token_at is_close_paren names.scopes names.rest
+    ends (record { declr = some_declr (identifiers d opening names.tree closing.tree); closed = Some (new_scope (is_wide s)) }) closing.scopes closing.rest
+
+  abbrev pub list_behind : Bool → Declared → ℕ → ℕ → Reader Declared
+  list_behind true d opening room s ts = identifiers_of d.declr (λ inside. identifiers_with inside opening s ts) (prototype_with d opening [] room s ts)
+  list_behind false d opening room s ts = prototype_with d opening [] room s ts
+
+  abbrev pub params_behind : Bool → Declared → ℕ → Reader Declared
+  params_behind flag d room s ts = take_one s ts >>= λ opening. list_behind (flag && is_bare d.declr && begins_identifiers opening.scopes (kind_at opening.rest)) d opening.tree room opening.scopes opening.rest
 
   -- brackets and parameters behind a declarator
   abbrev pub suffix_turn : Bool → ℕ → Turn Declared
   suffix_turn flag room d s ts =
       if is_open_bracket (kind_at ts) then Some (fits (suc (some_declr_height d.declr)) (room_at flag room d (kind_at ts)) ts (array_with d (room_at flag room d (kind_at ts)) s ts))
-      else if is_open_paren (kind_at ts) then Some (fits (suc (some_declr_height d.declr)) (room_at flag room d (kind_at ts)) ts (params_behind d (room_at flag room d (kind_at ts)) s ts))
+      else if is_open_paren (kind_at ts) then Some (fits (suc (some_declr_height d.declr)) (room_at flag room d (kind_at ts)) ts (params_behind flag d (room_at flag room d (kind_at ts)) s ts))
       else None
 
   -- Attr* declr ), behind the parenthesis and the attributes
@@ -213,6 +257,7 @@ module _ (inner : Inner) where
   unfoldable pub core_with : Mode → Option Kind → Bool → ℕ → Reader Declared
   core_with mode wanted flag room s ts =
       if is_open_paren (kind_at ts) then some_paren mode wanted flag room s ts
+      else if names_base s mode wanted (kind_at ts) then base_named room s ts
       else name_or_none mode wanted (spelled_name (kind_at ts)) room s ts
 
   unfoldable pub direct_with : Mode → Option Kind → Bool → ℕ → Reader Declared

@@ -7,12 +7,12 @@ use Rattle.c_words.specs.declared.kinds.Punct.TheVariants as puncts
 use Rattle.c_words.specs.declared.kinds.Keyword.{Keyword}
 use Rattle.c_words.specs.declared.kinds.Keyword.TheVariants as keywords
 use Rattle.c_syntax.specs.declared.parts.Word.{Word}
-use Rattle.c_tree.specs.Tree.{Expr, cast, prefix, sizeof_value, sizeof_type, extension, index, call, dot, arrow, post, compound, name_use, number_use, char_use, text_use, paren, statement_expr, va_arg, va_start, va_copy, offset, Operator, comma, assign, cond, binary, SomeExpr, no_expr, some_expr, Exprs, no_exprs, Desig, member_desig, index_desig}
+use Rattle.c_tree.specs.Tree.{Expr, cast, prefix, sizeof_value, sizeof_type, extension, index, call, dot, arrow, post, compound, name_use, number_use, char_use, text_use, paren, statement_expr, va_arg, va_start, va_copy, offset, Operator, comma, assign, cond, binary, SomeExpr, no_expr, some_expr, Exprs, no_exprs, Desig, member_desig, index_desig, complex_part, label_use, compat, choose, generic, Assoc, typed_assoc, default_assoc}
 use Rattle.c_tree.specs.Height.{expr_height}
 use Rattle.c_tree.specs.Levels.{binary_level, is_assignment, expr_level}
 use Rattle.c_ops.specs.Joining.{Stack, bottom, above, Settled, settle_of, finished}
 use Rattle.c_tree.specs.declared.lexeme.Lexeme.{Lexeme}
-use Rattle.c_units.specs.HeldScopes.{HeldScopes, names_type}
+use Rattle.c_units.specs.HeldScopes.{HeldScopes, is_wide, names_type}
 use Rattle.c_reading.specs.declared.kinds.Fault.TheVariants.{Unexpected, BadTarget}
 use Rattle.c_reading.specs.declared.kinds.Reach.{Reach}
 use Rattle.c_reading.specs.declared.kinds.Reach.TheVariants.{Whole, Assigned, Conditional, Castable, Unary}
@@ -23,9 +23,10 @@ use Rattle.c_reading.specs.declared.kinds.PostfixForm.TheVariants as forms
 use Rattle.c_reading.specs.declared.kinds.Infix.{Infix}
 use Rattle.c_reading.specs.declared.kinds.Infix.TheVariants as infixes
 use Rattle.c_reading.specs.Reading.{Reader, Read, Turn, ◌>>=◌, ends, refuses, fits, kind_at, behind_first, take_one, token_at, run, repeated, listed, Next, one_more}
-use Rattle.c_reading.specs.Tokens.{is_open_paren, is_close_paren, is_open_bracket, is_close_bracket, is_open_brace, is_colon, is_comma, word_of, name_at, texts_at}
-use Rattle.c_reading.specs.Specifying.{begins_specs}
-use Rattle.c_reading.specs.Parts.{Inner, Begun, nothing, extensions, star, TypeName, type_name_height, exprs_from, desigs_from}
+use Rattle.c_reading.specs.Tokens.{is_default, is_open_paren, is_close_paren, is_open_bracket, is_close_bracket, is_open_brace, is_colon, is_comma, word_of, name_at, texts_at}
+use Rattle.c_reading.specs.declared.kinds.Role.TheVariants.{Naming}
+use Rattle.c_reading.specs.Specifying.{begins_role, begins_specs}
+use Rattle.c_reading.specs.Parts.{Inner, Begun, nothing, extensions, star, TypeName, type_name_height, assocs_from, exprs_from, desigs_from}
 
 -- what a token is between two operands
 abbrev pub binary_or_nothing : Punct → ℕ → Infix
@@ -52,6 +53,7 @@ punct_opening puncts.Plus = openings.Prefix puncts.Plus Castable
 punct_opening puncts.Minus = openings.Prefix puncts.Minus Castable
 punct_opening puncts.Tilde = openings.Prefix puncts.Tilde Castable
 punct_opening puncts.Bang = openings.Prefix puncts.Bang Castable
+punct_opening puncts.AmpersandAmpersand = openings.Label
 punct_opening p = openings.Nothing
 
 abbrev pub keyword_opening : Keyword → Opening
@@ -62,6 +64,10 @@ keyword_opening keywords.VaArg = openings.VaArg
 keyword_opening keywords.VaStart = openings.VaStart
 keyword_opening keywords.VaCopy = openings.VaCopy
 keyword_opening keywords.Offsetof = openings.Offset
+keyword_opening keywords.Part = openings.Part
+keyword_opening keywords.Compatible = openings.Compat
+keyword_opening keywords.Choose = openings.Choose
+keyword_opening keywords.Generic = openings.Generic
 keyword_opening keyword = openings.Nothing
 
 abbrev pub opening_of : TokenKind → Opening
@@ -76,6 +82,7 @@ opening_of kind = openings.Nothing
 abbrev pub is_opening : HeldScopes → Opening → Bool
 is_opening s openings.Nothing = false
 is_opening s (openings.Name name) = not (names_type s name)
+is_opening s openings.Label = is_wide s
 is_opening s opening = true
 
 -- an expression begins
@@ -313,6 +320,81 @@ module _ (inner : Inner) where
   unfoldable pub sizeof_with : Keyword → ℕ → Reader Expr
   sizeof_with keyword room s ts = fits 2 room ts (take_one s ts >>= λ token. sizeof_behind (word_of keyword token.tree) room token.scopes token.rest)
 
+  -- Part = part cast
+  unfoldable pub part_with : ℕ → Reader Expr
+  part_with room s ts = fits 2 room ts (do
+    token ← take_one s ts
+    e ← inner.expr Castable nothing (room - 1) token.scopes token.rest
+    ends (complex_part token.tree e.tree) e.scopes e.rest)
+
+  -- LabelUse = && Name, in wider C
+  unfoldable pub label_use_with : ℕ → Reader Expr
+  label_use_with room s ts =
+      if is_wide s
+      then fits 1 room ts (take_one s ts >>= λ token. name_at token.scopes token.rest >>= λ name. ends (label_use token.tree name.tree) name.scopes name.rest)
+      else refuses Unexpected ts
+
+  -- Compat = __builtin_types_compatible_p ( TypeName , TypeName )
+  unfoldable pub compat_with : ℕ → Reader Expr
+  compat_with room s ts = fits 3 room ts (do
+    keyword ← take_one s ts
+    opening ← token_at is_open_paren keyword.scopes keyword.rest
+    t ← inner.type_name (room - 1) opening.scopes opening.rest
+    separator ← token_at is_comma t.scopes t.rest
+    t2 ← inner.type_name (room - 1) separator.scopes separator.rest
+    closing ← token_at is_close_paren t2.scopes t2.rest
+    postfixed room (compat keyword.tree opening.tree t.tree.words t.tree.declr separator.tree t2.tree.words t2.tree.declr closing.tree) closing.scopes closing.rest)
+
+  -- Choose = __builtin_choose_expr ( assign , assign , assign )
+  unfoldable pub choose_with : ℕ → Reader Expr
+  choose_with room s ts = fits 2 room ts (do
+    keyword ← take_one s ts
+    opening ← token_at is_open_paren keyword.scopes keyword.rest
+    e ← inner.expr Assigned nothing (room - 1) opening.scopes opening.rest
+    separator ← token_at is_comma e.scopes e.rest
+    e2 ← inner.expr Assigned nothing (room - 1) separator.scopes separator.rest
+    separator2 ← token_at is_comma e2.scopes e2.rest
+    e3 ← inner.expr Assigned nothing (room - 1) separator2.scopes separator2.rest
+    closing ← token_at is_close_paren e3.scopes e3.rest
+    postfixed room (choose keyword.tree opening.tree e.tree separator.tree e2.tree separator2.tree e3.tree closing.tree) closing.scopes closing.rest)
+
+  -- Assoc = default : assign
+  unfoldable pub default_assoc_with : ℕ → Reader Assoc
+  default_assoc_with room s ts = fits 2 room ts (do
+    keyword ← take_one s ts
+    colon ← token_at is_colon keyword.scopes keyword.rest
+    e ← inner.expr Assigned nothing (room - 1) colon.scopes colon.rest
+    ends (default_assoc keyword.tree colon.tree e.tree) e.scopes e.rest)
+
+  -- Assoc = TypeName : assign
+  unfoldable pub typed_assoc_with : ℕ → Reader Assoc
+  typed_assoc_with room s ts = fits 3 room ts (do
+    t ← inner.type_name (room - 1) s ts
+    colon ← token_at is_colon t.scopes t.rest
+    e ← inner.expr Assigned nothing (room - 1) colon.scopes colon.rest
+    ends (typed_assoc t.tree.words t.tree.declr colon.tree e.tree) e.scopes e.rest)
+
+  unfoldable pub assoc_with : ℕ → Reader Assoc
+  assoc_with room s ts =
+      if is_default (kind_at ts) then default_assoc_with room s ts
+      else if begins_role Naming s (kind_at ts) then typed_assoc_with room s ts
+      else refuses Unexpected ts
+
+  -- an association, behind a comma
+  unfoldable pub next_assoc : ℕ → ℕ → Reader (Next Assoc ⊥)
+  next_assoc room token s ts = assoc_with room s ts >>= λ x. ends (one_more x.tree) x.scopes x.rest
+
+  -- Generic = _Generic ( assign , Assoc (, Assoc)* )
+  unfoldable pub generic_with : ℕ → Reader Expr
+  generic_with room s ts = fits 3 room ts (do
+    keyword ← take_one s ts
+    opening ← token_at is_open_paren keyword.scopes keyword.rest
+    e ← inner.expr Assigned nothing (room - 1) opening.scopes opening.rest
+    separator ← token_at is_comma e.scopes e.rest
+    xs ← listed (assoc_with (room - 1)) (next_assoc (room - 1)) separator.scopes separator.rest
+    closing ← token_at is_close_paren xs.scopes xs.rest
+    postfixed room (generic keyword.tree opening.tree e.tree (assocs_from xs.tree.items) closing.tree) closing.scopes closing.rest)
+
   -- VaArg = __builtin_va_arg ( assign , TypeName )
   unfoldable pub va_arg_with : ℕ → Reader Expr
   va_arg_with room s ts = fits 3 room ts (do
@@ -372,6 +454,11 @@ module _ (inner : Inner) where
   unary_by openings.VaStart room s ts = va_two_with va_start room s ts
   unary_by openings.VaCopy room s ts = va_two_with va_copy room s ts
   unary_by openings.Offset room s ts = offset_with room s ts
+  unary_by openings.Part room s ts = part_with room s ts
+  unary_by openings.Label room s ts = label_use_with room s ts
+  unary_by openings.Compat room s ts = compat_with room s ts
+  unary_by openings.Choose room s ts = choose_with room s ts
+  unary_by openings.Generic room s ts = generic_with room s ts
   unary_by openings.Nothing room s ts = refuses Unexpected ts
 
   -- unary = postfix | Prefix | Sizeof | SizeofType | Ext

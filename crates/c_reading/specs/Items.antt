@@ -5,9 +5,11 @@ use Rattle.c_syntax.specs.declared.parts.Attr.{Attr}
 use Rattle.c_tree.specs.Tree.{SpecWords, Declr, Declaration, decl_declaration, decl_assert}
 use Rattle.c_tree.specs.Specifiers.{storage_words}
 use Rattle.c_tree.specs.Height.{declr_height}
-use Rattle.c_tree.specs.Unit.{Item, function_item, decl_item, asm_item, semi_item}
+use Rattle.c_tree.specs.WellFormed.{has_auto, lists_identifiers}
+use Rattle.c_reading.specs.declared.kinds.Role.TheVariants.{Declaring}
+use Rattle.c_tree.specs.Unit.{Item, function_item, old_function_item, decl_item, asm_item, semi_item}
 use Rattle.typedef_scope.specs.declared.kind.Kind.TheVariants.{Value}
-use Rattle.c_units.specs.HeldScopes.{HeldScope, leave, reopen, release}
+use Rattle.c_units.specs.HeldScopes.{HeldScope, enter, innermost, leave, reopen, release}
 use Rattle.c_units.specs.Scoping.{has_typedef_word}
 use Rattle.c_reading.specs.declared.kinds.Fault.TheVariants.{Unexpected}
 use Rattle.c_reading.specs.declared.kinds.Mode.TheVariants.{Named}
@@ -57,19 +59,37 @@ module _ (inner : Inner) where
   behind_declr exts words d (Some closed) room s ts = behind_function exts words d closed room s ts
   behind_declr exts words d None room s ts = as_decl (declrs_with inner exts words Value room (declr_behind inner [] d (room - 1)) s ts)
 
+  -- Declaration = ext* Specs [InitDeclr (, Attr* InitDeclr)*] ;  behind a list of identifiers
+  unfoldable pub old_declaration : ℕ → Reader Declaration
+  old_declaration room s ts = do
+    exts ← extensions_at room s ts
+    words ← specs_here inner Declaring room exts.scopes exts.rest
+    declaration_behind inner exts.tree words.tree room words.scopes words.rest
+
+  -- Attr* Declaration* Block, behind a declarator with a list of identifiers, whose name is held: the declarations stand in the scope of
+  -- the parameters, and the name is declared behind the last
+  unfoldable pub old_function_with : List ℕ → SpecWords → Declr → ℕ → Reader Item
+  old_function_with exts words d room s ts = do
+    attrs ← attrs_at room s ts
+    ds ← repeated (λ kind. not (is_open_brace kind)) (old_declaration (room - 1)) (enter attrs.scopes) attrs.rest
+    body ← block_body inner (room - 1) (reopen (innermost ds.scopes) (release Value (leave ds.scopes))) ds.rest
+    ends (old_function_item exts words d attrs.tree ds.tree body.tree.opening body.tree.items body.tree.closing) (leave body.scopes) body.rest
+
   -- a Function or a Declaration, behind the words without `typedef`
   unfoldable pub first_declr : List ℕ → SpecWords → ℕ → Reader Item
   first_declr exts words room s ts = do
     d ← inner.declr Named (Some Value) true (room - 2) s ts
     known ← present d.tree.declr d.scopes d.rest
-    behind_declr exts words known.tree d.tree.closed room (release Value known.scopes) known.rest
+    if lists_identifiers known.tree then old_function_with exts words known.tree room known.scopes known.rest
+        else behind_declr exts words known.tree d.tree.closed room (release Value known.scopes) known.rest
 
   -- Function = ext* Specs declr Attr* Block, or Declaration
   unfoldable pub declared_item : ℕ → Reader Item
   declared_item room s ts = do
     exts ← extensions_at room s ts
-    words ← specs_here inner room exts.scopes exts.rest
-    if is_semicolon (kind_at words.rest) then as_decl (bare_declaration inner exts.tree words.tree room words.scopes words.rest)
+    words ← specs_here inner Declaring room exts.scopes exts.rest
+    if has_auto words.tree then as_decl (declaration_behind inner exts.tree words.tree room words.scopes words.rest)
+        else if is_semicolon (kind_at words.rest) then as_decl (bare_declaration inner exts.tree words.tree room words.scopes words.rest)
         else if has_typedef_word (storage_words words.tree) then as_decl (declaration_behind inner exts.tree words.tree room words.scopes words.rest)
         else first_declr exts.tree words.tree room words.scopes words.rest
 

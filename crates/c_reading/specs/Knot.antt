@@ -2,7 +2,7 @@
 --
 -- Readers of number n read trees with a room of at most n, for each part inside has at most one less. At room 0 no reader
 -- goes inside, so those of number 0 stand over readers that none calls.
-use Rattle.std.specs.Prelude.{ℕ, zero, suc, ◌-◌, List, [], ◌∷◌}
+use Rattle.std.specs.Prelude.{ℕ, zero, suc, ◌-◌, List, [], ◌∷◌, Bool}
 use Rattle.c_tree.specs.declared.lexeme.Lexeme.{Lexeme}
 use Rattle.c_tree.specs.Unit.{Item}
 use Rattle.c_units.specs.HeldScopes.{file_scope}
@@ -38,13 +38,13 @@ abbrev pub most : ℕ
 most = 500
 
 -- nothing stands behind the end
-abbrev pub alone : List Item → List Lexeme → Read (List Item)
-alone items [] = ends items file_scope []
-alone items (t ∷ ts) = refuses Unexpected (t ∷ ts)
+abbrev pub alone : Bool → List Item → List Lexeme → Read (List Item)
+alone wide items [] = ends items (file_scope wide) []
+alone wide items (t ∷ ts) = refuses Unexpected (t ∷ ts)
 
 -- the items of a unit whose tokens these are
-unfoldable pub unit_at : List Lexeme → Read (List Item)
-unit_at all = do
-  items ← items_with (knot most) (most - 1) file_scope all
+unfoldable pub unit_at : Bool → List Lexeme → Read (List Item)
+unit_at wide all = do
+  items ← items_with (knot most) (most - 1) (file_scope wide) all
   last ← token_at is_end items.scopes items.rest
-  alone items.tree last.rest
+  alone wide items.tree last.rest

@@ -4,7 +4,7 @@ use Rattle.std.specs.Prelude.{ℕ, ◌+◌, max, Bool, List, [], ◌∷◌, Opti
 use Rattle.c_syntax.specs.declared.parts.Identifier.{Identifier}
 use Rattle.c_syntax.specs.declared.parts.Attr.{Attr}
 use Rattle.c_syntax.specs.declared.parts.AsmLabel.{AsmLabel}
-use Rattle.c_tree.specs.Tree.{Expr, Exprs, no_exprs, more_exprs, SpecWords, StructItems, no_struct_items, more_struct_items, StructItem, MemDeclrs, no_mem_declrs, more_mem_declrs, MemDeclr, SomeValue, Enumerators, no_enumerators, more_enumerators, Declr, SomeDeclr, Params, no_params, more_params, Init, InitList, InitItems, no_init_items, more_init_items, Desigs, no_desigs, more_desigs, Desig, SomeInit, InitDeclrs, no_init_declrs, more_init_declrs, BlockItems, no_block_items, more_block_items, BlockItem, Stmt}
+use Rattle.c_tree.specs.Tree.{Expr, Exprs, no_exprs, more_exprs, SpecWords, StructItems, no_struct_items, more_struct_items, StructItem, MemDeclrs, no_mem_declrs, more_mem_declrs, MemDeclr, SomeValue, Enumerators, no_enumerators, more_enumerators, Declr, SomeDeclr, Params, no_params, more_params, Init, InitList, InitItems, no_init_items, more_init_items, Desigs, no_desigs, more_desigs, Desig, SomeInit, InitDeclrs, no_init_declrs, more_init_declrs, BlockItems, no_block_items, more_block_items, BlockItem, Stmt, Assocs, no_assocs, more_assocs, Assoc}
 use Rattle.c_tree.specs.Height.{specs_height, some_declr_height}
 use Rattle.typedef_scope.specs.declared.kind.Kind.{Kind}
 use Rattle.c_units.specs.HeldScopes.{HeldScope}
@@ -91,6 +91,10 @@ pub record DeclrItem : Type 0 where
 abbrev pub exprs_from : List Expr → Exprs
 exprs_from [] = no_exprs
 exprs_from (e ∷ es) = more_exprs e (exprs_from es)
+
+abbrev pub assocs_from : List Assoc → Assocs
+assocs_from [] = no_assocs
+assocs_from (x ∷ xs) = more_assocs x (assocs_from xs)
 
 abbrev pub struct_items_from : List StructItem → StructItems
 struct_items_from [] = no_struct_items

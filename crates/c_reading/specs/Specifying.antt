@@ -1,5 +1,5 @@
 -- Readers of specifiers (C99, 6.7), over readers of the expressions, specifiers and declarators inside.
-use Rattle.std.specs.Prelude.{ℕ, ◌-◌, max, Bool, true, false, ◌&&◌, not, List, [], Option, None, Some, if◌then◌else◌}
+use Rattle.std.specs.Prelude.{ℕ, ◌-◌, max, Bool, true, false, ◌&&◌, ◌||◌, not, List, [], Option, None, Some, if◌then◌else◌}
 use Rattle.c_words.specs.declared.kinds.TokenKind.{TokenKind}
 use Rattle.c_words.specs.declared.kinds.TokenKind.TheVariants as kinds
 use Rattle.c_words.specs.declared.kinds.Keyword.{Keyword}
@@ -11,20 +11,23 @@ use Rattle.c_specs.specs.declared.mix.Class.{Class}
 use Rattle.c_specs.specs.declared.mix.Class.TheVariants as classes
 use Rattle.c_specs.specs.Mix.{goes_on, is_whole_mix, is_typed}
 use Rattle.c_specs.specs.Reading.{pushed}
-use Rattle.c_tree.specs.Tree.{SpecWords, no_words, SpecWord, storage, thread, inline_word, noreturn, qualifier, basic, struct_type, enum_type, typedef_name, attribute, SomeBody, no_body, some_body, StructItem, member, member_semi, member_assert, MemDeclr, named, unnamed, SomeValue, no_value, some_value, enum_of, SomeEnumBody, no_enum_body, some_enum_body, Declr, SomeDeclr, no_declr, some_declr}
+use Rattle.c_tree.specs.Tree.{SpecWords, no_words, SpecWord, storage, thread, inline_word, noreturn, qualifier, basic, struct_type, enum_type, typedef_name, attribute, SomeBody, no_body, some_body, StructItem, member, member_semi, member_assert, MemDeclr, named, unnamed, SomeValue, no_value, some_value, enum_of, SomeEnumBody, no_enum_body, some_enum_body, Declr, SomeDeclr, no_declr, some_declr, typeof_value, typeof_type, align, auto_word}
 use Rattle.c_tree.specs.Height.{specs_height}
+use Rattle.c_tree.specs.Specifiers.{storage_words}
+use Rattle.c_tree.specs.WellFormed.{has_auto}
+use Rattle.c_units.specs.Scoping.{has_typedef_word}
 use Rattle.typedef_scope.specs.declared.kind.Kind.{Kind}
 use Rattle.typedef_scope.specs.declared.kind.Kind.TheVariants.{Constant}
-use Rattle.c_units.specs.HeldScopes.{HeldScopes, names_type, innermost, may_declare, is_name, declare}
+use Rattle.c_units.specs.HeldScopes.{HeldScopes, is_wide, names_type, innermost, may_declare, is_name, declare}
 use Rattle.c_reading.specs.declared.kinds.Fault.TheVariants.{Unexpected, Redeclared, BadMix}
-use Rattle.c_reading.specs.declared.kinds.Reach.TheVariants.{Conditional}
+use Rattle.c_reading.specs.declared.kinds.Reach.TheVariants.{Whole, Conditional}
 use Rattle.c_reading.specs.declared.kinds.Role.{Role}
-use Rattle.c_reading.specs.declared.kinds.Role.TheVariants.{Declaring, Naming}
+use Rattle.c_reading.specs.declared.kinds.Role.TheVariants.{Declaring, Typed, Naming}
 use Rattle.c_reading.specs.declared.kinds.Mode.TheVariants.{Named}
 use Rattle.c_reading.specs.declared.kinds.SpecStart.{SpecStart}
 use Rattle.c_reading.specs.declared.kinds.SpecStart.TheVariants as starts
 use Rattle.c_reading.specs.Reading.{Reader, Read, Turn, ◌>>=◌, ends, refuses, fits, kind_at, take_one, token_at, run, repeated, listed, Next, one_more, list_end}
-use Rattle.c_reading.specs.Tokens.{is_semicolon, is_colon, is_equal, is_open_brace, is_close_brace, is_static_assert, word_of, name_at, tag_at, extensions_at, attr_at, attrs_at, assert_at}
+use Rattle.c_reading.specs.Tokens.{is_semicolon, is_colon, is_equal, is_open_brace, is_close_brace, is_open_paren, is_close_paren, is_static_assert, word_of, name_at, tag_at, extensions_at, attr_at, attrs_at, align_at, assert_at}
 use Rattle.c_reading.specs.Parts.{Inner, nothing, MemberItem, EnumItem, struct_items_from, mem_declrs_from, enumerators_from}
 
 abbrev pub keyword_start : Keyword → SpecStart
@@ -39,6 +42,13 @@ keyword_start keywords.Noreturn = starts.Noreturn
 keyword_start keywords.Const = starts.Word keywords.Const
 keyword_start keywords.Volatile = starts.Word keywords.Volatile
 keyword_start keywords.Restrict = starts.Word keywords.Restrict
+keyword_start keywords.Atomic = starts.Word keywords.Atomic
+keyword_start keywords.Seg = starts.Word keywords.Seg
+keyword_start keywords.AtomicType = starts.Atomic
+keyword_start keywords.Typeof = starts.Typeof
+keyword_start keywords.Alignas = starts.Align
+keyword_start keywords.AutoType = starts.Auto
+keyword_start keywords.AnyComplex = starts.Basic keywords.AnyComplex
 keyword_start keywords.Void = starts.Basic keywords.Void
 keyword_start keywords.Char = starts.Basic keywords.Char
 keyword_start keywords.Short = starts.Basic keywords.Short
@@ -89,6 +99,9 @@ class_of_start (starts.Basic keyword) = classes.Spells keyword
 class_of_start (starts.Struct keyword) = classes.Named
 class_of_start starts.Enum = classes.Named
 class_of_start (starts.Name name) = classes.Named
+class_of_start starts.Typeof = classes.Named
+class_of_start starts.Atomic = classes.Named
+class_of_start starts.Auto = classes.Named
 class_of_start start = classes.Free
 
 -- a word that the name of a type cannot have
@@ -97,11 +110,22 @@ is_declaring (starts.Storage keyword) = true
 is_declaring starts.Thread = true
 is_declaring starts.Inline = true
 is_declaring starts.Noreturn = true
+is_declaring starts.Align = true
+is_declaring starts.Auto = true
 is_declaring start = false
+
+abbrev pub is_auto_start : SpecStart → Bool
+is_auto_start starts.Auto = true
+is_auto_start start = false
 
 abbrev pub may_stand : Role → SpecStart → Bool
 may_stand Declaring start = true
+may_stand Typed start = not (is_auto_start start)
 may_stand Naming start = not (is_declaring start)
+
+-- whether specifiers of a role begin so: with a word that may stand there
+abbrev pub begins_role : Role → HeldScopes → TokenKind → Bool
+begins_role role s kind = begins_specs s kind && may_stand role (start_at s false kind)
 
 -- the least height of specifiers with such a word
 abbrev pub least_of : SpecStart → ℕ
@@ -109,7 +133,20 @@ least_of (starts.Struct keyword) = 2
 least_of starts.Enum = 2
 least_of (starts.Name name) = 2
 least_of starts.Attribute = 2
+least_of starts.Auto = 2
+least_of starts.Align = 2
+least_of starts.Typeof = 3
+least_of starts.Atomic = 4
 least_of start = 1
+
+-- in wider C a base word is the name of a typedef, behind a whole type that it does not continue
+abbrev pub is_base_start : SpecStart → Bool
+is_base_start (starts.Basic keywords.BaseWord) = true
+is_base_start start = false
+
+abbrev pub ends_before : HeldScopes → SpecWords → SpecStart → Bool
+ends_before s words start =
+    (is_wide s || has_auto words) && is_base_start start && has_typedef_word (storage_words words) && is_whole_mix words && not (goes_on words (class_of_start start))
 
 -- without a body a tag must stand
 abbrev pub without_body : {A : Type 0} → Option Identifier → A → Reader A
@@ -128,9 +165,9 @@ declared a (Some s) ts = ends a s ts
 
 module _ (inner : Inner) where
   -- the specifiers that a node begins with
-  unfoldable pub specs_here : ℕ → Reader SpecWords
-  specs_here room s ts =
-      if begins_specs s (kind_at ts) then fits 2 room ts (inner.specs Declaring no_words (room - 1) s ts)
+  unfoldable pub specs_here : Role → ℕ → Reader SpecWords
+  specs_here role room s ts =
+      if begins_role role s (kind_at ts) then fits 2 room ts (inner.specs role no_words (room - 1) s ts)
       else refuses Unexpected ts
 
   -- [sign cond]
@@ -189,7 +226,7 @@ module _ (inner : Inner) where
   unfoldable pub member_with : ℕ → Reader StructItem
   member_with room s ts = do
     exts ← extensions_at room s ts
-    words ← specs_here room exts.scopes exts.rest
+    words ← specs_here Typed room exts.scopes exts.rest
     ds ← mem_declrs_with (room - 1) words.scopes words.rest
     semi ← token_at is_semicolon ds.scopes ds.rest
     ends (member exts.tree words.tree (mem_declrs_from ds.tree) semi.tree) semi.scopes semi.rest
@@ -269,6 +306,36 @@ module _ (inner : Inner) where
     body ← enum_body_with tag.tree room tag.scopes tag.rest
     ends (enum_type (enum_of token.tree attrs.tree tag.tree body.tree)) body.scopes body.rest
 
+  -- TypeofType = typeof ( TypeName ) and AtomicType = _Atomic ( TypeName ), behind the parenthesis
+  unfoldable pub typed_word_with : Keyword → ℕ → ℕ → ℕ → Reader SpecWord
+  typed_word_with keyword token opening room s ts = do
+    t ← inner.type_name (room - 1) s ts
+    closing ← token_at is_close_paren t.scopes t.rest
+    ends (typeof_type (word_of keyword token) opening t.tree.words t.tree.declr closing.tree) closing.scopes closing.rest
+
+  -- Typeof = typeof ( expr ), behind the parenthesis
+  unfoldable pub typeof_value_with : ℕ → ℕ → ℕ → Reader SpecWord
+  typeof_value_with token opening room s ts = do
+    e ← inner.expr Whole nothing (room - 1) s ts
+    closing ← token_at is_close_paren e.scopes e.rest
+    ends (typeof_value token opening e.tree closing.tree) closing.scopes closing.rest
+
+  -- Typeof or TypeofType, by the token behind the parenthesis
+  unfoldable pub typeof_with : ℕ → Reader SpecWord
+  typeof_with room s ts = do
+    keyword ← take_one s ts
+    opening ← token_at is_open_paren keyword.scopes keyword.rest
+    if begins_specs opening.scopes (kind_at opening.rest)
+        then typed_word_with keywords.Typeof keyword.tree opening.tree room opening.scopes opening.rest
+        else typeof_value_with keyword.tree opening.tree room opening.scopes opening.rest
+
+  -- AtomicType = _Atomic ( TypeName )
+  unfoldable pub atomic_with : ℕ → Reader SpecWord
+  atomic_with room s ts = do
+    keyword ← take_one s ts
+    opening ← token_at is_open_paren keyword.scopes keyword.rest
+    typed_word_with keywords.AtomicType keyword.tree opening.tree room opening.scopes opening.rest
+
   -- a word of one token
   abbrev pub word_at : (ℕ → SpecWord) → Reader SpecWord
   word_at make s ts = take_one s ts >>= λ token. ends (make token.tree) token.scopes token.rest
@@ -288,6 +355,10 @@ module _ (inner : Inner) where
   word_by starts.Enum room s ts = enum_with (room - 1) s ts
   word_by starts.Attribute room s ts = attr_at s ts >>= λ attr. ends (attribute attr.tree) attr.scopes attr.rest
   word_by (starts.Name name) room s ts = word_at (λ token. typedef_name (record { token = token; name = name })) s ts
+  word_by starts.Typeof room s ts = typeof_with (room - 1) s ts
+  word_by starts.Atomic room s ts = atomic_with (room - 1) s ts
+  word_by starts.Align room s ts = align_at s ts >>= λ attr. ends (align attr.tree) attr.scopes attr.rest
+  word_by starts.Auto room s ts = word_at auto_word s ts
   word_by starts.Nothing room s ts = refuses Unexpected ts
 
   -- a word behind others: one that may not stand there, then one that continues no mix, then the height
@@ -299,7 +370,8 @@ module _ (inner : Inner) where
 
   abbrev pub word_turn_by : Role → ℕ → SpecStart → Turn SpecWords
   word_turn_by role room start words s ts =
-      if is_start start then Some (word_with role words start room s ts >>= λ word. ends (pushed words word.tree) word.scopes word.rest)
+      if ends_before s words start then None
+      else if is_start start then Some (word_with role words start room s ts >>= λ word. ends (pushed words word.tree) word.scopes word.rest)
       else None
 
   abbrev pub word_turn : Role → ℕ → Turn SpecWords

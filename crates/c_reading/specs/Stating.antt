@@ -1,5 +1,5 @@
 -- Readers of declarations, blocks and statements (C99, 6.7 and 6.8), over readers of the parts inside.
-use Rattle.std.specs.Prelude.{ℕ, ◌+◌, ◌-◌, Bool, not, List, [], Option, None, Some, if◌then◌else◌}
+use Rattle.std.specs.Prelude.{ℕ, ◌+◌, ◌-◌, Bool, true, false, not, ◌&&◌, List, [], ◌∷◌, ◌++◌, Option, None, Some, if◌then◌else◌}
 use Rattle.c_words.specs.declared.kinds.TokenKind.{TokenKind}
 use Rattle.c_words.specs.declared.kinds.TokenKind.TheVariants as kinds
 use Rattle.c_words.specs.declared.kinds.Punct.TheVariants as puncts
@@ -7,20 +7,23 @@ use Rattle.c_words.specs.declared.kinds.Keyword.{Keyword}
 use Rattle.c_words.specs.declared.kinds.Keyword.TheVariants as keywords
 use Rattle.c_syntax.specs.declared.parts.Attr.{Attr}
 use Rattle.c_syntax.specs.declared.parts.AsmLabel.{AsmLabel}
-use Rattle.c_tree.specs.Tree.{Expr, SomeExpr, no_expr, some_expr, SpecWords, no_words, more_words, typedef_name, Declr, SomeInit, no_init, some_init, Declaration, declaration, decl_declaration, decl_assert, BlockItem, block_decl, block_stmt, Stmt, block, expr_stmt, attr_stmt, label, case_stmt, default_stmt, if_stmt, switch_stmt, while_stmt, do_stmt, for_stmt, goto_stmt, continue_stmt, break_stmt, return_stmt, asm_stmt, SomeElse, no_else, some_else, ForStart, start_declaration, start_value}
+use Rattle.c_tree.specs.Tree.{Expr, init_value, SomeExpr, no_expr, some_expr, SpecWords, no_words, more_words, typedef_name, Declr, base_name, SomeInit, no_init, some_init, Declaration, declaration, decl_declaration, decl_assert, BlockItem, block_decl, block_stmt, Stmt, block, expr_stmt, attr_stmt, label, case_stmt, default_stmt, if_stmt, switch_stmt, while_stmt, do_stmt, for_stmt, goto_stmt, continue_stmt, break_stmt, return_stmt, asm_stmt, SomeElse, no_else, some_else, ForStart, start_declaration, start_value, case_range, goto_value, block_labels}
 use Rattle.c_tree.specs.Height.{specs_height}
+use Rattle.c_tree.specs.Specifiers.{storage_words}
+use Rattle.c_tree.specs.WellFormed.{has_auto}
+use Rattle.typedef_scope.specs.declared.kind.Kind.TheVariants.{Value}
 use Rattle.typedef_scope.specs.declared.kind.Kind.{Kind}
-use Rattle.c_units.specs.HeldScopes.{names_type, enter, leave, release}
-use Rattle.c_units.specs.Scoping.{declared_kind}
+use Rattle.c_units.specs.HeldScopes.{is_wide, names_type, enter, leave, release}
+use Rattle.c_units.specs.Scoping.{at_name, declared_kind, has_typedef_word}
 use Rattle.c_reading.specs.declared.kinds.Fault.TheVariants.{Unexpected}
-use Rattle.c_reading.specs.declared.kinds.Reach.TheVariants.{Whole, Conditional}
+use Rattle.c_reading.specs.declared.kinds.Reach.TheVariants.{Whole, Assigned, Conditional}
 use Rattle.c_reading.specs.declared.kinds.Role.TheVariants.{Declaring}
 use Rattle.c_reading.specs.declared.kinds.StmtStart.{StmtStart}
 use Rattle.c_reading.specs.declared.kinds.StmtStart.TheVariants as starts
 use Rattle.c_reading.specs.Reading.{Reader, Read, ◌>>=◌, ends, refuses, fits, kind_at, behind_first, take_one, token_at, repeated, listed, Next, one_more}
-use Rattle.c_reading.specs.Tokens.{is_open_paren, is_close_paren, is_open_brace, is_close_brace, is_colon, is_semicolon, is_equal, is_asm, is_while, is_else, is_extension, is_attribute, is_static_assert, spelled_name, name_at, extensions_at, attrs_at, asm_words_at, group_at, assert_at}
-use Rattle.c_reading.specs.Specifying.{begins_specs, specs_here, named_declr}
-use Rattle.c_reading.specs.Declaring.{words_of_attrs}
+use Rattle.c_reading.specs.Tokens.{is_open_paren, is_close_paren, is_open_brace, is_close_brace, is_colon, is_semicolon, is_equal, is_asm, is_while, is_else, is_extension, is_attribute, is_static_assert, is_label_word, is_dots, is_star, is_base_word, spelled_name, name_at, extensions_at, attrs_at, asm_words_at, group_at, assert_at}
+use Rattle.c_reading.specs.Specifying.{begins_specs, present, specs_here, named_declr}
+use Rattle.c_reading.specs.Declaring.{name_held, names_list, words_of_attrs}
 use Rattle.c_reading.specs.Expressing.{begins_expr}
 use Rattle.c_reading.specs.Initialising.{init_with}
 use Rattle.c_reading.specs.Parts.{Inner, Begun, nothing, extensions, Block, DeclrItem, init_declrs_from, block_items_from}
@@ -102,16 +105,39 @@ module _ (inner : Inner) where
   bare_declaration exts words room s ts = fits (1 + specs_height words) room ts (take_one s ts >>= λ semi.
       ends (declaration exts words (init_declrs_from []) semi.tree) semi.scopes semi.rest)
 
-  -- [InitDeclr (, Attr* InitDeclr)*] ;  behind the words
+  -- AutoDeclr ;  behind words with `__auto_type`, in a declaration of this room: the name is declared behind its initialiser
+  unfoldable pub auto_declr : List ℕ → SpecWords → Declr → ℕ → Reader Declaration
+  auto_declr exts words d room s ts = do
+    attrs ← attrs_at room s ts
+    equal ← token_at is_equal attrs.scopes attrs.rest
+    e ← inner.expr Assigned nothing (room - 1) equal.scopes equal.rest
+    semi ← token_at is_semicolon (release Value e.scopes) e.rest
+    ends (declaration exts words (init_declrs_from (record { before = []; declr = d; label = None; attrs = attrs.tree; init = some_init equal.tree (init_value e.tree) } ∷ [])) semi.tree) semi.scopes semi.rest
+
+  abbrev pub auto_name : Option ℕ → ℕ → Reader Declr
+  auto_name None room s ts = refuses Unexpected ts
+  auto_name (Some name) room s ts = name_held name room (at_name (Some Value) name s) s ts >>= λ d. present d.tree.declr d.scopes d.rest
+
+  -- behind `typedef` a base word stands in the place of the name
+  abbrev pub auto_declarator : Bool → ℕ → Reader Declr
+  auto_declarator true room s ts = if is_base_word (kind_at ts) then fits 1 room ts (take_one s ts >>= λ token. ends (base_name token.tree) token.scopes token.rest) else refuses Unexpected ts
+  auto_declarator false room s ts = auto_name (spelled_name (kind_at ts)) room s ts
+
+  unfoldable pub auto_behind : List ℕ → SpecWords → ℕ → Reader Declaration
+  auto_behind exts words room s ts =
+      auto_declarator (has_typedef_word (storage_words words)) (room - 2) s ts >>= λ d. auto_declr exts words d.tree (room - 1) d.scopes d.rest
+
+  -- [InitDeclr (, Attr* InitDeclr)*] ;  behind the words, or AutoDeclr ;
   unfoldable pub declaration_behind : List ℕ → SpecWords → ℕ → Reader Declaration
   declaration_behind exts words room s ts =
-      if is_semicolon (kind_at ts) then bare_declaration exts words room s ts
+      if has_auto words then auto_behind exts words room s ts
+      else if is_semicolon (kind_at ts) then bare_declaration exts words room s ts
       else declrs_with exts words (declared_kind words) room (init_declr_with [] (declared_kind words) (room - 1)) s ts
 
   -- Declaration = ext* Specs [InitDeclr (, Attr* InitDeclr)*] ;  behind ext*
   unfoldable pub declaration_with : List ℕ → ℕ → Reader Declaration
   declaration_with exts room s ts = do
-    words ← specs_here inner room s ts
+    words ← specs_here inner Declaring room s ts
     declaration_behind exts words.tree room words.scopes words.rest
 
   -- the same behind words that were read already
@@ -181,13 +207,22 @@ module _ (inner : Inner) where
       else if is_attribute (kind_at ts) then attr_item room s ts
       else other_item (spelled_name (kind_at ts)) room s ts
 
-  -- { (decl | stmt)* }, at the brace, in a scope that is open
+  -- LabelDecl = __label__ Name (, Name)* ;
+  unfoldable pub labels_with : ℕ → Reader BlockItem
+  labels_with room s ts = fits 1 room ts (do
+    keyword ← take_one s ts
+    names ← names_list name_at keyword.scopes keyword.rest
+    semi ← token_at is_semicolon names.scopes names.rest
+    ends (block_labels keyword.tree names.tree semi.tree) semi.scopes semi.rest)
+
+  -- { LabelDecl* (decl | stmt)* }, at the brace, in a scope that is open
   unfoldable pub block_body : ℕ → Reader Block
   block_body room s ts = do
     opening ← take_one s ts
-    items ← repeated (λ kind. not (is_close_brace kind)) (block_item_with (room - 1)) opening.scopes opening.rest
+    labels ← repeated is_label_word (labels_with (room - 1)) opening.scopes opening.rest
+    items ← repeated (λ kind. not (is_close_brace kind)) (block_item_with (room - 1)) labels.scopes labels.rest
     closing ← token_at is_close_brace items.scopes items.rest
-    ends (record { opening = opening.tree; items = block_items_from items.tree; closing = closing.tree }) closing.scopes closing.rest
+    ends (record { opening = opening.tree; items = block_items_from (labels.tree ++ items.tree); closing = closing.tree }) closing.scopes closing.rest
 
   -- Block = { (decl | stmt)* }
   unfoldable pub block_with : ℕ → Reader Block
@@ -205,14 +240,29 @@ module _ (inner : Inner) where
       if test (kind_at ts) then ends no_expr s ts
       else inner.expr Whole nothing room s ts >>= λ e. ends (some_expr e.tree) e.scopes e.rest
 
-  -- Case = case cond : stmt
+  -- ... cond : stmt, behind the first value
+  unfoldable pub range_behind : ℕ → Expr → ℕ → Reader Stmt
+  range_behind keyword first room s ts = do
+    dots ← take_one s ts
+    e ← inner.expr Conditional nothing (room - 1) dots.scopes dots.rest
+    colon ← token_at is_colon e.scopes e.rest
+    t ← inner.stmt (room - 1) colon.scopes colon.rest
+    ends (case_range keyword first dots.tree e.tree colon.tree t.tree) t.scopes t.rest
+
+  -- : stmt, behind the value
+  unfoldable pub value_behind : ℕ → Expr → ℕ → Reader Stmt
+  value_behind keyword e room s ts = do
+    colon ← token_at is_colon s ts
+    t ← inner.stmt (room - 1) colon.scopes colon.rest
+    ends (case_stmt keyword e colon.tree t.tree) t.scopes t.rest
+
+  -- Case = case cond : stmt, in wider C case cond ... cond : stmt too
   unfoldable pub case_with : ℕ → Reader Stmt
   case_with room s ts = fits 2 room ts (do
     keyword ← take_one s ts
     e ← inner.expr Conditional nothing (room - 1) keyword.scopes keyword.rest
-    colon ← token_at is_colon e.scopes e.rest
-    t ← inner.stmt (room - 1) colon.scopes colon.rest
-    ends (case_stmt keyword.tree e.tree colon.tree t.tree) t.scopes t.rest)
+    if is_wide e.scopes && is_dots (kind_at e.rest) then range_behind keyword.tree e.tree room e.scopes e.rest
+        else value_behind keyword.tree e.tree room e.scopes e.rest)
 
   -- Default = default : stmt
   unfoldable pub default_with : ℕ → Reader Stmt
@@ -299,13 +349,27 @@ module _ (inner : Inner) where
     t ← part_with (room - 1) closing.scopes closing.rest
     ends (for_stmt keyword.tree opening.tree start.tree e.tree semi.tree e2.tree closing.tree t.tree) t.scopes t.rest
 
-  -- Goto = goto Name ;
+  -- * expr ;  behind `goto`
+  unfoldable pub goto_value_with : ℕ → ℕ → Reader Stmt
+  goto_value_with keyword room s ts = fits 2 room ts (do
+    star ← take_one s ts
+    e ← inner.expr Whole nothing (room - 1) star.scopes star.rest
+    semi ← token_at is_semicolon e.scopes e.rest
+    ends (goto_value keyword star.tree e.tree semi.tree) semi.scopes semi.rest)
+
+  -- Name ;  behind `goto`
+  unfoldable pub goto_name : ℕ → Reader Stmt
+  goto_name keyword s ts = do
+    name ← name_at s ts
+    semi ← token_at is_semicolon name.scopes name.rest
+    ends (goto_stmt keyword name.tree semi.tree) semi.scopes semi.rest
+
+  -- Goto = goto Name ; , in wider C GotoValue = goto * expr ; too
   unfoldable pub goto_with : ℕ → Reader Stmt
   goto_with room s ts = fits 1 room ts (do
     keyword ← take_one s ts
-    name ← name_at keyword.scopes keyword.rest
-    semi ← token_at is_semicolon name.scopes name.rest
-    ends (goto_stmt keyword.tree name.tree semi.tree) semi.scopes semi.rest)
+    if is_wide keyword.scopes && is_star (kind_at keyword.rest) then goto_value_with keyword.tree room keyword.scopes keyword.rest
+        else goto_name keyword.tree keyword.scopes keyword.rest)
 
   -- Continue = continue ; , and Break likewise
   unfoldable pub jump_with : (ℕ → ℕ → Stmt) → ℕ → Reader Stmt

@@ -102,6 +102,18 @@ abbrev pub is_else : TokenKind → Bool
 is_else (kinds.Keyword keywords.Else) = true
 is_else kind = false
 
+abbrev pub is_label_word : TokenKind → Bool
+is_label_word (kinds.Keyword keywords.LabelWord) = true
+is_label_word kind = false
+
+abbrev pub is_default : TokenKind → Bool
+is_default (kinds.Keyword keywords.Default) = true
+is_default kind = false
+
+abbrev pub is_base_word : TokenKind → Bool
+is_base_word (kinds.Keyword keywords.BaseWord) = true
+is_base_word kind = false
+
 abbrev pub is_static : TokenKind → Bool
 is_static (kinds.Keyword keywords.Static) = true
 is_static kind = false
@@ -147,6 +159,9 @@ abbrev pub qual_of : TokenKind → Option (ℕ → Qual)
 qual_of (kinds.Keyword keywords.Const) = Some (λ token. quals.Word (word_of keywords.Const token))
 qual_of (kinds.Keyword keywords.Volatile) = Some (λ token. quals.Word (word_of keywords.Volatile token))
 qual_of (kinds.Keyword keywords.Restrict) = Some (λ token. quals.Word (word_of keywords.Restrict token))
+qual_of (kinds.Keyword keywords.Atomic) = Some (λ token. quals.Word (word_of keywords.Atomic token))
+qual_of (kinds.Keyword keywords.AtomicType) = Some (λ token. quals.Word (word_of keywords.AtomicType token))
+qual_of (kinds.Keyword keywords.Seg) = Some (λ token. quals.Word (word_of keywords.Seg token))
 qual_of (kinds.Qual lattice elem) = Some quals.Element
 qual_of kinds.Index = Some quals.Index
 qual_of kind = None
@@ -165,8 +180,13 @@ is_made None = false
 is_made (Some a) = true
 
 -- qual*
+-- a qualifier among specifiers, where `_Atomic` before a parenthesis begins a type
+abbrev pub word_qual_of : TokenKind → Option (ℕ → Qual)
+word_qual_of (kinds.Keyword keywords.AtomicType) = None
+word_qual_of kind = qual_of kind
+
 unfoldable pub quals_at : Reader (List Qual)
-quals_at s ts = repeated (λ kind. is_made (qual_of kind)) (made_at qual_of) s ts
+quals_at s ts = repeated (λ kind. is_made (word_qual_of kind)) (made_at word_qual_of) s ts
 
 abbrev pub array_word_by : Option (ℕ → Qual) → TokenKind → Option (ℕ → ArrayWord)
 array_word_by (Some make) kind = Some (λ token. array_words.Qual (make token))
@@ -234,6 +254,13 @@ group_at s ts = do
   opening ← token_at is_open_paren s ts
   inside ← run bracket_turn (record { brackets = Paren ∷ []; last = opening.tree }) opening.scopes opening.rest
   ends (record { first = opening.tree; last = inside.tree.last }) inside.scopes inside.rest
+
+-- Align = _Alignas bal
+unfoldable pub align_at : Reader Attr
+align_at s ts = do
+  keyword ← take_one s ts
+  group ← group_at keyword.scopes keyword.rest
+  ends (record { keyword = keyword.tree; group = group.tree }) group.scopes group.rest
 
 -- Attr = attribute bal
 unfoldable pub attr_at : Reader Attr

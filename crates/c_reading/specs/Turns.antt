@@ -7,13 +7,13 @@ use Rattle.typedef_scope.specs.declared.kind.Kind.{Kind}
 use Rattle.c_reading.specs.declared.kinds.Reach.{Reach}
 use Rattle.c_reading.specs.declared.kinds.Role.{Role}
 use Rattle.c_reading.specs.Reading.{Found, Turn, comma_turn, repeated_turn}
-use Rattle.c_reading.specs.Tokens.{is_close_brace, is_end}
-use Rattle.c_reading.specs.Expressing.{begins_desig, next_argument, postfix_turn, step_with, operation_turn}
+use Rattle.c_reading.specs.Tokens.{is_open_brace, is_close_brace, is_label_word, is_end}
+use Rattle.c_reading.specs.Expressing.{begins_desig, next_argument, next_assoc, postfix_turn, step_with, operation_turn}
 use Rattle.c_reading.specs.Specifying.{next_member, struct_item_with, next_enumerator, word_turn}
 use Rattle.c_reading.specs.Declaring.{next_param, suffix_turn}
 use Rattle.c_reading.specs.Initialising.{desig_with, next_init_item}
-use Rattle.c_reading.specs.Stating.{next_init_declr, block_item_with}
-use Rattle.c_reading.specs.Items.{item_with}
+use Rattle.c_reading.specs.Stating.{next_init_declr, block_item_with, labels_with}
+use Rattle.c_reading.specs.Items.{item_with, old_declaration}
 use Rattle.c_reading.specs.Knot.{knot}
 
 abbrev pub TakesToken : {S : Type 0} → Turn S → Type 0
@@ -22,12 +22,16 @@ TakesToken {S} turn = (a : S) (s : HeldScopes) (ts : List Lexeme) (x : Found S) 
 abbrev pub no_close_brace : TokenKind → Bool
 no_close_brace kind = not (is_close_brace kind)
 
+abbrev pub no_open_brace : TokenKind → Bool
+no_open_brace kind = not (is_open_brace kind)
+
 abbrev pub no_end : TokenKind → Bool
 no_end kind = not (is_end kind)
 
 -- the loops of the readers of a number
 pub record TurnsTakeTokens (n : ℕ) : Type 0 where
   pub arguments : (room : ℕ) → TakesToken (comma_turn (next_argument (knot n) room))
+  pub associations : (room : ℕ) → TakesToken (comma_turn (next_assoc (knot n) room))
   pub postfixes : (room : ℕ) → TakesToken (postfix_turn (knot n) room)
   pub steps : (room : ℕ) → TakesToken (repeated_turn begins_desig (step_with (knot n) room))
   pub operations : (reach : Reach) (room : ℕ) → TakesToken (operation_turn (knot n) reach room)
@@ -41,4 +45,6 @@ pub record TurnsTakeTokens (n : ℕ) : Type 0 where
   pub init_items : (room : ℕ) → TakesToken (comma_turn (next_init_item (knot n) room))
   pub declrs : (kind : Kind) (room : ℕ) → TakesToken (comma_turn (next_init_declr (knot n) kind room))
   pub block_items : (room : ℕ) → TakesToken (repeated_turn no_close_brace (block_item_with (knot n) room))
+  pub labels : (room : ℕ) → TakesToken (repeated_turn is_label_word (labels_with (knot n) room))
+  pub old_declarations : (room : ℕ) → TakesToken (repeated_turn no_open_brace (old_declaration (knot n) room))
   pub items : (room : ℕ) → TakesToken (repeated_turn no_end (item_with (knot n) room))

@@ -33,10 +33,11 @@ pub enum Reach {
     Unary,
 }
 
-/// Which specifiers may stand: all, or those of a type's name.
+/// Which specifiers may stand: all, all but `__auto_type`, as in a member or a parameter, or those of a type's name.
 #[derive(Clone, Copy)]
 pub enum Role {
     Declaring,
+    Typed,
     Naming,
 }
 
@@ -55,7 +56,7 @@ pub enum SpecStart {
     Thread,
     Inline,
     Noreturn,
-    /// `const`, `volatile` or `restrict`.
+    /// `const`, `volatile` or `restrict`, in wider C `_Atomic` or an address space too.
     Word(Keyword),
     /// A `$` word that names an element.
     Element,
@@ -66,6 +67,12 @@ pub enum SpecStart {
     Attribute,
     /// A typedef name.
     Name(NameId),
+    Typeof,
+    /// `_Atomic` before `(`.
+    Atomic,
+    Align,
+    /// `__auto_type`.
+    Auto,
     Nothing,
 }
 
@@ -86,6 +93,13 @@ pub enum Opening {
     VaStart,
     VaCopy,
     Offset,
+    /// `__real__` or `__imag__`.
+    Part,
+    /// `&&` before a label, in wider C.
+    Label,
+    Compat,
+    Choose,
+    Generic,
     Nothing,
 }
 

@@ -1,6 +1,6 @@
 -- The tree of a shape.
-use Rattle.c_tree.specs.Tree.{Expr, operation, cast, prefix, sizeof_value, sizeof_type, extension, index, call, dot, arrow, post, compound, name_use, number_use, char_use, text_use, paren, statement_expr, va_arg, va_start, va_copy, offset, Operator, comma, assign, cond, binary, SpecWords, SomeDeclr, init_list}
-use Rattle.c_tree.specs.Lists.{exprs_from, some_expr_from, some_declr_from, desigs_from, init_items_from}
+use Rattle.c_tree.specs.Tree.{Expr, operation, cast, prefix, sizeof_value, sizeof_type, extension, index, call, dot, arrow, post, compound, name_use, number_use, char_use, text_use, paren, statement_expr, va_arg, va_start, va_copy, offset, Operator, comma, assign, cond, binary, SpecWords, SomeDeclr, init_list, complex_part, label_use, compat, choose, generic}
+use Rattle.c_tree.specs.Lists.{assocs_from, exprs_from, some_expr_from, some_declr_from, desigs_from, init_items_from}
 use Rattle.c_tree.specs.Unit.{spec_words_from, block_items_from}
 use Rattle.c_tree.specs.View.{expr_of}
 use Rattle.c_shape.specs.declared.shape.Between.{Between}
@@ -45,3 +45,8 @@ shaped (shapes.VaArg keyword opening e separator t closing) = va_arg keyword ope
 shaped (shapes.VaStart keyword opening e separator e2 closing) = va_start keyword opening (expr_of e.now.value) separator (expr_of e2.now.value) closing
 shaped (shapes.VaCopy keyword opening e separator e2 closing) = va_copy keyword opening (expr_of e.now.value) separator (expr_of e2.now.value) closing
 shaped (shapes.Offset keyword opening t separator name steps closing) = offset keyword opening (words_of t) (declr_in t) separator name (desigs_from steps.now.items) closing
+shaped (shapes.Part keyword e) = complex_part keyword (expr_of e.now.value)
+shaped (shapes.LabelUse token name) = label_use token name
+shaped (shapes.Compat keyword opening t separator t2 closing) = compat keyword opening (words_of t) (declr_in t) separator (words_of t2) (declr_in t2) closing
+shaped (shapes.Choose keyword opening e separator e2 separator2 e3 closing) = choose keyword opening (expr_of e.now.value) separator (expr_of e2.now.value) separator2 (expr_of e3.now.value) closing
+shaped (shapes.Generic keyword opening e xs closing) = generic keyword opening (expr_of e.now.value) (assocs_from xs.now.items) closing

@@ -1,5 +1,5 @@
 -- The tree of a statement's shape.
-use Rattle.c_tree.specs.Tree.{Stmt, block, expr_stmt, attr_stmt, label, case_stmt, default_stmt, if_stmt, switch_stmt, while_stmt, do_stmt, for_stmt, goto_stmt, continue_stmt, break_stmt, return_stmt, asm_stmt, ForStart, start_declaration, start_value}
+use Rattle.c_tree.specs.Tree.{Stmt, block, expr_stmt, attr_stmt, label, case_stmt, default_stmt, if_stmt, switch_stmt, while_stmt, do_stmt, for_stmt, goto_stmt, continue_stmt, break_stmt, return_stmt, asm_stmt, ForStart, start_declaration, start_value, case_range, goto_value}
 use Rattle.c_tree.specs.Lists.{some_expr_from, some_else_from}
 use Rattle.c_tree.specs.Unit.{block_items_from}
 use Rattle.c_tree.specs.View.{expr_of, stmt_of, declaration_of}
@@ -30,3 +30,5 @@ statement_shaped (shapes.Continue keyword semi) = continue_stmt keyword semi
 statement_shaped (shapes.Break keyword semi) = break_stmt keyword semi
 statement_shaped (shapes.Return keyword e semi) = return_stmt keyword (some_expr_from e.now) semi
 statement_shaped (shapes.Asm keyword words group semi) = asm_stmt keyword words.now.items group semi
+statement_shaped (shapes.CaseRange keyword e dots e2 colon s) = case_range keyword (expr_of e.now.value) dots (expr_of e2.now.value) colon (stmt_of s.now.value)
+statement_shaped (shapes.GotoValue keyword star e semi) = goto_value keyword star (expr_of e.now.value) semi

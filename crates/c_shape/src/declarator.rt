@@ -4,7 +4,7 @@ ghost use Rattle.std.specs.Prelude.{◌≡◌};
 ghost use Rattle.c_tree.specs.View.{declr_of};
 ghost use Rattle.c_shape.specs.Declarators.{declarator_shaped};
 
-use c_syntax::{ArraySize, ArrayWord, Attr, Declr, Ellipsis, Param, PointerWord};
+use c_syntax::{ArraySize, ArrayWord, Attr, Declr, Ellipsis, Identifier, Param, PointerWord};
 use qual_base::{NameId, TokenId};
 
 /// The forms of declarators, with a name or abstract, each with references to its parts.
@@ -63,6 +63,15 @@ pub enum DeclaratorShape<'a> {
         params: &'a Vec<Param>,
         ellipsis: &'a Option<Ellipsis>,
         close: TokenId,
+    },
+    Identifiers {
+        inner: &'a Box<Declr>,
+        open: TokenId,
+        names: &'a Vec<Identifier>,
+        close: TokenId,
+    },
+    BaseName {
+        token: TokenId,
     },
 }
 
@@ -159,5 +168,17 @@ pub fn declarator_shape(d: &Declr) -> DeclaratorShape<'_>
             ellipsis,
             close: *close,
         },
+        Declr::Identifiers {
+            inner,
+            open,
+            names,
+            close,
+        } => DeclaratorShape::Identifiers {
+            inner,
+            open: *open,
+            names,
+            close: *close,
+        },
+        Declr::BaseName { token } => DeclaratorShape::BaseName { token: *token },
     }
 }

@@ -5,7 +5,9 @@ ghost use Rattle.c_tree.specs.Tree.{operation, binary};
 ghost use Rattle.c_tree.specs.View.{expr_of};
 ghost use Rattle.c_shape.specs.Shapes.{shaped};
 
-use c_syntax::{BlockItem, Declr, Desig, Expr, Identifier, InitItem, SpecWord, TypeName, Word};
+use c_syntax::{
+    Assoc, BlockItem, Declr, Desig, Expr, Identifier, InitItem, SpecWord, TypeName, Word,
+};
 use c_words::Punct;
 use qual_base::{NameId, TokenId};
 
@@ -160,6 +162,39 @@ pub enum Shape<'a> {
         comma: TokenId,
         member: Identifier,
         steps: &'a Vec<Desig>,
+        close: TokenId,
+    },
+    Part {
+        keyword: TokenId,
+        operand: &'a Box<Expr>,
+    },
+    LabelUse {
+        token: TokenId,
+        label: Identifier,
+    },
+    Compat {
+        keyword: TokenId,
+        open: TokenId,
+        left: TypeShape<'a>,
+        comma: TokenId,
+        right: TypeShape<'a>,
+        close: TokenId,
+    },
+    Choose {
+        keyword: TokenId,
+        open: TokenId,
+        condition: &'a Box<Expr>,
+        comma: TokenId,
+        first: &'a Box<Expr>,
+        second_comma: TokenId,
+        second: &'a Box<Expr>,
+        close: TokenId,
+    },
+    Generic {
+        keyword: TokenId,
+        open: TokenId,
+        control: &'a Box<Expr>,
+        associations: &'a Vec<Assoc>,
         close: TokenId,
     },
 }
@@ -460,6 +495,61 @@ pub fn shape_of(e: &Expr) -> Shape<'_>
             comma: *comma,
             member: *member,
             steps,
+            close: *close,
+        },
+        Expr::Part { keyword, operand } => Shape::Part {
+            keyword: *keyword,
+            operand,
+        },
+        Expr::LabelUse { token, label } => Shape::LabelUse {
+            token: *token,
+            label: *label,
+        },
+        Expr::Compat {
+            keyword,
+            open,
+            left,
+            comma,
+            right,
+            close,
+        } => Shape::Compat {
+            keyword: *keyword,
+            open: *open,
+            left: type_shape(left),
+            comma: *comma,
+            right: type_shape(right),
+            close: *close,
+        },
+        Expr::Choose {
+            keyword,
+            open,
+            condition,
+            comma,
+            first,
+            second_comma,
+            second,
+            close,
+        } => Shape::Choose {
+            keyword: *keyword,
+            open: *open,
+            condition,
+            comma: *comma,
+            first,
+            second_comma: *second_comma,
+            second,
+            close: *close,
+        },
+        Expr::Generic {
+            keyword,
+            open,
+            control,
+            associations,
+            close,
+        } => Shape::Generic {
+            keyword: *keyword,
+            open: *open,
+            control,
+            associations,
             close: *close,
         },
     }

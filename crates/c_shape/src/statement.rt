@@ -118,6 +118,20 @@ pub enum StatementShape<'a> {
         group: Group,
         semi: TokenId,
     },
+    CaseRange {
+        keyword: TokenId,
+        first: &'a Box<Expr>,
+        dots: TokenId,
+        last: &'a Box<Expr>,
+        colon: TokenId,
+        body: &'a Box<Stmt>,
+    },
+    GotoValue {
+        keyword: TokenId,
+        star: TokenId,
+        value: &'a Box<Expr>,
+        semi: TokenId,
+    },
 }
 
 /// The beginning of a `for` as a walk sees it.
@@ -285,6 +299,32 @@ pub fn statement_shape(s: &Stmt) -> StatementShape<'_>
             keyword: *keyword,
             words,
             group: *group,
+            semi: *semi,
+        },
+        Stmt::CaseRange {
+            keyword,
+            first,
+            dots,
+            last,
+            colon,
+            body,
+        } => StatementShape::CaseRange {
+            keyword: *keyword,
+            first,
+            dots: *dots,
+            last,
+            colon: *colon,
+            body,
+        },
+        Stmt::GotoValue {
+            keyword,
+            star,
+            value,
+            semi,
+        } => StatementShape::GotoValue {
+            keyword: *keyword,
+            star: *star,
+            value,
             semi: *semi,
         },
     }

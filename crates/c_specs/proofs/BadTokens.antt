@@ -1,7 +1,7 @@
 -- The token of a fault begins the tokens of its word.
 use Rattle.std.proofs.Common.{◌≡◌, List, Option, Some, None, refl, sym, ◌∙◌, ap, subst}
 use Rattle.c_tree.specs.declared.lexeme.Lexeme.{Lexeme}
-use Rattle.c_tree.specs.Tree.{SpecWords, SpecWord, storage, thread, inline_word, noreturn, qualifier, basic, struct_type, enum_type, enum_of, typedef_name, attribute}
+use Rattle.c_tree.specs.Tree.{SpecWords, SpecWord, storage, thread, inline_word, noreturn, qualifier, basic, struct_type, enum_type, enum_of, typedef_name, attribute, typeof_value, typeof_type, align, auto_word}
 use Rattle.c_tree.specs.Text.{spec_word_text}
 use Rattle.c_tree.specs.Ends.{number_of_first}
 use Rattle.c_specs.specs.declared.mix.Mix.{Mix}
@@ -34,6 +34,10 @@ word_begins all (inline_word a) k other = absurd (other refl)
 word_begins all (noreturn a) k other = absurd (other refl)
 word_begins all (qualifier a) k other = absurd (other refl)
 word_begins all (attribute a) k other = absurd (other refl)
+word_begins all (typeof_value a b e c) k other = refl
+word_begins all (typeof_type a b ws d c) k other = refl
+word_begins all (align a) k other = absurd (other refl)
+word_begins all (auto_word a) k other = refl
 
 pub bad_tokens_begin : BadTokensBegin
 bad_tokens_begin all ws token k bad = word_begins all bad.word k (λ free. bad.bad (free_begins bad.front bad.word free bad.begun)) ∙ ap Some (sym bad.place)

@@ -1,24 +1,23 @@
 -- One more word of a basic type.
 use Rattle.std.proofs.Common.{arith, ◌≡◌, ℕ, ◌+◌, ◌≤◌, nat_eq, Bool, true, false, List, [], ◌∷◌, ◌++◌, length, Option, Some, None, MatchOption, inl, inr, refl, sym, ◌∙◌, ap, subst, if◌then◌else◌}
-use Rattle.std.specs.Prelude.{IsPermutation}
-use Rattle.std.proofs.lemmas.List.Sorted.{sum_by-IsPermutation, IsPermutation-push_more, IsPermutation-refl, IsPermutation-insert, IsPermutation-middle, IsPermutation-append_right, IsPermutation-trans, IsPermutation-sym}
+use Rattle.std.specs.Prelude.{IsPermutation, option_and_then}
+use Rattle.std.proofs.lemmas.List.Sorted.{sum_by-IsPermutation, IsPermutation-push_more, IsPermutation-insert, IsPermutation-middle, IsPermutation-append_left, IsPermutation-append_right, IsPermutation-trans, IsPermutation-sym}
 use Rattle.c_words.specs.declared.kinds.Keyword.{Keyword}
 use Rattle.c_words.specs.declared.kinds.Keyword.TheVariants as words
 use Rattle.c_tree.specs.Specifiers.{basic_types}
 use Rattle.c_specs.specs.declared.basic.Base.{Base}
 use Rattle.c_specs.specs.declared.basic.Mark.{Mark}
-use Rattle.c_specs.specs.declared.basic.Mark.TheVariants as marks
 use Rattle.c_specs.specs.declared.basic.Core.{Core}
 use Rattle.c_specs.specs.declared.basic.Part.{Part}
 use Rattle.c_specs.specs.declared.basic.Part.TheVariants as parts
 use Rattle.c_specs.specs.declared.mix.Types.{Types}
 use Rattle.c_specs.specs.declared.mix.Types.TheVariants.{Words, Named}
-use Rattle.c_specs.specs.Basic.{part_of, mark_words, core_word, base_words, words_of, join, fits}
+use Rattle.c_specs.specs.Basic.{part_of, mark_words, core_word, base_words, words_of, join, marked, fits}
 use Rattle.c_specs.specs.Mix.{fitting, with_mark, fitting_in, with_core, with_part}
 use Rattle.c_specs.specs.Reading.{IsTypeOf, TypesAre}
 use Rattle.c_specs.proofs.Counting.{count, begins, not_begun, more_words_count}
 use Rattle.c_specs.proofs.Codes.{type_code}
-use Rattle.c_specs.proofs.BasicTable.{fits_tells, two_marks, other_word, room, Joined, joined}
+use Rattle.c_specs.proofs.BasicTable.{fits_tells, Marked, marked_is, other_word, room, Joined, joined}
 
 -- no type begins so
 abbrev pub NoType : ℕ → List Keyword → Type 0
@@ -43,6 +42,7 @@ part_is : (k : Keyword) → PartIs k (part_of k)
 part_is words.Signed = refl
 part_is words.Unsigned = refl
 part_is words.Complex = refl
+part_is words.AnyComplex = refl
 part_is words.Void = refl
 part_is words.Bool = refl
 part_is words.BaseWord = refl
@@ -83,8 +83,8 @@ core_right b m c ks here = by_join (join b c) (joined b c)
         (IsPermutation-sym _ _ (IsPermutation-middle (mark_words m) (core_word c) (base_words b)))
         (IsPermutation-append_right (mark_words m) (core_word c ∷ base_words b) (base_words after) (subst (λ l. IsPermutation (core_word c ∷ base_words b) l) is (IsPermutation-insert (base_words b) (room b c) (core_word c)))))) (some_last ks (core_word c))
 
-second_mark : (b : Base) (m q : Mark) (k : Keyword) (ks : List Keyword) → mark_words q ≡ k ∷ [] → length (mark_words m) ≡ 1 → IsPermutation ks (words_of b m) → NoType 0 (ks ++ k ∷ [])
-second_mark b m q k ks is one here = no_type (mark_words m ++ mark_words q) (ks ++ k ∷ []) (two_marks m q one (ap length is)) (some_last ks k) (λ n.
+second_mark : (b : Base) (m q : Mark) (k : Keyword) (ks : List Keyword) → mark_words q ≡ k ∷ [] → begins type_code basic_types (mark_words m ++ mark_words q) ≡ false → IsPermutation ks (words_of b m) → NoType 0 (ks ++ k ∷ [])
+second_mark b m q k ks is none here = no_type (mark_words m ++ mark_words q) (ks ++ k ∷ []) none (some_last ks k) (λ n.
     let whole = more_words_count type_code n ks (k ∷ []) in
     let part = more_words_count type_code n (mark_words m) (mark_words q) in
     let same = counted b m ks n here in
@@ -92,11 +92,13 @@ second_mark b m q k ks is one here = no_type (mark_words m ++ mark_words q) (ks 
     omega arith)
 
 mark_right : (b : Base) (m q : Mark) (k : Keyword) (ks : List Keyword) → mark_words q ≡ k ∷ [] → IsPermutation ks (words_of b m) → Steps 0 (ks ++ k ∷ []) (with_mark b m q)
-mark_right b marks.Unmarked q k ks is here = fit_right b q (ks ++ k ∷ []) (IsPermutation-push_more ks (base_words b) (words_of b q) k here
-    (subst (λ l. IsPermutation (k ∷ base_words b) l) (ap (λ l. l ++ base_words b) (sym is)) (IsPermutation-refl (k ∷ base_words b)))) (some_last ks k)
-mark_right b marks.Signed q k ks is here = second_mark b marks.Signed q k ks is refl here
-mark_right b marks.Unsigned q k ks is here = second_mark b marks.Unsigned q k ks is refl here
-mark_right b marks.Complex q k ks is here = second_mark b marks.Complex q k ks is refl here
+mark_right b m q k ks is here = by_marked (marked m q) (marked_is m q (ap length is))
+  where
+    by_marked : (o : Option Mark) → Marked m q o → Steps 0 (ks ++ k ∷ []) (option_and_then (fitting b) o)
+    by_marked None none = second_mark b m q k ks is none here
+    by_marked (Some both) same =
+        let front : IsPermutation (k ∷ mark_words m) (mark_words both) = subst (λ l. IsPermutation (l ++ mark_words m) (mark_words both)) is same in
+        fit_right b both (ks ++ k ∷ []) (IsPermutation-push_more ks (words_of b m) (words_of b both) k here (IsPermutation-append_left (base_words b) (k ∷ mark_words m) (mark_words both) front)) (some_last ks k)
 
 other_right : (k : Keyword) (ks : List Keyword) → type_code k ≡ 0 → NoType 0 (ks ++ k ∷ [])
 other_right k ks is = no_type (words.While ∷ []) (ks ++ k ∷ []) other_word (some_last ks k) (λ n.

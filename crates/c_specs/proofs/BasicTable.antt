@@ -1,5 +1,7 @@
 -- The table of basic types, looked through word by word.
 use Rattle.std.proofs.Common.{◌≡◌, ℕ, ◌+◌, Bool, true, false, [], ◌∷◌, ◌++◌, length, slice_get, insert, Option, Some, None, refl}
+use Rattle.std.specs.Prelude.{IsPermutation}
+use Rattle.std.proofs.lemmas.List.Sorted.{IsPermutation-refl, IsPermutation-sym, IsPermutation-middle}
 use Rattle.c_words.specs.declared.kinds.Keyword.TheVariants as words
 use Rattle.c_tree.specs.Specifiers.{basic_types}
 use Rattle.c_specs.specs.declared.basic.Base.{Base}
@@ -8,7 +10,7 @@ use Rattle.c_specs.specs.declared.basic.Mark.{Mark}
 use Rattle.c_specs.specs.declared.basic.Mark.TheVariants as marks
 use Rattle.c_specs.specs.declared.basic.Core.{Core}
 use Rattle.c_specs.specs.declared.basic.Core.TheVariants as cores
-use Rattle.c_specs.specs.Basic.{mark_words, core_word, base_words, words_of, join, fits, is_whole}
+use Rattle.c_specs.specs.Basic.{mark_words, core_word, base_words, words_of, join, marked, fits, is_whole}
 use Rattle.c_specs.proofs.Counting.{begins, ends}
 use Rattle.c_specs.proofs.Codes.{type_code}
 
@@ -18,63 +20,100 @@ record Marks (P : Mark → Type 0) : Type 0 where
   signed : P marks.Signed
   unsigned : P marks.Unsigned
   complex : P marks.Complex
+  any : P marks.AnyComplex
+  complex_signed : P marks.ComplexSigned
+  complex_unsigned : P marks.ComplexUnsigned
 
 mark_at : (P : Mark → Type 0) → Marks P → (m : Mark) → P m
 mark_at P all marks.Unmarked = all.unmarked
 mark_at P all marks.Signed = all.signed
 mark_at P all marks.Unsigned = all.unsigned
 mark_at P all marks.Complex = all.complex
+mark_at P all marks.AnyComplex = all.any
+mark_at P all marks.ComplexSigned = all.complex_signed
+mark_at P all marks.ComplexUnsigned = all.complex_unsigned
 
 -- whether a type has these words
 abbrev Fits : Base → Mark → Type 0
 Fits b m = begins type_code basic_types (words_of b m) ≡ fits b m
 
 all_fit : (b : Base) → Marks (Fits b)
-all_fit bases.Nothing = record { unmarked = refl; signed = refl; unsigned = refl; complex = refl }
-all_fit bases.Void = record { unmarked = refl; signed = refl; unsigned = refl; complex = refl }
-all_fit bases.Bool = record { unmarked = refl; signed = refl; unsigned = refl; complex = refl }
-all_fit bases.Alone = record { unmarked = refl; signed = refl; unsigned = refl; complex = refl }
-all_fit bases.Char = record { unmarked = refl; signed = refl; unsigned = refl; complex = refl }
-all_fit bases.Int = record { unmarked = refl; signed = refl; unsigned = refl; complex = refl }
-all_fit bases.Int128 = record { unmarked = refl; signed = refl; unsigned = refl; complex = refl }
-all_fit bases.Short = record { unmarked = refl; signed = refl; unsigned = refl; complex = refl }
-all_fit bases.ShortInt = record { unmarked = refl; signed = refl; unsigned = refl; complex = refl }
-all_fit bases.Long = record { unmarked = refl; signed = refl; unsigned = refl; complex = refl }
-all_fit bases.LongInt = record { unmarked = refl; signed = refl; unsigned = refl; complex = refl }
-all_fit bases.LongLong = record { unmarked = refl; signed = refl; unsigned = refl; complex = refl }
-all_fit bases.LongLongInt = record { unmarked = refl; signed = refl; unsigned = refl; complex = refl }
-all_fit bases.Float = record { unmarked = refl; signed = refl; unsigned = refl; complex = refl }
-all_fit bases.Double = record { unmarked = refl; signed = refl; unsigned = refl; complex = refl }
-all_fit bases.LongDouble = record { unmarked = refl; signed = refl; unsigned = refl; complex = refl }
+all_fit bases.Nothing = record { unmarked = refl; signed = refl; unsigned = refl; complex = refl; any = refl; complex_signed = refl; complex_unsigned = refl }
+all_fit bases.Void = record { unmarked = refl; signed = refl; unsigned = refl; complex = refl; any = refl; complex_signed = refl; complex_unsigned = refl }
+all_fit bases.Bool = record { unmarked = refl; signed = refl; unsigned = refl; complex = refl; any = refl; complex_signed = refl; complex_unsigned = refl }
+all_fit bases.Alone = record { unmarked = refl; signed = refl; unsigned = refl; complex = refl; any = refl; complex_signed = refl; complex_unsigned = refl }
+all_fit bases.Char = record { unmarked = refl; signed = refl; unsigned = refl; complex = refl; any = refl; complex_signed = refl; complex_unsigned = refl }
+all_fit bases.Int = record { unmarked = refl; signed = refl; unsigned = refl; complex = refl; any = refl; complex_signed = refl; complex_unsigned = refl }
+all_fit bases.Int128 = record { unmarked = refl; signed = refl; unsigned = refl; complex = refl; any = refl; complex_signed = refl; complex_unsigned = refl }
+all_fit bases.Short = record { unmarked = refl; signed = refl; unsigned = refl; complex = refl; any = refl; complex_signed = refl; complex_unsigned = refl }
+all_fit bases.ShortInt = record { unmarked = refl; signed = refl; unsigned = refl; complex = refl; any = refl; complex_signed = refl; complex_unsigned = refl }
+all_fit bases.Long = record { unmarked = refl; signed = refl; unsigned = refl; complex = refl; any = refl; complex_signed = refl; complex_unsigned = refl }
+all_fit bases.LongInt = record { unmarked = refl; signed = refl; unsigned = refl; complex = refl; any = refl; complex_signed = refl; complex_unsigned = refl }
+all_fit bases.LongLong = record { unmarked = refl; signed = refl; unsigned = refl; complex = refl; any = refl; complex_signed = refl; complex_unsigned = refl }
+all_fit bases.LongLongInt = record { unmarked = refl; signed = refl; unsigned = refl; complex = refl; any = refl; complex_signed = refl; complex_unsigned = refl }
+all_fit bases.Float = record { unmarked = refl; signed = refl; unsigned = refl; complex = refl; any = refl; complex_signed = refl; complex_unsigned = refl }
+all_fit bases.Double = record { unmarked = refl; signed = refl; unsigned = refl; complex = refl; any = refl; complex_signed = refl; complex_unsigned = refl }
+all_fit bases.LongDouble = record { unmarked = refl; signed = refl; unsigned = refl; complex = refl; any = refl; complex_signed = refl; complex_unsigned = refl }
 
 pub fits_tells : (b : Base) (m : Mark) → begins type_code basic_types (words_of b m) ≡ fits b m
 fits_tells b m = mark_at (Fits b) (all_fit b) m
 
-abbrev pub mark_place : Mark → ℕ
-mark_place marks.Unmarked = 0
-mark_place marks.Signed = 1
-mark_place marks.Unsigned = 2
-mark_place marks.Complex = 1
+-- where the words without a mark stand in the table, or would stand
+abbrev pub base_place : Base → ℕ
+base_place bases.Nothing = 2
+base_place bases.Void = 0
+base_place bases.Bool = 1
+base_place bases.Alone = 2
+base_place bases.Char = 6
+base_place bases.Int = 9
+base_place bases.Int128 = 12
+base_place bases.Short = 15
+base_place bases.ShortInt = 18
+base_place bases.Long = 21
+base_place bases.LongInt = 24
+base_place bases.LongLong = 27
+base_place bases.LongLongInt = 30
+base_place bases.Float = 33
+base_place bases.Double = 35
+base_place bases.LongDouble = 37
+
+-- where those with `_Complex` of wider C stand, if they do
+abbrev pub any_place : Base → ℕ
+any_place bases.Nothing = 39
+any_place bases.Void = 0
+any_place bases.Bool = 0
+any_place bases.Alone = 40
+any_place bases.Char = 46
+any_place bases.Int = 49
+any_place bases.Int128 = 0
+any_place bases.Short = 52
+any_place bases.ShortInt = 55
+any_place bases.Long = 58
+any_place bases.LongInt = 61
+any_place bases.LongLong = 64
+any_place bases.LongLongInt = 67
+any_place bases.Float = 41
+any_place bases.Double = 42
+any_place bases.LongDouble = 43
+
+-- and those with a sign, behind which the unsigned ones stand
+abbrev pub any_signed_place : Base → ℕ
+any_signed_place bases.Nothing = 44
+any_signed_place b = any_place b + 1
+
+abbrev pub complex_place : Base → ℕ
+complex_place bases.Nothing = 5
+complex_place b = base_place b + 1
 
 -- where the words stand in the table
 abbrev pub place : Base → Mark → ℕ
-place bases.Nothing marks.Complex = 5
-place bases.Nothing m = 2 + mark_place m
-place bases.Void m = 0 + mark_place m
-place bases.Bool m = 1 + mark_place m
-place bases.Alone m = 2 + mark_place m
-place bases.Char m = 6 + mark_place m
-place bases.Int m = 9 + mark_place m
-place bases.Int128 m = 12 + mark_place m
-place bases.Short m = 15 + mark_place m
-place bases.ShortInt m = 18 + mark_place m
-place bases.Long m = 21 + mark_place m
-place bases.LongInt m = 24 + mark_place m
-place bases.LongLong m = 27 + mark_place m
-place bases.LongLongInt m = 30 + mark_place m
-place bases.Float m = 33 + mark_place m
-place bases.Double m = 35 + mark_place m
-place bases.LongDouble m = 37 + mark_place m
+place b marks.Unmarked = base_place b
+place b marks.Signed = base_place b + 1
+place b marks.Unsigned = base_place b + 2
+place b marks.Complex = complex_place b
+place b marks.AnyComplex = any_place b
+place b marks.ComplexSigned = any_signed_place b
+place b marks.ComplexUnsigned = any_signed_place b + 1
 
 abbrev pub Told : Bool → Bool → Base → Mark → Type 0
 Told false whole b m = Unit {0}
@@ -85,41 +124,64 @@ abbrev Whole : Base → Mark → Type 0
 Whole b m = Told (fits b m) (is_whole b m) b m
 
 all_whole : (b : Base) → Marks (Whole b)
-all_whole bases.Nothing = record { unmarked = refl; signed = refl; unsigned = refl; complex = refl }
-all_whole bases.Void = record { unmarked = refl; signed = tt; unsigned = tt; complex = tt }
-all_whole bases.Bool = record { unmarked = refl; signed = tt; unsigned = tt; complex = tt }
-all_whole bases.Alone = record { unmarked = refl; signed = tt; unsigned = tt; complex = tt }
-all_whole bases.Char = record { unmarked = refl; signed = refl; unsigned = refl; complex = tt }
-all_whole bases.Int = record { unmarked = refl; signed = refl; unsigned = refl; complex = tt }
-all_whole bases.Int128 = record { unmarked = refl; signed = refl; unsigned = refl; complex = tt }
-all_whole bases.Short = record { unmarked = refl; signed = refl; unsigned = refl; complex = tt }
-all_whole bases.ShortInt = record { unmarked = refl; signed = refl; unsigned = refl; complex = tt }
-all_whole bases.Long = record { unmarked = refl; signed = refl; unsigned = refl; complex = refl }
-all_whole bases.LongInt = record { unmarked = refl; signed = refl; unsigned = refl; complex = tt }
-all_whole bases.LongLong = record { unmarked = refl; signed = refl; unsigned = refl; complex = tt }
-all_whole bases.LongLongInt = record { unmarked = refl; signed = refl; unsigned = refl; complex = tt }
-all_whole bases.Float = record { unmarked = refl; signed = tt; unsigned = tt; complex = refl }
-all_whole bases.Double = record { unmarked = refl; signed = tt; unsigned = tt; complex = refl }
-all_whole bases.LongDouble = record { unmarked = refl; signed = tt; unsigned = tt; complex = refl }
+all_whole bases.Nothing = record { unmarked = refl; signed = refl; unsigned = refl; complex = refl; any = refl; complex_signed = refl; complex_unsigned = refl }
+all_whole bases.Void = record { unmarked = refl; signed = tt; unsigned = tt; complex = tt; any = tt; complex_signed = tt; complex_unsigned = tt }
+all_whole bases.Bool = record { unmarked = refl; signed = tt; unsigned = tt; complex = tt; any = tt; complex_signed = tt; complex_unsigned = tt }
+all_whole bases.Alone = record { unmarked = refl; signed = tt; unsigned = tt; complex = tt; any = refl; complex_signed = tt; complex_unsigned = tt }
+all_whole bases.Char = record { unmarked = refl; signed = refl; unsigned = refl; complex = tt; any = refl; complex_signed = refl; complex_unsigned = refl }
+all_whole bases.Int = record { unmarked = refl; signed = refl; unsigned = refl; complex = tt; any = refl; complex_signed = refl; complex_unsigned = refl }
+all_whole bases.Int128 = record { unmarked = refl; signed = refl; unsigned = refl; complex = tt; any = tt; complex_signed = tt; complex_unsigned = tt }
+all_whole bases.Short = record { unmarked = refl; signed = refl; unsigned = refl; complex = tt; any = refl; complex_signed = refl; complex_unsigned = refl }
+all_whole bases.ShortInt = record { unmarked = refl; signed = refl; unsigned = refl; complex = tt; any = refl; complex_signed = refl; complex_unsigned = refl }
+all_whole bases.Long = record { unmarked = refl; signed = refl; unsigned = refl; complex = refl; any = refl; complex_signed = refl; complex_unsigned = refl }
+all_whole bases.LongInt = record { unmarked = refl; signed = refl; unsigned = refl; complex = tt; any = refl; complex_signed = refl; complex_unsigned = refl }
+all_whole bases.LongLong = record { unmarked = refl; signed = refl; unsigned = refl; complex = tt; any = refl; complex_signed = refl; complex_unsigned = refl }
+all_whole bases.LongLongInt = record { unmarked = refl; signed = refl; unsigned = refl; complex = tt; any = refl; complex_signed = refl; complex_unsigned = refl }
+all_whole bases.Float = record { unmarked = refl; signed = tt; unsigned = tt; complex = refl; any = refl; complex_signed = tt; complex_unsigned = tt }
+all_whole bases.Double = record { unmarked = refl; signed = tt; unsigned = tt; complex = refl; any = refl; complex_signed = tt; complex_unsigned = tt }
+all_whole bases.LongDouble = record { unmarked = refl; signed = tt; unsigned = tt; complex = refl; any = refl; complex_signed = tt; complex_unsigned = tt }
 
 pub whole_tells : (b : Base) (m : Mark) → Told (fits b m) (is_whole b m) b m
 whole_tells b m = mark_at (Whole b) (all_whole b) m
 
--- no type has two marks
-pub two_marks : (m q : Mark) → length (mark_words m) ≡ 1 → length (mark_words q) ≡ 1 → begins type_code basic_types (mark_words m ++ mark_words q) ≡ false
-two_marks marks.Signed marks.Signed one two = refl
-two_marks marks.Signed marks.Unsigned one two = refl
-two_marks marks.Signed marks.Complex one two = refl
-two_marks marks.Signed marks.Unmarked one two = absurd cc
-two_marks marks.Unsigned marks.Signed one two = refl
-two_marks marks.Unsigned marks.Unsigned one two = refl
-two_marks marks.Unsigned marks.Complex one two = refl
-two_marks marks.Unsigned marks.Unmarked one two = absurd cc
-two_marks marks.Complex marks.Signed one two = refl
-two_marks marks.Complex marks.Unsigned one two = refl
-two_marks marks.Complex marks.Complex one two = refl
-two_marks marks.Complex marks.Unmarked one two = absurd cc
-two_marks marks.Unmarked q one two = absurd cc
+-- a mark and one more: no type has both, or those that it has stand together
+abbrev pub Marked : Mark → Mark → Option Mark → Type 0
+Marked m q None = begins type_code basic_types (mark_words m ++ mark_words q) ≡ false
+Marked m q (Some both) = IsPermutation (mark_words q ++ mark_words m) (mark_words both)
+
+-- of marks that are one word
+pub marked_is : (m q : Mark) → length (mark_words q) ≡ 1 → Marked m q (marked m q)
+marked_is marks.Unmarked marks.Signed one = IsPermutation-refl (mark_words marks.Signed)
+marked_is marks.Signed marks.Signed one = refl
+marked_is marks.Unsigned marks.Signed one = refl
+marked_is marks.Complex marks.Signed one = refl
+marked_is marks.AnyComplex marks.Signed one = IsPermutation-sym _ _ (IsPermutation-middle (words.AnyComplex ∷ []) words.Signed [])
+marked_is marks.ComplexSigned marks.Signed one = refl
+marked_is marks.ComplexUnsigned marks.Signed one = refl
+marked_is marks.Unmarked marks.Unsigned one = IsPermutation-refl (mark_words marks.Unsigned)
+marked_is marks.Signed marks.Unsigned one = refl
+marked_is marks.Unsigned marks.Unsigned one = refl
+marked_is marks.Complex marks.Unsigned one = refl
+marked_is marks.AnyComplex marks.Unsigned one = IsPermutation-sym _ _ (IsPermutation-middle (words.AnyComplex ∷ []) words.Unsigned [])
+marked_is marks.ComplexSigned marks.Unsigned one = refl
+marked_is marks.ComplexUnsigned marks.Unsigned one = refl
+marked_is marks.Unmarked marks.Complex one = IsPermutation-refl (mark_words marks.Complex)
+marked_is marks.Signed marks.Complex one = refl
+marked_is marks.Unsigned marks.Complex one = refl
+marked_is marks.Complex marks.Complex one = refl
+marked_is marks.AnyComplex marks.Complex one = refl
+marked_is marks.ComplexSigned marks.Complex one = refl
+marked_is marks.ComplexUnsigned marks.Complex one = refl
+marked_is marks.Unmarked marks.AnyComplex one = IsPermutation-refl (mark_words marks.AnyComplex)
+marked_is marks.Signed marks.AnyComplex one = IsPermutation-refl (mark_words marks.ComplexSigned)
+marked_is marks.Unsigned marks.AnyComplex one = IsPermutation-refl (mark_words marks.ComplexUnsigned)
+marked_is marks.Complex marks.AnyComplex one = refl
+marked_is marks.AnyComplex marks.AnyComplex one = refl
+marked_is marks.ComplexSigned marks.AnyComplex one = refl
+marked_is marks.ComplexUnsigned marks.AnyComplex one = refl
+marked_is m marks.Unmarked one = absurd cc
+marked_is m marks.ComplexSigned one = absurd cc
+marked_is m marks.ComplexUnsigned one = absurd cc
 
 -- and no type has a word that is none of its words
 pub other_word : begins type_code basic_types (words.While ∷ []) ≡ false

@@ -25,6 +25,9 @@ part_code (parts.Core cores.Short) = 10
 part_code (parts.Core cores.Long) = 11
 part_code (parts.Core cores.Float) = 12
 part_code (parts.Core cores.Double) = 13
+part_code (parts.Mark marks.AnyComplex) = 14
+part_code (parts.Mark marks.ComplexSigned) = 0
+part_code (parts.Mark marks.ComplexUnsigned) = 0
 part_code parts.Other = 0
 
 abbrev pub type_code : Keyword → ℕ

@@ -5,7 +5,7 @@ use Rattle.std.proofs.lemmas.List.{append-nil}
 use Rattle.std.proofs.lemmas.List.Sorted.{length_permutation}
 use Rattle.c_words.specs.declared.kinds.Keyword.{Keyword}
 use Rattle.c_words.specs.declared.kinds.Keyword.TheVariants as words
-use Rattle.c_tree.specs.Tree.{SpecWords, no_words, more_words, SpecWord, storage, thread, inline_word, noreturn, qualifier, basic, struct_type, enum_type, typedef_name, attribute}
+use Rattle.c_tree.specs.Tree.{SpecWords, no_words, more_words, SpecWord, storage, thread, inline_word, noreturn, qualifier, basic, struct_type, enum_type, typedef_name, attribute, typeof_value, typeof_type, align, auto_word}
 use Rattle.c_tree.specs.Specifiers.{type_words, type_count, storage_words, storages}
 use Rattle.c_specs.specs.declared.basic.Base.{Base}
 use Rattle.c_specs.specs.declared.basic.Base.TheVariants as bases
@@ -35,6 +35,10 @@ types_append (more_words (struct_type a b c d) ws) more = types_append ws more
 types_append (more_words (enum_type a) ws) more = types_append ws more
 types_append (more_words (typedef_name a) ws) more = types_append ws more
 types_append (more_words (attribute a) ws) more = types_append ws more
+types_append (more_words (typeof_value a b e c) ws) more = types_append ws more
+types_append (more_words (typeof_type a b ws2 d c) ws) more = types_append ws more
+types_append (more_words (align a) ws) more = types_append ws more
+types_append (more_words (auto_word a) ws) more = types_append ws more
 
 pub counts_append : (ws more : SpecWords) → type_count (append_words ws more) ≡ type_count ws + type_count more
 counts_append no_words more = omega arith
@@ -48,6 +52,10 @@ counts_append (more_words (struct_type a b c d) ws) more = let e = counts_append
 counts_append (more_words (enum_type a) ws) more = let e = counts_append ws more in omega arith
 counts_append (more_words (typedef_name a) ws) more = let e = counts_append ws more in omega arith
 counts_append (more_words (attribute a) ws) more = counts_append ws more
+counts_append (more_words (typeof_value a b e c) ws) more = let e = counts_append ws more in omega arith
+counts_append (more_words (typeof_type a b ws2 d c) ws) more = let e = counts_append ws more in omega arith
+counts_append (more_words (align a) ws) more = counts_append ws more
+counts_append (more_words (auto_word a) ws) more = let e = counts_append ws more in omega arith
 
 pub stores_append : (ws more : SpecWords) → storage_words (append_words ws more) ≡ storage_words ws ++ storage_words more
 stores_append no_words more = refl
@@ -61,6 +69,10 @@ stores_append (more_words (struct_type a b c d) ws) more = stores_append ws more
 stores_append (more_words (enum_type a) ws) more = stores_append ws more
 stores_append (more_words (typedef_name a) ws) more = stores_append ws more
 stores_append (more_words (attribute a) ws) more = stores_append ws more
+stores_append (more_words (typeof_value a b e c) ws) more = stores_append ws more
+stores_append (more_words (typeof_type a b ws2 d c) ws) more = stores_append ws more
+stores_append (more_words (align a) ws) more = stores_append ws more
+stores_append (more_words (auto_word a) ws) more = stores_append ws more
 
 no_type_begins : (ws : SpecWords) → NoType (type_count ws) (type_words ws) → Begins ws → ⊥
 no_type_begins ws none (more, mix) = none (type_count more) (type_words more) (subst (λ n. IsTypeOf n (type_words ws ++ type_words more)) (counts_append ws more) (subst (λ ks. IsTypeOf (type_count (append_words ws more)) ks) (types_append ws more) mix.0))
@@ -91,6 +103,9 @@ many b marks.Unmarked ks some here = let e = length_permutation ks (base_words b
 many b marks.Signed ks some here = let e = length_permutation ks (words.Signed ∷ base_words b) here in omega arith
 many b marks.Unsigned ks some here = let e = length_permutation ks (words.Unsigned ∷ base_words b) here in omega arith
 many b marks.Complex ks some here = let e = length_permutation ks (words.Complex ∷ base_words b) here in omega arith
+many b marks.AnyComplex ks some here = let e = length_permutation ks (words.AnyComplex ∷ base_words b) here in omega arith
+many b marks.ComplexSigned ks some here = let e = length_permutation ks (words.AnyComplex ∷ words.Signed ∷ base_words b) here in omega arith
+many b marks.ComplexUnsigned ks some here = let e = length_permutation ks (words.AnyComplex ∷ words.Unsigned ∷ base_words b) here in omega arith
 
 empty : (ks : List Keyword) → IsPermutation ks [] → ks ≡ []
 empty [] here = refl
@@ -102,6 +117,9 @@ named_right (Words bases.Nothing marks.Unmarked) n ks (is, fit, here) = (omega a
 named_right (Words bases.Nothing marks.Signed) n ks (is, fit, here) = full n ks (let e = length_permutation ks (words.Signed ∷ []) here in omega arith)
 named_right (Words bases.Nothing marks.Unsigned) n ks (is, fit, here) = full n ks (let e = length_permutation ks (words.Unsigned ∷ []) here in omega arith)
 named_right (Words bases.Nothing marks.Complex) n ks (is, fit, here) = full n ks (let e = length_permutation ks (words.Complex ∷ []) here in omega arith)
+named_right (Words bases.Nothing marks.AnyComplex) n ks (is, fit, here) = full n ks (let e = length_permutation ks (words.AnyComplex ∷ []) here in omega arith)
+named_right (Words bases.Nothing marks.ComplexSigned) n ks (is, fit, here) = full n ks (let e = length_permutation ks (words.AnyComplex ∷ words.Signed ∷ []) here in omega arith)
+named_right (Words bases.Nothing marks.ComplexUnsigned) n ks (is, fit, here) = full n ks (let e = length_permutation ks (words.AnyComplex ∷ words.Unsigned ∷ []) here in omega arith)
 named_right (Words bases.Void m) n ks (is, fit, here) = full n ks (many bases.Void m ks (omega arith) here)
 named_right (Words bases.Bool m) n ks (is, fit, here) = full n ks (many bases.Bool m ks (omega arith) here)
 named_right (Words bases.Alone m) n ks (is, fit, here) = full n ks (many bases.Alone m ks (omega arith) here)
@@ -165,3 +183,7 @@ with_right mix ws (inline_word a) read = rest_right mix ws (inline_word a) refl 
 with_right mix ws (noreturn a) read = rest_right mix ws (noreturn a) refl refl refl read
 with_right mix ws (qualifier a) read = rest_right mix ws (qualifier a) refl refl refl read
 with_right mix ws (attribute a) read = rest_right mix ws (attribute a) refl refl refl read
+with_right mix ws (typeof_value a b e c) read = name_right mix ws (typeof_value a b e c) refl refl refl read
+with_right mix ws (typeof_type a b ws2 d c) read = name_right mix ws (typeof_type a b ws2 d c) refl refl refl read
+with_right mix ws (align a) read = rest_right mix ws (align a) refl refl refl read
+with_right mix ws (auto_word a) read = name_right mix ws (auto_word a) refl refl refl read

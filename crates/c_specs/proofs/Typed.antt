@@ -3,7 +3,7 @@ use Rattle.std.proofs.Common.{arith, ◌≡◌, ℕ, ◌+◌, ◌≤◌, Bool, t
 use Rattle.std.specs.Prelude.{IsPermutation}
 use Rattle.std.proofs.lemmas.List.Sorted.{length_permutation}
 use Rattle.c_words.specs.declared.kinds.Keyword.{Keyword}
-use Rattle.c_tree.specs.Tree.{SpecWords, no_words, more_words, storage, thread, inline_word, noreturn, qualifier, basic, struct_type, enum_type, typedef_name, attribute}
+use Rattle.c_tree.specs.Tree.{SpecWords, no_words, more_words, storage, thread, inline_word, noreturn, qualifier, basic, struct_type, enum_type, typedef_name, attribute, typeof_value, typeof_type, align, auto_word}
 use Rattle.c_tree.specs.Specifiers.{type_words, type_count}
 use Rattle.c_specs.specs.declared.basic.Base.{Base}
 use Rattle.c_specs.specs.declared.basic.Base.TheVariants as bases
@@ -38,6 +38,9 @@ stands_told (Words bases.Nothing marks.Unmarked) n ks (is, fit, here) = let e = 
 stands_told (Words bases.Nothing marks.Signed) n ks (is, fit, here) = let e = length_permutation ks (words_of bases.Nothing marks.Signed) here in omega arith
 stands_told (Words bases.Nothing marks.Unsigned) n ks (is, fit, here) = let e = length_permutation ks (words_of bases.Nothing marks.Unsigned) here in omega arith
 stands_told (Words bases.Nothing marks.Complex) n ks (is, fit, here) = let e = length_permutation ks (words_of bases.Nothing marks.Complex) here in omega arith
+stands_told (Words bases.Nothing marks.AnyComplex) n ks (is, fit, here) = let e = length_permutation ks (words_of bases.Nothing marks.AnyComplex) here in omega arith
+stands_told (Words bases.Nothing marks.ComplexSigned) n ks (is, fit, here) = let e = length_permutation ks (words_of bases.Nothing marks.ComplexSigned) here in omega arith
+stands_told (Words bases.Nothing marks.ComplexUnsigned) n ks (is, fit, here) = let e = length_permutation ks (words_of bases.Nothing marks.ComplexUnsigned) here in omega arith
 stands_told (Words bases.Void m) n ks (is, fit, here) = one_told n ks bases.Void m (omega arith) here
 stands_told (Words bases.Bool m) n ks (is, fit, here) = one_told n ks bases.Bool m (omega arith) here
 stands_told (Words bases.Alone m) n ks (is, fit, here) = one_told n ks bases.Alone m (omega arith) here
@@ -66,6 +69,10 @@ words_told (more_words (struct_type a b c d) ws) = omega arith
 words_told (more_words (enum_type a) ws) = omega arith
 words_told (more_words (typedef_name a) ws) = omega arith
 words_told (more_words (attribute a) ws) = words_told ws
+words_told (more_words (typeof_value a b e c) ws) = omega arith
+words_told (more_words (typeof_type a b ws2 d c) ws) = omega arith
+words_told (more_words (align a) ws) = words_told ws
+words_told (more_words (auto_word a) ws) = omega arith
 
 -- a type stands after words where one stands among them
 pub typed_right : (ws : SpecWords) (mix : Mix) → mix_of ws ≡ Some mix → type_stands mix.types ≡ is_typed ws

@@ -2,7 +2,7 @@
 use Rattle.std.proofs.Common.{◌≡◌, ◌↔◌, true, [], Option, Some, None, MatchOption, refl, sym, ◌∙◌, ap, subst}
 use Rattle.std.specs.Prelude.{is_some}
 use Rattle.std.proofs.lemmas.List.Sorted.{IsPermutation-refl}
-use Rattle.c_tree.specs.Tree.{SpecWords, no_words, more_words, SpecWord, storage, thread, inline_word, noreturn, qualifier, basic, struct_type, enum_type, typedef_name, attribute}
+use Rattle.c_tree.specs.Tree.{SpecWords, no_words, more_words, SpecWord, storage, thread, inline_word, noreturn, qualifier, basic, struct_type, enum_type, typedef_name, attribute, typeof_value, typeof_type, align, auto_word}
 use Rattle.c_tree.specs.Specifiers.{IsMix}
 use Rattle.c_specs.specs.declared.mix.Mix.{Mix}
 use Rattle.c_specs.specs.Mix.{with_word, class_of, with_class, no_mix, then_class, mix_from, mix_of, whole_in}
@@ -24,6 +24,10 @@ class_step mix (struct_type a b c d) = refl
 class_step mix (enum_type a) = refl
 class_step mix (typedef_name a) = refl
 class_step mix (attribute a) = refl
+class_step mix (typeof_value a b e c) = refl
+class_step mix (typeof_type a b ws d c) = refl
+class_step mix (align a) = refl
+class_step mix (auto_word a) = refl
 
 -- what stands after words: nothing where no mix begins so
 abbrev pub Stands : SpecWords → Option Mix → Type 0

@@ -15,6 +15,7 @@ abbrev pub part_of : Keyword → Part
 part_of words.Signed = parts.Mark marks.Signed
 part_of words.Unsigned = parts.Mark marks.Unsigned
 part_of words.Complex = parts.Mark marks.Complex
+part_of words.AnyComplex = parts.Mark marks.AnyComplex
 part_of words.Void = parts.Core cores.Void
 part_of words.Bool = parts.Core cores.Bool
 part_of words.BaseWord = parts.Core cores.Alone
@@ -32,6 +33,9 @@ mark_words marks.Unmarked = []
 mark_words marks.Signed = words.Signed ∷ []
 mark_words marks.Unsigned = words.Unsigned ∷ []
 mark_words marks.Complex = words.Complex ∷ []
+mark_words marks.AnyComplex = words.AnyComplex ∷ []
+mark_words marks.ComplexSigned = words.AnyComplex ∷ words.Signed ∷ []
+mark_words marks.ComplexUnsigned = words.AnyComplex ∷ words.Unsigned ∷ []
 
 abbrev pub core_word : Core → Keyword
 core_word cores.Void = words.Void
@@ -110,11 +114,42 @@ has_complex bases.Double = true
 has_complex bases.LongDouble = true
 has_complex _ = false
 
+-- in wider C
+abbrev pub has_any_complex : Base → Bool
+has_any_complex bases.Void = false
+has_any_complex bases.Bool = false
+has_any_complex bases.Int128 = false
+has_any_complex _ = true
+
+abbrev pub has_complex_sign : Base → Bool
+has_complex_sign bases.Nothing = true
+has_complex_sign bases.Char = true
+has_complex_sign bases.Int = true
+has_complex_sign bases.Short = true
+has_complex_sign bases.ShortInt = true
+has_complex_sign bases.Long = true
+has_complex_sign bases.LongInt = true
+has_complex_sign bases.LongLong = true
+has_complex_sign bases.LongLongInt = true
+has_complex_sign _ = false
+
+-- one more mark: a sign and the `_Complex` of wider C join one another
+abbrev pub marked : Mark → Mark → Option Mark
+marked marks.Unmarked new = Some new
+marked marks.Signed marks.AnyComplex = Some marks.ComplexSigned
+marked marks.AnyComplex marks.Signed = Some marks.ComplexSigned
+marked marks.Unsigned marks.AnyComplex = Some marks.ComplexUnsigned
+marked marks.AnyComplex marks.Unsigned = Some marks.ComplexUnsigned
+marked _ _ = None
+
 abbrev pub fits : Base → Mark → Bool
 fits base marks.Unmarked = true
 fits base marks.Signed = has_sign base
 fits base marks.Unsigned = has_sign base
 fits base marks.Complex = has_complex base
+fits base marks.AnyComplex = has_any_complex base
+fits base marks.ComplexSigned = has_complex_sign base
+fits base marks.ComplexUnsigned = has_complex_sign base
 
 abbrev pub is_whole : Base → Mark → Bool
 is_whole bases.Nothing marks.Unmarked = false

@@ -2,7 +2,7 @@
 use Rattle.std.specs.Prelude.{◌≡◌, ℕ}
 use Rattle.c_syntax.specs.declared.parts.Qual.{Qual}
 use Rattle.c_syntax.specs.declared.parts.Qual.TheVariants as quals
-use Rattle.c_tree.specs.Tree.{SpecWords, more_words, SpecWord, storage, thread, inline_word, noreturn, qualifier, basic, struct_type, enum_type, typedef_name, attribute, enum_of}
+use Rattle.c_tree.specs.Tree.{SpecWords, more_words, SpecWord, storage, thread, inline_word, noreturn, qualifier, basic, struct_type, enum_type, typedef_name, attribute, enum_of, typeof_value, typeof_type, align, auto_word}
 use Rattle.c_tree.specs.Specifiers.{IsMix}
 use Rattle.c_specs.specs.declared.reading.SpecFault.{SpecFault}
 use Rattle.c_specs.specs.declared.reading.SpecFault.TheVariants.{BadMix, Unfinished}
@@ -25,6 +25,10 @@ word_token (struct_type word attrs tag body) = word.token
 word_token (enum_type (enum_of keyword attrs tag body)) = keyword
 word_token (typedef_name name) = name.token
 word_token (attribute attr) = attr.keyword
+word_token (typeof_value keyword opening e closing) = keyword
+word_token (typeof_type word opening ws d closing) = word.token
+word_token (align attr) = attr.keyword
+word_token (auto_word token) = token
 
 -- a mix begins with the words before a word, none with these and this one, whose first token it is
 pub record IsFirstBadWord (ws : SpecWords) (token : ℕ) : Type 0 where

@@ -1,7 +1,7 @@
 -- What stands of a mix, and one more word.
-use Rattle.std.specs.Prelude.{Bool, true, false, Option, None, Some, is_some, if◌then◌else◌}
+use Rattle.std.specs.Prelude.{Bool, true, false, Option, None, Some, is_some, option_and_then, if◌then◌else◌}
 use Rattle.c_words.specs.declared.kinds.Keyword.TheVariants as words
-use Rattle.c_tree.specs.Tree.{SpecWords, no_words, more_words, SpecWord, storage, thread, basic, struct_type, enum_type, typedef_name}
+use Rattle.c_tree.specs.Tree.{SpecWords, no_words, more_words, SpecWord, storage, thread, basic, struct_type, enum_type, typedef_name, typeof_value, typeof_type, auto_word}
 use Rattle.c_specs.specs.declared.basic.Base.{Base}
 use Rattle.c_specs.specs.declared.basic.Base.TheVariants as bases
 use Rattle.c_specs.specs.declared.basic.Mark.{Mark}
@@ -16,15 +16,14 @@ use Rattle.c_specs.specs.declared.mix.Class.TheVariants as classes
 use Rattle.c_specs.specs.declared.mix.Mix.{Mix}
 use Rattle.c_specs.specs.declared.storage.Storage.{Storage}
 use Rattle.c_specs.specs.declared.storage.Storage.TheVariants as stores
-use Rattle.c_specs.specs.Basic.{part_of, join, fits, is_whole}
+use Rattle.c_specs.specs.Basic.{part_of, join, marked, fits, is_whole}
 use Rattle.c_specs.specs.Storage.{storing, stored}
 
 abbrev pub fitting : Base → Mark → Option Types
 fitting base mark = if fits base mark then Some (Words base mark) else None
 
 abbrev pub with_mark : Base → Mark → Mark → Option Types
-with_mark base marks.Unmarked new = fitting base new
-with_mark base _ new = None
+with_mark base mark new = option_and_then (fitting base) (marked mark new)
 
 abbrev pub fitting_in : Option Base → Mark → Option Types
 fitting_in None mark = None
@@ -61,6 +60,9 @@ with_word mix (basic w) = with_types mix (with_part mix.types (part_of w.keyword
 with_word mix (struct_type a b c d) = with_types mix (with_named mix.types)
 with_word mix (enum_type e) = with_types mix (with_named mix.types)
 with_word mix (typedef_name n) = with_types mix (with_named mix.types)
+with_word mix (typeof_value a b e c) = with_types mix (with_named mix.types)
+with_word mix (typeof_type a b ws d c) = with_types mix (with_named mix.types)
+with_word mix (auto_word a) = with_types mix (with_named mix.types)
 with_word mix _ = Some mix
 
 -- what a word is in a mix
@@ -71,6 +73,9 @@ class_of (basic w) = classes.Spells w.keyword
 class_of (struct_type a b c d) = classes.Named
 class_of (enum_type e) = classes.Named
 class_of (typedef_name n) = classes.Named
+class_of (typeof_value a b e c) = classes.Named
+class_of (typeof_type a b ws d c) = classes.Named
+class_of (auto_word a) = classes.Named
 class_of _ = classes.Free
 
 abbrev pub with_class : Mix → Class → Option Mix
@@ -123,6 +128,9 @@ is_type_word (basic word) = true
 is_type_word (struct_type word attrs tag body) = true
 is_type_word (enum_type enum) = true
 is_type_word (typedef_name name) = true
+is_type_word (typeof_value keyword opening e closing) = true
+is_type_word (typeof_type word opening ws d closing) = true
+is_type_word (auto_word token) = true
 is_type_word word = false
 
 abbrev pub is_typed : SpecWords → Bool

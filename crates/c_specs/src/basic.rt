@@ -1,7 +1,7 @@
 //! The words of basic types that stand so far (C99, 6.7.2).
 
 ghost use Rattle.std.specs.Prelude.{◌≡◌, Some};
-ghost use Rattle.c_specs.specs.Basic.{part_of, join, fits, is_whole};
+ghost use Rattle.c_specs.specs.Basic.{part_of, join, marked, fits, is_whole};
 ghost use Rattle.c_specs.specs.declared.basic.Base.TheVariants.{Nothing};
 
 use c_words::Keyword;
@@ -27,13 +27,17 @@ pub enum Base {
     LongDouble,
 }
 
-/// A sign, or `_Complex`: no type has two of them.
+/// A sign, or `_Complex`: no type has two of them, but in wider C one of each.
 #[derive(Clone, Copy, PartialEq, Eq, Debug)]
 pub enum Mark {
     Unmarked,
     Signed,
     Unsigned,
     Complex,
+    /// `_Complex` in wider C, which a sign may join.
+    AnyComplex,
+    ComplexSigned,
+    ComplexUnsigned,
 }
 
 /// A word of a basic type that is no sign and not `_Complex`.
@@ -67,6 +71,7 @@ pub(crate) fn part_of(keyword: Keyword) -> Part
         Keyword::Signed => Part::Mark(Mark::Signed),
         Keyword::Unsigned => Part::Mark(Mark::Unsigned),
         Keyword::Complex => Part::Mark(Mark::Complex),
+        Keyword::AnyComplex => Part::Mark(Mark::AnyComplex),
         Keyword::Void => Part::Core(Core::Void),
         Keyword::Bool => Part::Core(Core::Bool),
         Keyword::BaseWord => Part::Core(Core::Alone),
@@ -114,6 +119,22 @@ pub(crate) fn join(base: Base, word: Core) -> Option<Base>
     }
 }
 
+/// One more mark, or none where no type has both.
+pub(crate) fn marked(mark: Mark, new: Mark) -> Option<Mark>
+    ensures { result ≡ marked mark new }
+{
+    match (mark, new) {
+        (Mark::Unmarked, new) => Some(new),
+        (Mark::Signed, Mark::AnyComplex) | (Mark::AnyComplex, Mark::Signed) => Some(
+            Mark::ComplexSigned,
+        ),
+        (Mark::Unsigned, Mark::AnyComplex) | (Mark::AnyComplex, Mark::Unsigned) => Some(
+            Mark::ComplexUnsigned,
+        ),
+        _ => None,
+    }
+}
+
 /// Whether some type has these words and this mark.
 pub(crate) fn fits(base: Base, mark: Mark) -> bool
     ensures { result ≡ fits base mark }
@@ -129,6 +150,16 @@ pub(crate) fn fits(base: Base, mark: Mark) -> bool
         Mark::Complex => match base {
             Base::Nothing | Base::Long => true,
             Base::Float | Base::Double | Base::LongDouble => true,
+            _ => false,
+        },
+        Mark::AnyComplex => match base {
+            Base::Void | Base::Bool | Base::Int128 => false,
+            _ => true,
+        },
+        Mark::ComplexSigned | Mark::ComplexUnsigned => match base {
+            Base::Nothing | Base::Char | Base::Int => true,
+            Base::Short | Base::ShortInt => true,
+            Base::Long | Base::LongInt | Base::LongLong | Base::LongLongInt => true,
             _ => false,
         },
     }

@@ -9,7 +9,7 @@ ghost use Rattle.c_specs.specs.Basic.{part_of};
 ghost use Rattle.c_specs.specs.declared.mix.Mix.{Mix};
 ghost use Rattle.c_specs.specs.Reading.{AreRead, Begins, pushed};
 
-use crate::basic::{Base, Core, Mark, Part, fits, is_whole, join, part_of};
+use crate::basic::{Base, Core, Mark, Part, fits, is_whole, join, marked, part_of};
 use crate::storage::{Storage, stored, storing};
 use c_syntax::SpecWord;
 use c_words::Keyword;
@@ -56,9 +56,9 @@ fn fitting(base: Base, mark: Mark) -> Option<Types>
 fn with_mark(base: Base, mark: Mark, new: Mark) -> Option<Types>
     ensures { result ≡ with_mark base mark new }
 {
-    match mark {
-        Mark::Unmarked => fitting(base, new),
-        _ => None,
+    match marked(mark, new) {
+        Some(mark) => fitting(base, mark),
+        None => None,
     }
 }
 
@@ -183,7 +183,10 @@ pub fn class_of(word: &SpecWord) -> Class
         SpecWord::Thread { .. } => Class::Stores(Keyword::Thread),
         SpecWord::Type(word) => Class::Spells(word.keyword),
         SpecWord::Struct(_) | SpecWord::Enum(_) | SpecWord::TypedefName(_) => Class::Named,
-        _ => Class::Free,
+        SpecWord::Typeof { .. } | SpecWord::TypeofType { .. } => Class::Named,
+        SpecWord::Auto { .. } => Class::Named,
+        SpecWord::Inline { .. } | SpecWord::Noreturn { .. } => Class::Free,
+        SpecWord::Qual(_) | SpecWord::Attr(_) | SpecWord::Align(_) => Class::Free,
     }
 }
 

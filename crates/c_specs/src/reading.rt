@@ -41,7 +41,10 @@ fn word_token(word: &SpecWord) -> TokenId
         SpecWord::Struct(it) => it.keyword.token,
         SpecWord::Enum(it) => it.keyword,
         SpecWord::TypedefName(name) => name.token,
-        SpecWord::Attr(attr) => attr.keyword,
+        SpecWord::Attr(attr) | SpecWord::Align(attr) => attr.keyword,
+        SpecWord::Typeof { keyword, .. } => *keyword,
+        SpecWord::TypeofType { keyword, .. } => keyword.token,
+        SpecWord::Auto { token } => *token,
     }
 }
 

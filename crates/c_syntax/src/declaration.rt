@@ -24,6 +24,15 @@ pub enum Item {
         attrs: Vec<Attr>,
         body: Block,
     },
+    /// `Function = ext* Specs declr Attr* Declaration* Block`, behind a list of identifiers.
+    OldFunction {
+        extensions: Vec<TokenId>,
+        specs: Specs,
+        declr: Box<Declr>,
+        attrs: Vec<Attr>,
+        declarations: Vec<Declaration>,
+        body: Block,
+    },
     Decl(Box<Decl>),
     /// `AsmDecl = asm bal ;`.
     AsmDecl {

@@ -1,7 +1,7 @@
 //! Declarators (C99, 6.7.5), with a name or abstract (6.7.6).
 
 use crate::expression::Expr;
-use crate::parts::{ArrayWord, Attr, Ellipsis, PointerWord};
+use crate::parts::{ArrayWord, Attr, Ellipsis, Identifier, PointerWord};
 use crate::specifier::Specs;
 use qual_base::{NameId, TokenId};
 
@@ -71,6 +71,17 @@ pub enum Declr {
         params: Vec<Param>,
         ellipsis: Option<Ellipsis>,
         close: TokenId,
+    },
+    /// `Params = direct ( Name (, Name)* )`, of a function in the form of before C89.
+    Identifiers {
+        inner: Box<Declr>,
+        open: TokenId,
+        names: Vec<Identifier>,
+        close: TokenId,
+    },
+    /// `DeclName` of a typedef that is a word of a basic type, and declares nothing.
+    BaseName {
+        token: TokenId,
     },
 }
 
@@ -154,6 +165,13 @@ impl Drop for Declr {
                 ellipsis: _ellipsis,
                 close: _close,
             } => {}
+            Declr::Identifiers {
+                inner: _inner,
+                open: _open,
+                names: _names,
+                close: _close,
+            } => {}
+            Declr::BaseName { token: _token } => {}
         }
     }
 }

@@ -272,6 +272,59 @@ pub enum Expr {
         steps: Vec<Desig>,
         close: TokenId,
     },
+    /// `Part = part cast`: the real or the imaginary part, a GNU form.
+    Part {
+        keyword: TokenId,
+        operand: Box<Expr>,
+    },
+    /// `LabelUse = && Name`: a label as a value, a GNU form.
+    LabelUse {
+        token: TokenId,
+        label: Identifier,
+    },
+    /// `Compat = __builtin_types_compatible_p ( TypeName , TypeName )`.
+    Compat {
+        keyword: TokenId,
+        open: TokenId,
+        left: TypeName,
+        comma: TokenId,
+        right: TypeName,
+        close: TokenId,
+    },
+    /// `Choose = __builtin_choose_expr ( assign , assign , assign )`.
+    Choose {
+        keyword: TokenId,
+        open: TokenId,
+        condition: Box<Expr>,
+        comma: TokenId,
+        first: Box<Expr>,
+        second_comma: TokenId,
+        second: Box<Expr>,
+        close: TokenId,
+    },
+    /// `Generic = _Generic ( assign , Assoc (, Assoc)* )` (C11, 6.5.1.1).
+    Generic {
+        keyword: TokenId,
+        open: TokenId,
+        control: Box<Expr>,
+        associations: Vec<Assoc>,
+        close: TokenId,
+    },
+}
+
+/// `Assoc = (TypeName | default) : assign`.
+#[cycle(tree)]
+pub enum Assoc {
+    Typed {
+        type_name: TypeName,
+        colon: TokenId,
+        value: Box<Expr>,
+    },
+    Default {
+        keyword: TokenId,
+        colon: TokenId,
+        value: Box<Expr>,
+    },
 }
 
 impl Drop for Expr {
@@ -493,6 +546,57 @@ impl Drop for Expr {
                 member: _member,
                 steps: _steps,
                 close: _close,
+            } => {}
+            Expr::Part {
+                keyword: _keyword,
+                operand: _operand,
+            } => {}
+            Expr::LabelUse {
+                token: _token,
+                label: _label,
+            } => {}
+            Expr::Compat {
+                keyword: _keyword,
+                open: _open,
+                left: _left,
+                comma: _comma,
+                right: _right,
+                close: _close,
+            } => {}
+            Expr::Choose {
+                keyword: _keyword,
+                open: _open,
+                condition: _condition,
+                comma: _comma,
+                first: _first,
+                second_comma: _second_comma,
+                second: _second,
+                close: _close,
+            } => {}
+            Expr::Generic {
+                keyword: _keyword,
+                open: _open,
+                control: _control,
+                associations: _associations,
+                close: _close,
+            } => {}
+        }
+    }
+}
+
+impl Drop for Assoc {
+    #[cycle(tree)]
+    fn drop(self) {
+        match self {
+            Assoc::Typed {
+                type_name: _type_name,
+                colon: _colon,
+                value: _value,
+            } => {}
+            Assoc::Default {
+                keyword: _keyword,
+                colon: _colon,
+                value: _value,
             } => {}
         }
     }

@@ -20,7 +20,7 @@ pub struct InitList {
     pub close: TokenId,
 }
 
-/// `InitItem = [Desig+ =] init`: the `=` stands where there are designators.
+/// `InitItem = [Desig+ =] init`: the `=` stands where there are designators; in wider C `OldDesig init` too, without it.
 #[cycle(tree)]
 pub struct InitItem {
     pub desigs: Vec<Desig>,
@@ -28,7 +28,7 @@ pub struct InitItem {
     pub init: Init,
 }
 
-/// `Desig = . Name | [ cond ]`.
+/// `Desig = . Name | [ cond ]`, in wider C `[ cond ... cond ]` and `OldDesig = Name :` too.
 ///
 /// The steps of `__builtin_offsetof`, `. Name | [ expr ]`, have this type too, and are no nodes.
 #[cycle(tree)]
@@ -41,6 +41,18 @@ pub enum Desig {
         open: TokenId,
         index: Box<Expr>,
         close: TokenId,
+    },
+    Range {
+        open: TokenId,
+        first: Box<Expr>,
+        dots: TokenId,
+        last: Box<Expr>,
+        close: TokenId,
+    },
+    /// `OldDesig = Name :`, which stands alone.
+    Old {
+        name: Identifier,
+        colon: TokenId,
     },
 }
 
@@ -89,6 +101,17 @@ impl Drop for Desig {
                 open: _open,
                 index: _index,
                 close: _close,
+            } => {}
+            Desig::Range {
+                open: _open,
+                first: _first,
+                dots: _dots,
+                last: _last,
+                close: _close,
+            } => {}
+            Desig::Old {
+                name: _name,
+                colon: _colon,
             } => {}
         }
     }

@@ -20,7 +20,7 @@ mod statement;
 
 pub use declaration::{Decl, Declaration, InitDeclr, Item, Unit};
 pub use declarator::{ArraySize, Declr, Param, TypeName};
-pub use expression::Expr;
+pub use expression::{Assoc, Expr};
 pub use initialiser::{Desig, Init, InitItem, InitList};
 pub use parts::{
     ArrayWord, AsmLabel, Assert, Attr, Braced, BracedList, Ellipsis, Group, Identifier, Listed,

@@ -52,10 +52,11 @@ pub struct Assert {
     pub semi: TokenId,
 }
 
-/// `qual = const | volatile | restrict | Qual | Index` (C99, 6.7.3): the annotation words among them.
+/// `qual = const | volatile | restrict | Qual | Index` (C99, 6.7.3): the annotation words among them. In wider C `_Atomic` and
+/// the named address spaces too.
 #[derive(Clone, Copy, PartialEq, Eq, Debug)]
 pub enum Qual {
-    /// One of `const`, `volatile` and `restrict`.
+    /// One of `const`, `volatile` and `restrict`, in wider C of `_Atomic`, `__seg_fs` and `__seg_gs` too.
     Word(Word),
     /// A `$` word that names an element of a lattice.
     Element { token: TokenId },

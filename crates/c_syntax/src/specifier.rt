@@ -1,6 +1,6 @@
 //! Declaration specifiers (C99, 6.7): storage words, qualifiers, type words, and the types that have a body.
 
-use crate::declarator::Declr;
+use crate::declarator::{Declr, TypeName};
 use crate::expression::Expr;
 use crate::parts::{
     Assert, Attr, Braced, BracedList, Identifier, Listed, Marked, Qual, Semi, Word,
@@ -13,14 +13,21 @@ pub struct Specs {
     pub words: Vec<SpecWord>,
 }
 
-/// `spec = storage | thread | inline | _Noreturn | qual | typeword | Struct | Enum | TypedefName | Attr`.
+/// `spec = storage | thread | inline | _Noreturn | qual | typeword | Struct | Enum | TypedefName | Attr`, and in wider C
+/// `Typeof | TypeofType | AtomicType | Align | __auto_type`.
 #[cycle(tree)]
 pub enum SpecWord {
     /// `typedef`, `extern`, `static`, `auto` or `register`.
     Storage(Word),
-    Thread { token: TokenId },
-    Inline { token: TokenId },
-    Noreturn { token: TokenId },
+    Thread {
+        token: TokenId,
+    },
+    Inline {
+        token: TokenId,
+    },
+    Noreturn {
+        token: TokenId,
+    },
     Qual(Qual),
     /// A word of a basic type, as `unsigned`, `_Complex` or `__int128`.
     Type(Word),
@@ -28,6 +35,26 @@ pub enum SpecWord {
     Enum(Box<Enum>),
     TypedefName(TypedefName),
     Attr(Attr),
+    /// `Typeof = typeof ( expr )`.
+    Typeof {
+        keyword: TokenId,
+        open: TokenId,
+        operand: Box<Expr>,
+        close: TokenId,
+    },
+    /// `TypeofType = typeof ( TypeName )` and `AtomicType = _Atomic ( TypeName )`, by the word.
+    TypeofType {
+        keyword: Word,
+        open: TokenId,
+        type_name: TypeName,
+        close: TokenId,
+    },
+    /// `Align = _Alignas bal`, which says nothing.
+    Align(Attr),
+    /// `__auto_type`, which has the type of the initialiser.
+    Auto {
+        token: TokenId,
+    },
 }
 
 /// `TypedefName`, a name whose kind at its place is a typedef.
@@ -115,6 +142,20 @@ impl Drop for SpecWord {
             SpecWord::Enum(_part) => {}
             SpecWord::TypedefName(_part) => {}
             SpecWord::Attr(_part) => {}
+            SpecWord::Typeof {
+                keyword: _keyword,
+                open: _open,
+                operand: _operand,
+                close: _close,
+            } => {}
+            SpecWord::TypeofType {
+                keyword: _keyword,
+                open: _open,
+                type_name: _type_name,
+                close: _close,
+            } => {}
+            SpecWord::Align(_part) => {}
+            SpecWord::Auto { token: _token } => {}
         }
     }
 }

@@ -13,11 +13,17 @@ pub struct Block {
     pub close: TokenId,
 }
 
-/// `decl | stmt`.
+/// `decl | stmt`, in wider C a `LabelDecl` too, before all others of its block.
 #[cycle(tree)]
 pub enum BlockItem {
     Decl(Box<Decl>),
     Stmt(Box<Stmt>),
+    /// `LabelDecl = __label__ Name (, Name)* ;`.
+    Labels {
+        keyword: TokenId,
+        names: Vec<Identifier>,
+        semi: TokenId,
+    },
 }
 
 /// The nodes of `stmt`.
@@ -129,6 +135,22 @@ pub enum Stmt {
         group: Group,
         semi: TokenId,
     },
+    /// `Case = case cond ... cond : stmt`, a GNU form.
+    CaseRange {
+        keyword: TokenId,
+        first: Box<Expr>,
+        dots: TokenId,
+        last: Box<Expr>,
+        colon: TokenId,
+        body: Box<Stmt>,
+    },
+    /// `GotoValue = goto * expr ;`, a GNU form.
+    GotoValue {
+        keyword: TokenId,
+        star: TokenId,
+        value: Box<Expr>,
+        semi: TokenId,
+    },
 }
 
 /// How a `for` begins: `Declaration | [expr] ;`.
@@ -158,6 +180,11 @@ impl Drop for BlockItem {
         match self {
             BlockItem::Decl(_part) => {}
             BlockItem::Stmt(_part) => {}
+            BlockItem::Labels {
+                keyword: _keyword,
+                names: _names,
+                semi: _semi,
+            } => {}
         }
     }
 }
@@ -255,6 +282,20 @@ impl Drop for Stmt {
                 keyword: _keyword,
                 words: _words,
                 group: _group,
+                semi: _semi,
+            } => {}
+            Stmt::CaseRange {
+                keyword: _keyword,
+                first: _first,
+                dots: _dots,
+                last: _last,
+                colon: _colon,
+                body: _body,
+            } => {}
+            Stmt::GotoValue {
+                keyword: _keyword,
+                star: _star,
+                value: _value,
                 semi: _semi,
             } => {}
         }

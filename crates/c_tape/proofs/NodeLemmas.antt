@@ -1,10 +1,13 @@
 -- The trees of nodes with lists, as `c_tree` has them.
-use Rattle.std.proofs.Common.{◌≡◌, Vec, Box, Option, Global}
+use Rattle.std.proofs.Common.{◌≡◌, ℕ, suc, List, [], ◌∷◌, length, Vec, Box, Option, Global, refl, ap}
 use Rattle.c_syntax.specs.declared.parts.Attr.{Attr}
 use Rattle.c_syntax.specs.declared.parts.Marked.{Marked}
 use Rattle.c_syntax.specs.declared.declaration.Declaration as rust_declaration
 use Rattle.c_syntax.specs.declared.declarator.Declr as rust_declr
+use Rattle.c_syntax.specs.declared.expression.Assoc as rust_assoc
 use Rattle.c_syntax.specs.declared.expression.Expr as rust_expr
+use Rattle.c_syntax.specs.declared.declarator.TypeName as rust_type_name
+use Rattle.c_syntax.specs.declared.parts.Word.{Word}
 use Rattle.c_syntax.specs.declared.initialiser.InitList as rust_init_list
 use Rattle.c_syntax.specs.declared.specifier.Enum as rust_enum
 use Rattle.c_syntax.specs.declared.specifier.MemDeclr as rust_mem_declr
@@ -12,10 +15,13 @@ use Rattle.c_syntax.specs.declared.specifier.Member as rust_member
 use Rattle.c_syntax.specs.declared.specifier.SpecWord as rust_spec_word
 use Rattle.c_syntax.specs.declared.specifier.Struct as rust_struct
 use Rattle.c_syntax.specs.declared.specifier.StructItem as rust_struct_item
+use Rattle.c_syntax.specs.declared.statement.Stmt as rust_stmt
+use Rattle.c_syntax.specs.declared.statement.BlockItem as rust_block_item
 use Rattle.c_tree.specs.Tree as tree
-use Rattle.c_tree.specs.View.{spec_word_of, struct_item_of, mem_declr_of, enum_type_of, declr_of, init_list_of, declaration_of}
+use Rattle.c_tree.specs.View.{stmt_of, block_item_of, assoc_of, expr_of, spec_word_of, struct_item_of, mem_declr_of, enum_type_of, declr_of, init_list_of, declaration_of}
 use Rattle.c_tree.specs.Unit.{spec_words_from}
-use Rattle.c_tree.specs.Lists.{some_body_from, mem_declrs_from, some_value_from, some_enum_body_from, init_items_from, init_declrs_from}
+use Rattle.c_tape.specs.Tape.{assoc_count}
+use Rattle.c_tree.specs.Lists.{assocs_from, some_declr_from, some_body_from, mem_declrs_from, some_value_from, some_enum_body_from, init_items_from, init_declrs_from}
 use Rattle.c_syntax.specs.declared.declaration.Decl.TheViews as views
 use Rattle.c_tree.proofs.ViewLemmas as nodes
 
@@ -42,3 +48,19 @@ enum_is e = nodes.enum_is e
 pub declaration_is : (d : rust_declaration.Declaration) →
     declaration_of d ≡ tree.declaration (views.out-Declaration d).extensions.items (spec_words_from (views.out-Declaration d).specs.words.items) (init_declrs_from (views.out-Declaration d).declrs.items) (views.out-Declaration d).semi
 declaration_is d = nodes.declaration_is d
+
+pub typeof_type_is : (word : Word) (opening : ℕ) (t : rust_type_name.TypeName) (closing : ℕ) →
+    spec_word_of (rust_spec_word.TypeofType word opening t closing) ≡ tree.typeof_type word opening (spec_words_from t.specs.words.items) (some_declr_from t.declr) closing
+typeof_type_is word opening t closing = nodes.typeof_type_is word opening t closing
+
+pub typed_assoc_is : (t : rust_type_name.TypeName) (colon : ℕ) (e : Box rust_expr.Expr Global) →
+    assoc_of (rust_assoc.Typed t colon e) ≡ tree.typed_assoc (spec_words_from t.specs.words.items) (some_declr_from t.declr) colon (expr_of e.value)
+typed_assoc_is t colon e = nodes.typed_assoc_is t colon e
+
+-- associations are as many in the tree
+pub counted : (xs : List rust_assoc.Assoc) → length xs ≡ assoc_count (assocs_from xs)
+counted [] = refl
+counted (x ∷ xs) = ap suc (counted xs)
+
+pub stmt_item_is : (s : Box rust_stmt.Stmt Global) → block_item_of (rust_block_item.Stmt s) ≡ tree.block_stmt (stmt_of s.value)
+stmt_item_is s = refl

@@ -1,5 +1,5 @@
 -- The tapes of parts of nodes, from what a program has of them.
-use Rattle.std.specs.Prelude.{ℕ, false, List, ◌++◌, Option, Box}
+use Rattle.std.specs.Prelude.{ℕ, if◌then◌else◌, false, List, ◌++◌, Option, Box}
 use Rattle.std.specs.Global.{Global}
 use Rattle.c_syntax.specs.declared.declarator.Declr as rust_declr
 use Rattle.c_syntax.specs.declared.expression.Expr as rust_expr
@@ -13,8 +13,8 @@ use Rattle.tape_ops.specs.declared.initialiser.InitOp.TheVariants as inits
 use Rattle.c_tree.specs.Firsts.{first_word}
 use Rattle.tape_ops.specs.declared.declarator.DeclrOp.TheVariants as declrs
 use Rattle.c_tree.specs.Tree.{SpecWords, InitDeclrs}
-use Rattle.c_tape.specs.Tests.{declares_tag}
-use Rattle.c_tape.specs.Tape.{init, declr, specs_with, init_declrs_tape, expr_tape, words_tape, some_declr_tape, type_name_with, init_items_tape, rule_of_items}
+use Rattle.c_tape.specs.Tests.{are_auto, declares_tag}
+use Rattle.c_tape.specs.Tape.{init, declr, specs_with, auto_declrs_tape, old_declrs_tape, init_declrs_tape, expr_tape, words_tape, some_declr_tape, type_name_with, init_items_tape, rule_of_items}
 
 abbrev pub boxed_tape : Box rust_expr.Expr Global → List Op
 boxed_tape e = expr_tape false (expr_of e.value)
@@ -30,5 +30,9 @@ list_rule items = init inits.ListBegin ++ rule_of_items (init_items_from items) 
 abbrev pub literal_tape : ℕ → List rust_init_item.InitItem → List Op
 literal_tape opening items = init inits.Begin ++ init_items_tape (init_items_from items) ++ init (inits.Literal opening) ++ list_rule items ++ init inits.LiteralEnd
 
-abbrev pub declaration_of_parts : SpecWords → InitDeclrs → List Op
-declaration_of_parts words ds = specs_with (words_tape (declares_tag words ds) words) ++ init_declrs_tape ds ++ declr declrs.DeclarationEnd
+abbrev pub declaration_of_parts : ℕ → SpecWords → InitDeclrs → List Op
+declaration_of_parts semi words ds = specs_with (words_tape (declares_tag words ds) words) ++ (if are_auto words ds then auto_declrs_tape semi ds else init_declrs_tape ds) ++ declr declrs.DeclarationEnd
+
+-- the same behind a list of identifiers
+abbrev pub old_declaration_of_parts : ℕ → SpecWords → InitDeclrs → List Op
+old_declaration_of_parts semi words ds = specs_with (words_tape (declares_tag words ds) words) ++ (if are_auto words ds then auto_declrs_tape semi ds else old_declrs_tape ds) ++ declr declrs.DeclarationEnd

@@ -1,16 +1,16 @@
 -- What is left to be put on a tape.
-use Rattle.std.specs.Prelude.{false, List, [], ◌∷◌, ◌++◌, Option, None, Some}
-use Rattle.c_tree.specs.View.{expr_of, declr_of, stmt_of}
+use Rattle.std.specs.Prelude.{false, List, [], ◌∷◌, ◌++◌, map, Option, None, Some}
+use Rattle.c_tree.specs.View.{expr_of, declaration_of, declr_of, stmt_of}
 use Rattle.c_tree.specs.Unit.{spec_words_from, block_items_from}
-use Rattle.c_tree.specs.Lists.{exprs_from, struct_items_from, mem_declrs_from, enumerators_from, params_from, desigs_from, init_items_from, init_declrs_from}
+use Rattle.c_tree.specs.Lists.{assocs_from, exprs_from, struct_items_from, mem_declrs_from, enumerators_from, params_from, desigs_from, init_items_from, init_declrs_from}
 use Rattle.tape_ops.specs.declared.op.Op.{Op}
 use Rattle.c_tape.specs.declared.todo.Task.{Task}
 use Rattle.c_tape.specs.declared.todo.Task.TheVariants as tasks
-use Rattle.c_tape.specs.Tape.{expr_tape, exprs_tape, arguments, steps_tape, words_tape, unnamed_tape, struct_items_tape, mem_declrs_tape, enumerators_tape, contents, pieces, params_tape, pointer_words_tape, array_words_tape, quals_tape, init_items_tape, indices_tape, rule_of_items, desigs_tape, init_declrs_tape, block_items_tape, stmt_tape, items_tape}
+use Rattle.c_tape.specs.Tape.{assocs_tape, auto_declrs_tape, identifiers_tape, old_contents, old_declarations_tape, old_declrs_tape, tape_in, exprs_tape, arguments, steps_tape, words_tape, unnamed_tape, struct_items_tape, mem_declrs_tape, enumerators_tape, contents, pieces, params_tape, pointer_words_tape, array_words_tape, quals_tape, init_items_tape, indices_tape, rule_of_items, desigs_tape, init_declrs_tape, block_items_tape, stmt_tape, items_tape}
 
 abbrev pub task_tape : Task → List Op
 task_tape (tasks.Put op) = op ∷ []
-task_tape (tasks.Expr e called) = expr_tape called (expr_of e.now.value)
+task_tape (tasks.Expr e called aims) = tape_in called aims (expr_of e.now.value)
 task_tape (tasks.Exprs es) = exprs_tape (exprs_from es.now)
 task_tape (tasks.Arguments es) = arguments (exprs_from es.now)
 task_tape (tasks.Steps steps) = steps_tape (desigs_from steps.now)
@@ -33,6 +33,12 @@ task_tape (tasks.InitDeclrs ds) = init_declrs_tape (init_declrs_from ds.now)
 task_tape (tasks.BlockItems items kept) = block_items_tape kept (block_items_from items.now)
 task_tape (tasks.Stmt s) = stmt_tape false (stmt_of s.now.value)
 task_tape (tasks.Items items) = items_tape items.now
+task_tape (tasks.Assocs xs) = assocs_tape (assocs_from xs.now)
+task_tape (tasks.AutoDeclrs ds semi) = auto_declrs_tape semi.now (init_declrs_from ds.now)
+task_tape (tasks.Identifiers names) = identifiers_tape names.now
+task_tape (tasks.OldContents d ds) = old_contents (map declaration_of ds.now) (declr_of d.now.value)
+task_tape (tasks.OldDeclarations ds) = old_declarations_tape (map declaration_of ds.now)
+task_tape (tasks.OldDeclrs ds) = old_declrs_tape (init_declrs_from ds.now)
 
 -- of tasks the last of which comes first
 unfoldable pub pending : List Task → List Op

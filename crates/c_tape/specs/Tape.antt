@@ -1,6 +1,8 @@
 -- The tape of a unit: its nodes in post-order, children in token order.
 --
 -- A line a node. Attributes, `asm`, assertions, labels and jumps have no op, and no token of theirs is in one.
+use Rattle.c_words.specs.declared.kinds.Punct.{Punct}
+use Rattle.c_words.specs.declared.kinds.Punct.TheVariants as signs
 use Rattle.std.specs.Prelude.{ℕ, suc, Bool, true, false, ◌&&◌, if◌then◌else◌, List, [], ◌∷◌, ◌++◌, Option, None, Some, map}
 use Rattle.c_words.specs.declared.kinds.Keyword.TheVariants as keywords
 use Rattle.c_syntax.specs.declared.parts.Identifier.{Identifier}
@@ -26,12 +28,13 @@ use Rattle.tape_ops.specs.declared.declarator.DeclrOp.{DeclrOp}
 use Rattle.tape_ops.specs.declared.declarator.DeclrOp.TheVariants as declrs
 use Rattle.tape_ops.specs.declared.statement.StmtOp.{StmtOp}
 use Rattle.tape_ops.specs.declared.statement.StmtOp.TheVariants as stmts
-use Rattle.c_tree.specs.Tree.{Expr, operation, cast, prefix, sizeof_value, sizeof_type, extension, index, call, dot, arrow, post, compound, name_use, number_use, char_use, text_use, paren, statement_expr, va_arg, va_start, va_copy, offset, Operator, comma, assign, cond, binary, SomeExpr, no_expr, some_expr, Exprs, no_exprs, more_exprs, SpecWords, no_words, more_words, SpecWord, storage, thread, inline_word, noreturn, qualifier, basic, struct_type, enum_type, typedef_name, attribute, SomeBody, no_body, some_body, StructItems, no_struct_items, more_struct_items, StructItem, member, member_semi, member_assert, MemDeclrs, no_mem_declrs, more_mem_declrs, MemDeclr, named, unnamed, SomeValue, no_value, some_value, EnumType, enum_of, SomeEnumBody, no_enum_body, some_enum_body, Enumerators, no_enumerators, more_enumerators, Declr, pointer, declr_name, declr_paren, array, params, abs_pointer, abs_paren, abs_array, abs_params, SomeDeclr, no_declr, some_declr, SomeSize, no_size, some_size, ArraySize, size_value, size_star, Params, no_params, more_params, Init, init_value, init_braced, InitList, init_list, InitItems, no_init_items, more_init_items, Desigs, no_desigs, more_desigs, Desig, member_desig, index_desig, SomeInit, no_init, some_init, InitDeclrs, no_init_declrs, more_init_declrs, Declaration, declaration, Decl, decl_declaration, decl_assert, BlockItems, no_block_items, more_block_items, BlockItem, block_decl, block_stmt, Stmt, block, expr_stmt, attr_stmt, label, case_stmt, default_stmt, if_stmt, switch_stmt, while_stmt, do_stmt, for_stmt, goto_stmt, continue_stmt, break_stmt, return_stmt, asm_stmt, SomeElse, no_else, some_else, ForStart, start_declaration, start_value, Dots}
+use Rattle.c_tree.specs.Addresses.{comes_by_pointer}
+use Rattle.c_tree.specs.Tree.{Expr, operation, cast, prefix, sizeof_value, sizeof_type, extension, index, call, dot, arrow, post, compound, name_use, number_use, char_use, text_use, paren, statement_expr, va_arg, va_start, va_copy, offset, Operator, comma, assign, cond, binary, SomeExpr, no_expr, some_expr, Exprs, no_exprs, more_exprs, SpecWords, no_words, more_words, SpecWord, storage, thread, inline_word, noreturn, qualifier, basic, struct_type, enum_type, typedef_name, attribute, SomeBody, no_body, some_body, StructItems, no_struct_items, more_struct_items, StructItem, member, member_semi, member_assert, MemDeclrs, no_mem_declrs, more_mem_declrs, MemDeclr, named, unnamed, SomeValue, no_value, some_value, EnumType, enum_of, SomeEnumBody, no_enum_body, some_enum_body, Enumerators, no_enumerators, more_enumerators, Declr, pointer, declr_name, declr_paren, array, params, abs_pointer, abs_paren, abs_array, abs_params, SomeDeclr, no_declr, some_declr, SomeSize, no_size, some_size, ArraySize, size_value, size_star, Params, no_params, more_params, Init, init_value, init_braced, InitList, init_list, InitItems, no_init_items, more_init_items, Desigs, no_desigs, more_desigs, Desig, member_desig, index_desig, SomeInit, no_init, some_init, InitDeclrs, no_init_declrs, more_init_declrs, Declaration, declaration, Decl, decl_declaration, decl_assert, BlockItems, no_block_items, more_block_items, BlockItem, block_decl, block_stmt, Stmt, block, expr_stmt, attr_stmt, label, case_stmt, default_stmt, if_stmt, switch_stmt, while_stmt, do_stmt, for_stmt, goto_stmt, continue_stmt, break_stmt, return_stmt, asm_stmt, SomeElse, no_else, some_else, ForStart, start_declaration, start_value, Dots, identifiers, base_name, typeof_value, typeof_type, align, auto_word, complex_part, label_use, compat, choose, generic, Assocs, no_assocs, more_assocs, Assoc, typed_assoc, default_assoc, range_desig, old_desig, block_labels, case_range, goto_value}
 use Rattle.c_syntax.specs.declared.declaration.Item as rust_item
-use Rattle.c_tree.specs.Unit.{item_of, Item, function_item, decl_item, asm_item, semi_item}
+use Rattle.c_tree.specs.Unit.{item_of, Item, function_item, old_function_item, decl_item, asm_item, semi_item}
 use Rattle.c_tree.specs.Ends.{first_token, last_token, first_text}
 use Rattle.c_tree.specs.Firsts.{qual_token, first_word}
-use Rattle.c_tape.specs.Tests.{is_void, tag_kind, says_none, has_ellipsis, declares_tag, is_name, is_end, ends_in_value}
+use Rattle.c_tape.specs.Tests.{is_void, tag_kind, says_none, has_ellipsis, declares_tag, are_auto, is_name, is_end, ends_in_value}
 
 -- a tape of one node
 
@@ -95,6 +98,8 @@ abbrev mutual
   pieces (abs_paren opening attrs d closing) = pieces d
   pieces (abs_array d opening words size closing) = array_words_tape words ++ declr declrs.Array ++ some_pieces d
   pieces (abs_params d opening ps dots closing) = dots_tape dots ++ declr (declrs.Function (has_ellipsis ps dots)) ++ some_pieces d
+  pieces (identifiers d opening names closing) = declr (declrs.Function false) ++ pieces d
+  pieces (base_name token) = []
 
   pub some_pieces : SomeDeclr → List Op
   some_pieces no_declr = []
@@ -105,6 +110,8 @@ abbrev mutual
 abbrev pub desig_tape : Desig → List Op
 desig_tape (member_desig before name) = init (inits.Member name.token name.name)
 desig_tape (index_desig opening e closing) = init (inits.Index opening)
+desig_tape (range_desig opening e dots e2 closing) = init (inits.Index opening)
+desig_tape (old_desig name colon) = init (inits.Member name.token name.name)
 
 abbrev pub desigs_tape : Desigs → List Op
 desigs_tape no_desigs = []
@@ -132,6 +139,10 @@ count (more_exprs e es) = suc (count es)
 abbrev pub arguments : Exprs → List Op
 arguments no_exprs = []
 arguments (more_exprs e es) = expr (exprs.Arg (count es) (first_token e) (last_token e)) ++ arguments es
+
+abbrev pub assoc_count : Assocs → ℕ
+assoc_count no_assocs = 0
+assoc_count (more_assocs x xs) = suc (assoc_count xs)
 
 abbrev pub has_middle : SomeExpr → Bool
 has_middle no_expr = false
@@ -168,6 +179,10 @@ unnamed_word_tape (struct_type word attrs (Some tag) body) = []
 unnamed_word_tape (enum_type e) = []
 unnamed_word_tape (typedef_name name) = []
 unnamed_word_tape (attribute attr) = []
+unnamed_word_tape (typeof_value keyword opening e closing) = []
+unnamed_word_tape (typeof_type word opening ws d closing) = []
+unnamed_word_tape (align attr) = []
+unnamed_word_tape (auto_word token) = []
 
 abbrev pub unnamed_tape : SpecWords → List Op
 unnamed_tape no_words = []
@@ -195,31 +210,51 @@ type_name_with words d first = specs_with words ++ d ++ declr (declrs.TypeName f
 abbrev pub params_with : Bool → Bool → List Op → List Op
 params_with own none tape = declr (declrs.ParamsBegin own) ++ (if none then [] else tape) ++ declr declrs.ParamsEnd
 
+-- an operator before its operand, from the tape of the operand only addressed and from that of it taken: that of `&` is only addressed
+abbrev pub prefix_tape : ℕ → Punct → Expr → Bool → List Op → List Op → List Op
+prefix_tape token signs.Ampersand e aims addressed taken = addressed ++ expr (exprs.Prefix signs.Ampersand token (last_token e) (comes_by_pointer false e))
+prefix_tape token p e aims addressed taken = taken ++ expr (exprs.Prefix p token (last_token e) aims)
+
 abbrev mutual
-  -- an expression; `called`: it stands right before the `(` of a call
-  pub expr_tape : Bool → Expr → List Op
-  expr_tape called (operation a op token b) = expr_tape false a ++ middle_tape op ++ expr_tape false b ++ operator_tape op token (first_token a) (last_token b)
-  expr_tape called (cast opening ws d closing e) = type_name_with (words_tape false ws) (some_declr_tape d) (first_word ws) ++ expr_tape false e ++ form (forms.Cast opening (last_token e))
-  expr_tape called (prefix token p e) = expr_tape false e ++ expr (exprs.Prefix p token (last_token e))
-  expr_tape called (sizeof_value word e) = stmt stmts.Quiet ++ expr_tape false e ++ form (forms.Sizeof word.token)
-  expr_tape called (sizeof_type word opening ws d closing) = stmt stmts.Quiet ++ type_name_with (words_tape false ws) (some_declr_tape d) (first_word ws) ++ form (forms.Sizeof word.token)
-  expr_tape called (extension keyword e) = expr_tape false e ++ expr (exprs.Ext keyword)
-  expr_tape called (index a opening b closing) = expr_tape false a ++ expr_tape false b ++ expr (exprs.Index opening (first_token a) closing)
-  expr_tape called (call f opening es closing) = expr_tape true f ++ exprs_tape es ++ arguments es ++ expr (exprs.Call opening (count es))
-  expr_tape called (dot e token name) = expr_tape false e ++ expr (exprs.Dot token name.token name.name)
-  expr_tape called (arrow e token name) = expr_tape false e ++ expr (exprs.Arrow token (first_token e) name.token) ++ expr (exprs.Dot token name.token name.name)
-  expr_tape called (post e token p) = expr_tape false e ++ expr (exprs.Post p token (first_token e))
-  expr_tape called (compound opening ws d closing list) = type_name_with (words_tape false ws) (some_declr_tape d) (first_word ws) ++ init inits.Begin ++ list_tape list ++ init (inits.Literal opening) ++ rule_of_list list ++ init inits.LiteralEnd
-  expr_tape called (name_use token name) = expr (exprs.Name called token name)
-  expr_tape called (number_use token) = expr (exprs.Number token)
-  expr_tape called (char_use token) = expr (exprs.Char token)
-  expr_tape called (text_use texts) = expr (exprs.Text (first_text texts))
-  expr_tape called (paren opening e closing) = expr_tape false e ++ expr (exprs.Paren opening)
-  expr_tape called (statement_expr opening opening2 items closing closing2) = in_scope (block_items_tape true items) ++ form (forms.StmtExpr (ends_in_value items) opening)
-  expr_tape called (va_arg keyword opening e separator ws d closing) = expr_tape false e ++ type_name_with (words_tape false ws) (some_declr_tape d) (first_word ws) ++ form (forms.VaArg keyword closing)
-  expr_tape called (va_start keyword opening a separator b closing) = expr_tape false a ++ expr_tape false b ++ form (forms.VaStart keyword closing)
-  expr_tape called (va_copy keyword opening a separator b closing) = expr_tape false a ++ expr_tape false b ++ form (forms.VaCopy keyword closing)
-  expr_tape called (offset keyword opening ws d separator name steps closing) = stmt stmts.Quiet ++ type_name_with (words_tape false ws) (some_declr_tape d) (first_word ws) ++ form (forms.OffsetMember name.token name.name) ++ steps_tape steps ++ form (forms.Offset keyword)
+  -- an expression; `called`: it stands right before the `(` of a call; `aims`: its place is only addressed, and so is that of its part
+  -- through parentheses, `__extension__`, parts and members
+  pub tape_in : Bool → Bool → Expr → List Op
+  tape_in called aims (operation a op token b) = tape_in false false a ++ middle_tape op ++ tape_in false false b ++ operator_tape op token (first_token a) (last_token b)
+  tape_in called aims (cast opening ws d closing e) = type_name_with (words_tape false ws) (some_declr_tape d) (first_word ws) ++ tape_in false false e ++ form (forms.Cast opening (last_token e))
+  tape_in called aims (prefix token p e) = prefix_tape token p e aims (tape_in false true e) (tape_in false false e)
+  tape_in called aims (sizeof_value word e) = stmt stmts.Quiet ++ tape_in false false e ++ form (forms.Sizeof word.token)
+  tape_in called aims (sizeof_type word opening ws d closing) = stmt stmts.Quiet ++ type_name_with (words_tape false ws) (some_declr_tape d) (first_word ws) ++ form (forms.Sizeof word.token)
+  tape_in called aims (extension keyword e) = tape_in false aims e ++ expr (exprs.Ext keyword)
+  tape_in called aims (index a opening b closing) = tape_in false false a ++ tape_in false false b ++ expr (exprs.Index opening (first_token a) closing aims)
+  tape_in called aims (call f opening es closing) = tape_in true false f ++ exprs_tape es ++ arguments es ++ expr (exprs.Call opening (count es))
+  tape_in called aims (dot e token name) = tape_in false aims e ++ expr (exprs.Dot token name.token name.name)
+  tape_in called aims (arrow e token name) = tape_in false false e ++ expr (exprs.Arrow token (first_token e) name.token aims) ++ expr (exprs.Dot token name.token name.name)
+  tape_in called aims (post e token p) = tape_in false false e ++ expr (exprs.Post p token (first_token e))
+  tape_in called aims (compound opening ws d closing list) = type_name_with (words_tape false ws) (some_declr_tape d) (first_word ws) ++ init inits.Begin ++ list_tape list ++ init (inits.Literal opening) ++ rule_of_list list ++ init inits.LiteralEnd
+  tape_in called aims (name_use token name) = expr (exprs.Name called token name)
+  tape_in called aims (number_use token) = expr (exprs.Number token)
+  tape_in called aims (char_use token) = expr (exprs.Char token)
+  tape_in called aims (text_use texts) = expr (exprs.Text (first_text texts))
+  tape_in called aims (paren opening e closing) = tape_in false aims e ++ expr (exprs.Paren opening)
+  tape_in called aims (statement_expr opening opening2 items closing closing2) = in_scope (block_items_tape true items) ++ form (forms.StmtExpr (ends_in_value items) opening)
+  tape_in called aims (va_arg keyword opening e separator ws d closing) = tape_in false false e ++ type_name_with (words_tape false ws) (some_declr_tape d) (first_word ws) ++ form (forms.VaArg keyword closing)
+  tape_in called aims (va_start keyword opening a separator b closing) = tape_in false false a ++ tape_in false false b ++ form (forms.VaStart keyword closing)
+  tape_in called aims (va_copy keyword opening a separator b closing) = tape_in false false a ++ tape_in false false b ++ form (forms.VaCopy keyword closing)
+  tape_in called aims (offset keyword opening ws d separator name steps closing) = stmt stmts.Quiet ++ type_name_with (words_tape false ws) (some_declr_tape d) (first_word ws) ++ form (forms.OffsetMember name.token name.name) ++ steps_tape steps ++ form (forms.Offset keyword)
+  tape_in called aims (complex_part keyword e) = tape_in false aims e ++ expr (exprs.Ext keyword)
+  tape_in called aims (label_use token name) = expr (exprs.Label token)
+  tape_in called aims (compat keyword opening ws d separator ws2 d2 closing) = stmt stmts.Quiet ++ type_name_with (words_tape false ws) (some_declr_tape d) (first_word ws) ++ type_name_with (words_tape false ws2) (some_declr_tape d2) (first_word ws2) ++ form (forms.Compat keyword)
+  tape_in called aims (choose keyword opening e separator a separator2 b closing) = quietly (tape_in false false e) ++ tape_in false false a ++ tape_in false false b ++ form (forms.Choose keyword)
+  tape_in called aims (generic keyword opening e xs closing) = stmt stmts.Quiet ++ tape_in false false e ++ form forms.Control ++ assocs_tape xs ++ form (forms.Generic keyword (assoc_count xs))
+
+  pub assocs_tape : Assocs → List Op
+  assocs_tape no_assocs = []
+  assocs_tape (more_assocs x xs) = assoc_tape x ++ assocs_tape xs
+
+  -- an association: its type, or none, and then its expression
+  pub assoc_tape : Assoc → List Op
+  assoc_tape (typed_assoc ws d colon e) = type_name_with (words_tape false ws) (some_declr_tape d) (first_word ws) ++ tape_in false false e
+  assoc_tape (default_assoc keyword colon e) = form forms.NoType ++ tape_in false false e
 
   -- what stands between the operands of `?:`
   pub middle_tape : Operator → List Op
@@ -230,16 +265,16 @@ abbrev mutual
 
   pub some_expr_tape : SomeExpr → List Op
   some_expr_tape no_expr = []
-  some_expr_tape (some_expr e) = expr_tape false e
+  some_expr_tape (some_expr e) = tape_in false false e
 
   pub exprs_tape : Exprs → List Op
   exprs_tape no_exprs = []
-  exprs_tape (more_exprs e es) = expr_tape false e ++ exprs_tape es
+  exprs_tape (more_exprs e es) = tape_in false false e ++ exprs_tape es
 
   -- an expression whose value is dropped
   pub dropped_tape : SomeExpr → List Op
   dropped_tape no_expr = []
-  dropped_tape (some_expr e) = expr_tape false e ++ stmt stmts.Pop
+  dropped_tape (some_expr e) = tape_in false false e ++ stmt stmts.Pop
 
   -- the steps of an offset
   pub steps_tape : Desigs → List Op
@@ -248,7 +283,9 @@ abbrev mutual
 
   pub step_tape : Desig → List Op
   step_tape (member_desig before name) = form (forms.OffsetMember name.token name.name)
-  step_tape (index_desig opening e closing) = expr_tape false e ++ form (forms.OffsetIndex opening)
+  step_tape (index_desig opening e closing) = tape_in false false e ++ form (forms.OffsetIndex opening)
+  step_tape (range_desig opening e dots e2 closing) = tape_in false false e ++ quietly (tape_in false false e2) ++ form (forms.OffsetIndex opening)
+  step_tape (old_desig name colon) = form (forms.OffsetMember name.token name.name)
 
   pub words_tape : Bool → SpecWords → List Op
   words_tape alone no_words = []
@@ -265,6 +302,10 @@ abbrev mutual
   word_tape alone (enum_type e) = enum_tape e
   word_tape alone (typedef_name name) = spec (specs.Typedef name.token name.name)
   word_tape alone (attribute attr) = []
+  word_tape alone (typeof_value keyword opening e closing) = stmt stmts.Quiet ++ spec specs.PartBegin ++ tape_in false false e ++ spec (specs.TypeofEnd closing) ++ stmt stmts.Loud
+  word_tape alone (typeof_type word opening ws d closing) = spec specs.PartBegin ++ type_name_with (words_tape false ws) (some_declr_tape d) (first_word ws) ++ spec specs.TypeEnd
+  word_tape alone (align attr) = []
+  word_tape alone (auto_word token) = []
 
   pub struct_tape : Bool → TagKind → ℕ → Option Identifier → SomeBody → List Op
   struct_tape alone kind keyword tag no_body = tag_tape alone kind tag
@@ -290,11 +331,11 @@ abbrev mutual
 
   pub mem_declr_tape : MemDeclr → List Op
   mem_declr_tape (named d width attrs) = contents false d ++ pieces d ++ declr declrs.Member ++ some_value_tape width
-  mem_declr_tape (unnamed colon e attrs) = quietly (expr_tape false e)
+  mem_declr_tape (unnamed colon e attrs) = quietly (tape_in false false e)
 
   pub some_value_tape : SomeValue → List Op
   some_value_tape no_value = []
-  some_value_tape (some_value token e) = quietly (expr_tape false e)
+  some_value_tape (some_value token e) = quietly (tape_in false false e)
 
   pub enum_tape : EnumType → List Op
   enum_tape (enum_of keyword attrs tag body) = enum_body_tape keyword tag body
@@ -322,6 +363,8 @@ abbrev mutual
   contents own (abs_paren opening attrs d closing) = contents own d
   contents own (abs_array d opening words size closing) = some_contents d ++ some_size_tape size
   contents own (abs_params d opening ps dots closing) = some_contents d ++ params_with false (says_none ps) (params_tape ps)
+  contents own (identifiers d opening names closing) = contents own d ++ declr (declrs.ParamsBegin false) ++ declr declrs.ParamsEnd
+  contents own (base_name token) = []
 
   pub some_contents : SomeDeclr → List Op
   some_contents no_declr = []
@@ -332,7 +375,7 @@ abbrev mutual
   some_size_tape (some_size size) = size_tape size
 
   pub size_tape : ArraySize → List Op
-  size_tape (size_value e) = quietly (expr_tape false e)
+  size_tape (size_value e) = quietly (tape_in false false e)
   size_tape (size_star token) = []
 
   pub params_tape : Params → List Op
@@ -341,7 +384,7 @@ abbrev mutual
 
   -- the expressions of an initialiser
   pub init_tape : Init → List Op
-  init_tape (init_value e) = expr_tape false e
+  init_tape (init_value e) = tape_in false false e
   init_tape (init_braced list) = list_tape list
 
   pub list_tape : InitList → List Op
@@ -357,7 +400,9 @@ abbrev mutual
 
   pub index_tape : Desig → List Op
   index_tape (member_desig before name) = []
-  index_tape (index_desig opening e closing) = quietly (expr_tape false e)
+  index_tape (index_desig opening e closing) = quietly (tape_in false false e)
+  index_tape (range_desig opening e dots e2 closing) = quietly (tape_in false false e) ++ quietly (tape_in false false e2)
+  index_tape (old_desig name colon) = []
 
   -- the initialiser of the name that was declared last
   pub some_init_tape : SomeInit → List Op
@@ -365,7 +410,7 @@ abbrev mutual
   some_init_tape (some_init equal i) = declared_init_tape i
 
   pub declared_init_tape : Init → List Op
-  declared_init_tape (init_value e) = expr_tape false e ++ init (inits.Value (first_token e) (last_token e))
+  declared_init_tape (init_value e) = tape_in false false e ++ init (inits.Value (first_token e) (last_token e))
   declared_init_tape (init_braced list) = init inits.Begin ++ list_tape list ++ init inits.Rule ++ rule_of_list list ++ init inits.End
 
   pub init_declrs_tape : InitDeclrs → List Op
@@ -373,7 +418,17 @@ abbrev mutual
   init_declrs_tape (more_init_declrs attrs d asm_label attrs2 i ds) = contents false d ++ pieces d ++ declr declrs.Declare ++ some_init_tape i ++ init_declrs_tape ds
 
   pub declaration_tape : Declaration → List Op
-  declaration_tape (declaration extensions ws ds semi) = specs_with (words_tape (declares_tag ws ds) ws) ++ init_declrs_tape ds ++ declr declrs.DeclarationEnd
+  declaration_tape (declaration extensions ws ds semi) = specs_with (words_tape (declares_tag ws ds) ws) ++ (if are_auto ws ds then auto_declrs_tape semi ds else init_declrs_tape ds) ++ declr declrs.DeclarationEnd
+
+  -- the declarator of a name that has the type of its initialiser
+  pub auto_declrs_tape : ℕ → InitDeclrs → List Op
+  auto_declrs_tape semi no_init_declrs = []
+  auto_declrs_tape semi (more_init_declrs attrs d asm_label attrs2 i ds) = contents false d ++ auto_init_tape semi i ++ auto_declrs_tape semi ds
+
+  pub auto_init_tape : ℕ → SomeInit → List Op
+  auto_init_tape semi no_init = []
+  auto_init_tape semi (some_init equal (init_value e)) = declr declrs.AutoBegin ++ tape_in false false e ++ declr (declrs.AutoEnd semi) ++ init (inits.Value (first_token e) (last_token e))
+  auto_init_tape semi (some_init equal (init_braced list)) = []
 
   pub decl_tape : Decl → List Op
   decl_tape (decl_declaration d) = declaration_tape d
@@ -387,24 +442,27 @@ abbrev mutual
   pub block_item_tape : Bool → BlockItem → List Op
   block_item_tape kept (block_decl d) = decl_tape d
   block_item_tape kept (block_stmt s) = stmt_tape kept s
+  block_item_tape kept (block_labels keyword names semi) = []
 
   pub stmt_tape : Bool → Stmt → List Op
   stmt_tape kept (block opening items closing) = in_scope (block_items_tape false items)
   stmt_tape kept (expr_stmt e semi) = if kept then some_expr_tape e else dropped_tape e
   stmt_tape kept (attr_stmt attrs semi) = []
   stmt_tape kept (label name colon attrs s) = stmt_tape false s
-  stmt_tape kept (case_stmt keyword e colon s) = quietly (expr_tape false e) ++ stmt_tape false s
+  stmt_tape kept (case_stmt keyword e colon s) = quietly (tape_in false false e) ++ stmt_tape false s
   stmt_tape kept (default_stmt keyword colon s) = stmt_tape false s
-  stmt_tape kept (if_stmt keyword opening e closing s other) = in_scope (expr_tape false e ++ stmt stmts.Pop ++ in_scope (stmt_tape false s) ++ some_else_tape other)
-  stmt_tape kept (switch_stmt keyword opening e closing s) = in_scope (expr_tape false e ++ stmt stmts.Pop ++ in_scope (stmt_tape false s))
-  stmt_tape kept (while_stmt keyword opening e closing s) = in_scope (expr_tape false e ++ stmt stmts.Pop ++ in_scope (stmt_tape false s))
-  stmt_tape kept (do_stmt keyword s keyword2 opening e closing semi) = in_scope (in_scope (stmt_tape false s) ++ expr_tape false e ++ stmt stmts.Pop)
+  stmt_tape kept (if_stmt keyword opening e closing s other) = in_scope (tape_in false false e ++ stmt stmts.Pop ++ in_scope (stmt_tape false s) ++ some_else_tape other)
+  stmt_tape kept (switch_stmt keyword opening e closing s) = in_scope (tape_in false false e ++ stmt stmts.Pop ++ in_scope (stmt_tape false s))
+  stmt_tape kept (while_stmt keyword opening e closing s) = in_scope (tape_in false false e ++ stmt stmts.Pop ++ in_scope (stmt_tape false s))
+  stmt_tape kept (do_stmt keyword s keyword2 opening e closing semi) = in_scope (in_scope (stmt_tape false s) ++ tape_in false false e ++ stmt stmts.Pop)
   stmt_tape kept (for_stmt keyword opening start e semi e2 closing s) = in_scope (for_start_tape start ++ dropped_tape e ++ dropped_tape e2 ++ in_scope (stmt_tape false s))
   stmt_tape kept (goto_stmt keyword name semi) = []
   stmt_tape kept (continue_stmt keyword semi) = []
   stmt_tape kept (break_stmt keyword semi) = []
   stmt_tape kept (return_stmt keyword e semi) = return_tape keyword e semi
   stmt_tape kept (asm_stmt keyword words group semi) = []
+  stmt_tape kept (case_range keyword e dots e2 colon s) = quietly (tape_in false false e) ++ quietly (tape_in false false e2) ++ stmt_tape false s
+  stmt_tape kept (goto_value keyword star e semi) = tape_in false false e ++ stmt stmts.Pop
 
   pub some_else_tape : SomeElse → List Op
   some_else_tape no_else = []
@@ -416,10 +474,51 @@ abbrev mutual
 
   pub return_tape : ℕ → SomeExpr → ℕ → List Op
   return_tape keyword no_expr semi = []
-  return_tape keyword (some_expr e) semi = expr_tape false e ++ stmt (stmts.Return keyword semi)
+  return_tape keyword (some_expr e) semi = tape_in false false e ++ stmt (stmts.Return keyword semi)
+
+-- an expression; `called`: it stands right before the `(` of a call
+abbrev pub expr_tape : Bool → Expr → List Op
+expr_tape called e = tape_in called false e
+
+-- an expression whose place is only addressed
+abbrev pub addressed_tape : Expr → List Op
+addressed_tape e = tape_in false true e
+
+-- identifiers of a list
+abbrev pub identifiers_tape : List Identifier → List Op
+identifiers_tape [] = []
+identifiers_tape (name ∷ names) = declr (declrs.Identifier name.token name.name) ++ identifiers_tape names
+
+-- the declarators of a declaration of parameters
+abbrev pub old_declrs_tape : InitDeclrs → List Op
+old_declrs_tape no_init_declrs = []
+old_declrs_tape (more_init_declrs attrs d asm_label attrs2 i ds) = contents false d ++ pieces d ++ declr declrs.OldParam ++ some_init_tape i ++ old_declrs_tape ds
+
+abbrev pub old_declaration_tape : Declaration → List Op
+old_declaration_tape (declaration extensions ws ds semi) = specs_with (words_tape (declares_tag ws ds) ws) ++ (if are_auto ws ds then auto_declrs_tape semi ds else old_declrs_tape ds) ++ declr declrs.DeclarationEnd
+
+abbrev pub old_declarations_tape : List Declaration → List Op
+old_declarations_tape [] = []
+old_declarations_tape (d ∷ ds) = old_declaration_tape d ++ old_declarations_tape ds
+
+-- a declarator with a list of identifiers: the declarations of these stand where those of parameters do
+abbrev mutual
+  pub old_contents : List Declaration → Declr → List Op
+  old_contents ds (identifiers d opening names closing) = contents false d ++ declr (declrs.ParamsBegin true) ++ identifiers_tape names ++ old_declarations_tape ds ++ declr declrs.ParamsEnd
+  old_contents ds (pointer star words d) = old_contents ds d
+  old_contents ds (declr_paren opening attrs d closing) = old_contents ds d
+  old_contents ds (array d opening words size closing) = old_contents ds d ++ some_size_tape size
+  old_contents ds (params d opening ps dots closing) = old_contents ds d ++ params_with false (says_none ps) (params_tape ps)
+  old_contents ds (declr_name token name) = contents false (declr_name token name)
+  old_contents ds (base_name token) = contents false (base_name token)
+  old_contents ds (abs_pointer star words d) = contents false (abs_pointer star words d)
+  old_contents ds (abs_paren opening attrs d closing) = contents false (abs_paren opening attrs d closing)
+  old_contents ds (abs_array d opening words size closing) = contents false (abs_array d opening words size closing)
+  old_contents ds (abs_params d opening ps dots closing) = contents false (abs_params d opening ps dots closing)
 
 abbrev pub item_tape : Item → List Op
 item_tape (function_item extensions ws d attrs opening items closing) = specs_with (words_tape false ws) ++ contents true d ++ pieces d ++ declr declrs.Declare ++ stmt stmts.FunctionBody ++ block_items_tape false items ++ stmt stmts.FunctionEnd ++ declr declrs.DeclarationEnd
+item_tape (old_function_item extensions ws d attrs ds opening items closing) = specs_with (words_tape false ws) ++ old_contents ds d ++ pieces d ++ declr declrs.Declare ++ stmt stmts.FunctionBody ++ block_items_tape false items ++ stmt stmts.FunctionEnd ++ declr declrs.DeclarationEnd
 item_tape (decl_item d) = decl_tape d
 item_tape (asm_item keyword group semi) = []
 item_tape (semi_item semi) = []

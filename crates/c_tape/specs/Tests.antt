@@ -4,7 +4,8 @@ use Rattle.c_words.specs.declared.kinds.Keyword.{Keyword}
 use Rattle.c_words.specs.declared.kinds.Keyword.TheVariants as keywords
 use Rattle.tape_ops.specs.declared.specifier.TagKind.{TagKind}
 use Rattle.tape_ops.specs.declared.specifier.TagKind.TheVariants as tags
-use Rattle.c_tree.specs.Tree.{SpecWords, no_words, more_words, SpecWord, storage, thread, inline_word, noreturn, qualifier, basic, struct_type, enum_type, typedef_name, attribute, SomeBody, no_body, some_body, Declr, pointer, declr_name, declr_paren, array, params, abs_pointer, abs_paren, abs_array, abs_params, no_declr, some_declr, Params, no_params, more_params, InitDeclrs, no_init_declrs, more_init_declrs, BlockItems, no_block_items, more_block_items, BlockItem, block_decl, block_stmt, Stmt, block, expr_stmt, attr_stmt, label, case_stmt, default_stmt, if_stmt, switch_stmt, while_stmt, do_stmt, for_stmt, goto_stmt, continue_stmt, break_stmt, return_stmt, asm_stmt, SomeExpr, no_expr, some_expr, Dots}
+use Rattle.c_tree.specs.WellFormed.{has_auto}
+use Rattle.c_tree.specs.Tree.{SpecWords, no_words, more_words, SpecWord, storage, thread, inline_word, noreturn, qualifier, basic, struct_type, enum_type, typedef_name, attribute, SomeBody, no_body, some_body, Declr, pointer, declr_name, declr_paren, array, params, abs_pointer, abs_paren, abs_array, abs_params, no_declr, some_declr, Params, no_params, more_params, InitDeclrs, no_init_declrs, more_init_declrs, BlockItems, no_block_items, more_block_items, BlockItem, block_decl, block_stmt, Stmt, block, expr_stmt, attr_stmt, label, case_stmt, default_stmt, if_stmt, switch_stmt, while_stmt, do_stmt, for_stmt, goto_stmt, continue_stmt, break_stmt, return_stmt, asm_stmt, SomeExpr, no_expr, some_expr, Dots, SomeInit, no_init, some_init, init_value, init_braced, typeof_value, typeof_type, align, auto_word, identifiers, base_name, case_range, goto_value, block_labels}
 
 abbrev pub is_void : Keyword → Bool
 is_void keywords.Void = true
@@ -27,6 +28,10 @@ is_bare_word (struct_type word attrs tag body) = false
 is_bare_word (enum_type e) = false
 is_bare_word (typedef_name name) = false
 is_bare_word (attribute attr) = true
+is_bare_word (typeof_value keyword opening e closing) = false
+is_bare_word (typeof_type word opening ws d closing) = false
+is_bare_word (align attr) = true
+is_bare_word (auto_word token) = false
 
 -- `void` alone: with its type, specifiers have no word of another one
 abbrev pub is_bare : SpecWords → Bool
@@ -62,6 +67,10 @@ is_lone_word (struct_type word attrs tag body) = is_bodiless body
 is_lone_word (enum_type e) = false
 is_lone_word (typedef_name name) = false
 is_lone_word (attribute attr) = true
+is_lone_word (typeof_value keyword opening e closing) = false
+is_lone_word (typeof_type word opening ws d closing) = false
+is_lone_word (align attr) = true
+is_lone_word (auto_word token) = false
 
 -- one struct or union without a body, attributes aside: with its type, specifiers have no word of another one
 abbrev pub is_lone : SpecWords → Bool
@@ -84,6 +93,8 @@ is_name (abs_pointer star words d) = false
 is_name (abs_paren opening attrs d closing) = false
 is_name (abs_array d opening words size closing) = false
 is_name (abs_params d opening ps dots closing) = false
+is_name (identifiers d opening names closing) = false
+is_name (base_name token) = false
 
 abbrev pub is_some_expr : SomeExpr → Bool
 is_some_expr no_expr = false
@@ -107,10 +118,13 @@ is_value (continue_stmt keyword semi) = false
 is_value (break_stmt keyword semi) = false
 is_value (return_stmt keyword e semi) = false
 is_value (asm_stmt keyword words group semi) = false
+is_value (case_range keyword e dots e2 colon s) = false
+is_value (goto_value keyword star e semi) = false
 
 abbrev pub is_value_item : BlockItem → Bool
 is_value_item (block_decl d) = false
 is_value_item (block_stmt s) = is_value s
+is_value_item (block_labels keyword names semi) = false
 
 -- whether the last item of a block is an expression statement with an expression
 abbrev pub ends_in_value : BlockItems → Bool
@@ -121,3 +135,18 @@ ends_in_value (more_block_items item (more_block_items item2 items)) = ends_in_v
 abbrev pub is_end : BlockItems → Bool
 is_end no_block_items = true
 is_end (more_block_items item items) = false
+
+abbrev pub has_value : SomeInit → Bool
+has_value no_init = false
+has_value (some_init equal (init_value e)) = true
+has_value (some_init equal (init_braced list)) = false
+
+-- whether each declarator has an initialiser that is no list
+abbrev pub have_values : InitDeclrs → Bool
+have_values no_init_declrs = true
+have_values (more_init_declrs attrs d asm_label attrs2 init ds) = has_value init && have_values ds
+
+-- whether the names of a declaration have the types of their initialisers; without those, as in no well-formed unit, it is one
+-- like any other
+abbrev pub are_auto : SpecWords → InitDeclrs → Bool
+are_auto words ds = has_auto words && have_values ds

@@ -69,7 +69,10 @@ fn pieces_of_some<'a>(d: &'a Option<Box<Declr>>, todo: &mut Todo<'a>) -> Result<
     }
 }
 
-fn some_size<'a>(size: &'a Option<ArraySize>, todo: &mut Todo<'a>) -> Result<(), NoMemory>
+pub(crate) fn some_size<'a>(
+    size: &'a Option<ArraySize>,
+    todo: &mut Todo<'a>,
+) -> Result<(), NoMemory>
     ensures { OnOk result (todo.new ≡ some_size_tape (some_size_from size.now) ++ todo.old) }
 {
     match size {
@@ -92,7 +95,7 @@ fn stated_params<'a>(params: &'a [Param], todo: &mut Todo<'a>) -> Result<(), NoM
 
 /// A list of parameters, and whether it is of a function with a body.
 #[tactic(auto, using(crate::proofs::TodoLemmas::list_assoc))]
-fn parameter_list<'a>(
+pub(crate) fn parameter_list<'a>(
     params: &'a Vec<Param>,
     is_own: bool,
     todo: &mut Todo<'a>,
@@ -126,6 +129,12 @@ pub fn expand_contents<'a>(d: &'a Declr, is_own: bool, todo: &mut Todo<'a>) -> R
             parameter_list(params, is_own && is_name_alone(inner), todo)?;
             todo.contents(inner, is_own)
         }
+        DeclaratorShape::Identifiers { inner, .. } => {
+            todo.declr_op(DeclrOp::ParamsEnd)?;
+            todo.declr_op(DeclrOp::ParamsBegin { is_own: false })?;
+            todo.contents(inner, is_own)
+        }
+        DeclaratorShape::BaseName { .. } => Ok(()),
         DeclaratorShape::AbsPointer { inner, .. } => contents_of_some(inner, todo),
         DeclaratorShape::AbsArray { inner, size, .. } => {
             some_size(size, todo)?;
@@ -153,7 +162,13 @@ pub fn expand_pieces<'a>(d: &'a Declr, todo: &mut Todo<'a>) -> Result<(), NoMemo
     ensures { OnOk result (todo.new ≡ pieces (declr_of d.now) ++ todo.old) }
 {
     match declarator_shape(d) {
-        DeclaratorShape::DeclName { .. } => Ok(()),
+        DeclaratorShape::DeclName { .. } | DeclaratorShape::BaseName { .. } => Ok(()),
+        DeclaratorShape::Identifiers { inner, .. } => {
+            todo.pieces(inner)?;
+            todo.declr_op(DeclrOp::Function {
+                has_ellipsis: false,
+            })
+        }
         DeclaratorShape::DeclParen { inner, .. } => todo.pieces(inner),
         DeclaratorShape::AbsParen { inner, .. } => todo.pieces(inner),
         DeclaratorShape::Pointer { words, inner, .. } => {

@@ -4,18 +4,20 @@ ghost use Rattle.std.specs.Prelude.{◌≡◌, ◌++◌, OnOk, IfOk, true, false
 ghost use Rattle.c_tree.specs.View.{expr_of};
 ghost use Rattle.c_tree.specs.Ends.{first_text, first_token, last_token};
 ghost use Rattle.c_tree.specs.Lists.{exprs_from, some_expr_from};
-ghost use Rattle.c_tape.specs.Tape.{expr, count, has_middle, expr_tape, some_expr_tape, exprs_tape, arguments};
+ghost use Rattle.c_tree.specs.Addresses.{by_star, comes_by_pointer};
+ghost use Rattle.c_tape.specs.Tape.{tape_in, prefix_tape, expr, count, has_middle, expr_tape, some_expr_tape, exprs_tape, arguments};
 ghost use Rattle.c_tape.specs.Parts.{boxed_tape};
 ghost use Rattle.tape_ops.specs.declared.expression.ExprOp.TheVariants as exprs;
 
 use crate::forms::{
-    cast, compound, list_copy, list_start, next_argument, offset, size_of_type, size_of_value,
-    statement_expression,
+    are_compatible, cast, chosen, compound, list_copy, list_start, next_argument, offset, selected,
+    size_of_type, size_of_value, statement_expression,
 };
 use crate::todo::Todo;
 use c_shape::{Between, Shape, shape_of};
 use c_syntax::{Expr, Identifier};
 use c_tree::{first, last};
+use c_words::Punct;
 use qual_base::{NoMemory, Numbered, TokenId};
 use tape_ops::ExprOp;
 
@@ -112,6 +114,21 @@ fn operand_of<'a>(operand: &'a Box<Expr>, op: ExprOp, todo: &mut Todo<'a>) -> Re
     todo.expr(operand)
 }
 
+/// A part of an expression with an op behind it. `is_addressed`: its place is only addressed.
+#[tactic(auto, using(crate::proofs::TodoLemmas::list_assoc))]
+fn part_of<'a>(
+    part: &'a Box<Expr>,
+    is_addressed: bool,
+    op: ExprOp,
+    todo: &mut Todo<'a>,
+) -> Result<(), NoMemory>
+    ensures { OnOk result (todo.new
+        ≡ (tape_in false is_addressed (expr_of part.now.value) ++ expr op) ++ todo.old) }
+{
+    todo.expr_op(op)?;
+    todo.part(part, is_addressed)
+}
+
 /// A call.
 #[tactic(auto, using(crate::proofs::TodoLemmas::list_assoc))]
 fn call<'a>(
@@ -138,11 +155,12 @@ fn member_behind<'a>(
     base: &'a Box<Expr>,
     token: TokenId,
     member: &Identifier,
+    aims: bool,
     todo: &mut Todo<'a>,
 ) -> Result<(), NoMemory>
     ensures { OnOk result (todo.new
         ≡ (boxed_tape base.now
-        ++ expr (exprs.Arrow token (first_token (expr_of base.now.value)) member.now.token)
+        ++ expr (exprs.Arrow token (first_token (expr_of base.now.value)) member.now.token aims)
         ++ expr (exprs.Dot token member.now.token member.now.name)) ++ todo.old) }
 {
     todo.expr_op(ExprOp::Dot {
@@ -154,13 +172,121 @@ fn member_behind<'a>(
         token,
         first: first(base),
         last: member.token,
+        aims,
     })?;
     todo.expr(base)
 }
 
-/// An expression. `is_called`: it stands right before the `(` of a call.
-pub fn expand_expr<'a>(e: &'a Expr, is_called: bool, todo: &mut Todo<'a>) -> Result<(), NoMemory>
-    ensures { OnOk result (todo.new ≡ expr_tape is_called (expr_of e.now) ++ todo.old) }
+fn is_led_to(sign: Punct, is_within: bool) -> bool
+    ensures { result ≡ by_star sign is_within }
+{
+    match sign {
+        Punct::Star => is_within,
+        _ => false,
+    }
+}
+
+/// Whether an operand leads to its place by a pointer, through parentheses, `__extension__`, parts and members alone.
+/// `is_within`: a member is taken of it. Linear in these, and recursive as deep.
+fn comes_by_pointer(e: &Expr, is_within: bool) -> bool
+    ensures { result ≡ comes_by_pointer is_within (expr_of e.now) }
+{
+    match e {
+        Expr::Paren { inner, .. } => comes_by_pointer(inner, is_within),
+        Expr::Ext { operand, .. } | Expr::Part { operand, .. } => {
+            comes_by_pointer(operand, is_within)
+        }
+        Expr::Dot { base, .. } => comes_by_pointer(base, true),
+        Expr::Arrow { .. } => true,
+        Expr::Index { .. } => is_within,
+        Expr::Prefix { sign, .. } => is_led_to(*sign, is_within),
+        Expr::Comma { .. }
+        | Expr::Assign { .. }
+        | Expr::Cond { .. }
+        | Expr::Or { .. }
+        | Expr::And { .. }
+        | Expr::BitOr { .. }
+        | Expr::BitXor { .. }
+        | Expr::BitAnd { .. }
+        | Expr::Equal { .. }
+        | Expr::NotEqual { .. }
+        | Expr::Less { .. }
+        | Expr::Greater { .. }
+        | Expr::LessEqual { .. }
+        | Expr::GreaterEqual { .. }
+        | Expr::ShiftLeft { .. }
+        | Expr::ShiftRight { .. }
+        | Expr::Plus { .. }
+        | Expr::Minus { .. }
+        | Expr::Times { .. }
+        | Expr::Divide { .. }
+        | Expr::Remainder { .. }
+        | Expr::Cast { .. }
+        | Expr::Sizeof { .. }
+        | Expr::SizeofType { .. }
+        | Expr::Call { .. }
+        | Expr::Post { .. }
+        | Expr::Compound { .. }
+        | Expr::NameUse { .. }
+        | Expr::NumberUse { .. }
+        | Expr::CharUse { .. }
+        | Expr::TextUse { .. }
+        | Expr::StmtExpr { .. }
+        | Expr::VaArg { .. }
+        | Expr::VaStart { .. }
+        | Expr::VaCopy { .. }
+        | Expr::Offset { .. }
+        | Expr::LabelUse { .. }
+        | Expr::Compat { .. }
+        | Expr::Choose { .. }
+        | Expr::Generic { .. } => false,
+    }
+}
+
+/// An operator before its operand. `aims`: its place is only addressed. The operand of `&` is only addressed.
+#[tactic(auto, using(crate::proofs::TodoLemmas::list_assoc))]
+fn before_operand<'a>(
+    sign: Punct,
+    token: TokenId,
+    operand: &'a Box<Expr>,
+    aims: bool,
+    todo: &mut Todo<'a>,
+) -> Result<(), NoMemory>
+    ensures { OnOk result (todo.new
+        ≡ prefix_tape token sign (expr_of operand.now.value) aims
+        (tape_in false true (expr_of operand.now.value)) (boxed_tape operand.now) ++ todo.old) }
+{
+    match sign {
+        Punct::Ampersand => {
+            todo.expr_op(ExprOp::Prefix {
+                sign,
+                token,
+                last: last(operand),
+                aims: comes_by_pointer(operand, false),
+            })?;
+            todo.part(operand, true)
+        }
+        _ => {
+            todo.expr_op(ExprOp::Prefix {
+                sign,
+                token,
+                last: last(operand),
+                aims,
+            })?;
+            todo.expr(operand)
+        }
+    }
+}
+
+/// An expression. `is_called`: it stands right before the `(` of a call. `is_addressed`: its place is only addressed.
+pub fn expand_expr<'a>(
+    e: &'a Expr,
+    is_called: bool,
+    is_addressed: bool,
+    todo: &mut Todo<'a>,
+) -> Result<(), NoMemory>
+    ensures { OnOk result
+        (todo.new ≡ tape_in is_called is_addressed (expr_of e.now) ++ todo.old) }
 {
     match shape_of(e) {
         Shape::Operation {
@@ -208,25 +334,16 @@ pub fn expand_expr<'a>(e: &'a Expr, is_called: bool, todo: &mut Todo<'a>) -> Res
             token,
             sign,
             operand,
-        } => {
-            operand_of(
-                operand,
-                ExprOp::Prefix {
-                    sign,
-                    token,
-                    last: last(operand),
-                },
-                todo,
-            )
-        }
+        } => before_operand(sign, token, operand, is_addressed, todo),
         Shape::Sizeof { keyword, operand } => size_of_value(keyword.token, operand, todo),
         Shape::SizeofType {
             keyword,
             type_name: t,
             ..
         } => size_of_type(keyword.token, t.words, t.declr, todo),
-        Shape::Ext { keyword, operand } => operand_of(
+        Shape::Ext { keyword, operand } => part_of(
             operand,
+            is_addressed,
             ExprOp::Ext { token: keyword },
             todo,
         ),
@@ -243,6 +360,7 @@ pub fn expand_expr<'a>(e: &'a Expr, is_called: bool, todo: &mut Todo<'a>) -> Res
                     token: open,
                     first: first(base),
                     last: close,
+                    aims: is_addressed,
                 },
                 todo,
             )
@@ -258,8 +376,9 @@ pub fn expand_expr<'a>(e: &'a Expr, is_called: bool, todo: &mut Todo<'a>) -> Res
             token,
             member,
         } => {
-            operand_of(
+            part_of(
                 base,
+                is_addressed,
                 ExprOp::Dot {
                     token,
                     member: member.token,
@@ -272,7 +391,7 @@ pub fn expand_expr<'a>(e: &'a Expr, is_called: bool, todo: &mut Todo<'a>) -> Res
             base,
             token,
             member,
-        } => member_behind(base, token, &member, todo),
+        } => member_behind(base, token, &member, is_addressed, todo),
         Shape::Post {
             operand,
             token,
@@ -304,7 +423,9 @@ pub fn expand_expr<'a>(e: &'a Expr, is_called: bool, todo: &mut Todo<'a>) -> Res
         Shape::TextUse { texts } => todo.expr_op(ExprOp::Text {
             token: first_of_texts(texts.as_slice()),
         }),
-        Shape::Paren { open, inner, .. } => operand_of(inner, ExprOp::Paren { token: open }, todo),
+        Shape::Paren { open, inner, .. } => {
+            part_of(inner, is_addressed, ExprOp::Paren { token: open }, todo)
+        }
         Shape::StmtExpr { open, items, .. } => statement_expression(open, items, todo),
         Shape::VaArg {
             keyword,
@@ -334,6 +455,41 @@ pub fn expand_expr<'a>(e: &'a Expr, is_called: bool, todo: &mut Todo<'a>) -> Res
             steps,
             ..
         } => { offset(keyword, t.words, t.declr, &member, steps, todo) }
+        Shape::Part { keyword, operand } => part_of(
+            operand,
+            is_addressed,
+            ExprOp::Ext { token: keyword },
+            todo,
+        ),
+        Shape::LabelUse { token, .. } => todo.expr_op(ExprOp::Label { token }),
+        Shape::Compat {
+            keyword,
+            left,
+            right,
+            ..
+        } => {
+            are_compatible(
+                keyword,
+                left.words,
+                left.declr,
+                right.words,
+                right.declr,
+                todo,
+            )
+        },
+        Shape::Choose {
+            keyword,
+            condition,
+            first: left,
+            second: right,
+            ..
+        } => chosen(keyword, condition, left, right, todo),
+        Shape::Generic {
+            keyword,
+            control,
+            associations,
+            ..
+        } => selected(keyword, control, associations, todo),
     }
 }
 
@@ -346,7 +502,7 @@ pub fn expand_exprs<'a>(es: &'a [Expr], todo: &mut Todo<'a>) -> Result<(), NoMem
         None => Ok(()),
         Some((e, rest)) => {
             todo.exprs(rest)?;
-            expand_expr(e, false, todo)
+            expand_expr(e, false, false, todo)
         }
     }
 }

@@ -56,6 +56,12 @@ pub fn expand_indices<'a>(desigs: &'a [Desig], todo: &mut Todo<'a>) -> Result<()
             todo.indices(rest)?;
             todo.quiet(index)
         }
+        Some((Desig::Range { first, last, .. }, rest)) => {
+            todo.indices(rest)?;
+            todo.quiet(last)?;
+            todo.quiet(first)
+        }
+        Some((Desig::Old { .. }, rest)) => todo.indices(rest),
     }
 }
 
@@ -116,7 +122,14 @@ pub fn expand_desigs<'a>(desigs: &'a [Desig], todo: &mut Todo<'a>) -> Result<(),
                 name: name.name,
             })
         }
-        Some((Desig::Index { open, .. }, rest)) => {
+        Some((Desig::Old { name, .. }, rest)) => {
+            todo.desigs(rest)?;
+            todo.init_op(InitOp::Member {
+                token: name.token,
+                name: name.name,
+            })
+        }
+        Some((Desig::Index { open, .. } | Desig::Range { open, .. }, rest)) => {
             todo.desigs(rest)?;
             todo.init_op(InitOp::Index { token: *open })
         }
@@ -136,6 +149,29 @@ pub fn expand_steps<'a>(steps: &'a [Desig], todo: &mut Todo<'a>) -> Result<(), N
                 token: name.token,
                 name: name.name,
             })
+        }
+        Some((Desig::Old { name, .. }, rest)) => {
+            todo.steps(rest)?;
+            todo.form_op(FormOp::OffsetMember {
+                token: name.token,
+                name: name.name,
+            })
+        }
+        Some(
+            (
+                Desig::Range {
+                    open,
+                    first: begin,
+                    last: end,
+                    ..
+                },
+                rest,
+            ),
+        ) => {
+            todo.steps(rest)?;
+            todo.form_op(FormOp::OffsetIndex { token: *open })?;
+            todo.quiet(end)?;
+            todo.expr(begin)
         }
         Some((Desig::Index { open, index, .. }, rest)) => {
             todo.steps(rest)?;

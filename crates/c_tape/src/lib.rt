@@ -10,6 +10,7 @@ mod expression;
 mod forms;
 mod initialiser;
 mod list;
+mod old;
 mod specifier;
 mod statement;
 mod testing;

@@ -6,20 +6,25 @@ ghost use Rattle.c_tree.specs.Lists.{some_body_from, struct_items_from, mem_decl
 ghost use Rattle.c_tree.specs.Tree.{struct_type};
 ghost use Rattle.c_tree.specs.Unit.{spec_words_from};
 ghost use Rattle.c_tape.specs.Tape.{specs_with, words_tape, word_tape, struct_tape, tag_tape, body_tape, unnamed_tape, unnamed_word_tape, struct_items_tape, struct_item_tape, members_tape, mem_declrs_tape, mem_declr_tape, some_value_tape, enum_tape, enum_body_tape, enumerators_tape, declr, contents, pieces};
+ghost use Rattle.c_tape.specs.Parts.{boxed_tape, type_tape};
+ghost use Rattle.c_tape.specs.Tape.{spec, stmt};
 ghost use Rattle.c_tape.specs.Tests.{tag_kind};
+ghost use Rattle.tape_ops.specs.declared.specifier.SpecOp.TheVariants as specs;
+ghost use Rattle.tape_ops.specs.declared.statement.StmtOp.TheVariants as stmts;
 ghost use Rattle.tape_ops.specs.declared.declarator.DeclrOp.TheVariants as declrs_ops;
 
 use crate::declarator::{declarator, specifiers};
+use crate::forms::type_name;
 use crate::testing::kind_of_tag;
 use crate::todo::Todo;
 use c_syntax::{
     BracedList, Declr, Enum, Enumerator, Expr, Identifier, Listed, Marked, MemDeclr, Member,
-    SpecWord, Struct, StructItem,
+    SpecWord, Struct, StructItem, TypeName,
 };
 use c_tree::token_of_qual;
 use c_words::Keyword;
 use qual_base::{NoMemory, TokenId};
-use tape_ops::{DeclrOp, SpecOp, TagKind};
+use tape_ops::{DeclrOp, SpecOp, StmtOp, TagKind};
 
 /// A tag without a body. `is_alone`: it is a declaration by itself.
 fn tag_alone<'a>(
@@ -119,6 +124,34 @@ fn enumeration<'a>(it: &'a Enum, todo: &mut Todo<'a>) -> Result<(), NoMemory>
     enum_parts(it.keyword, &it.tag, &it.body, todo)
 }
 
+/// A type by an expression.
+#[tactic(auto, using(crate::proofs::TodoLemmas::list_assoc))]
+fn typed_by_value<'a>(
+    operand: &'a Box<Expr>,
+    close: TokenId,
+    todo: &mut Todo<'a>,
+) -> Result<(), NoMemory>
+    ensures { OnOk result (todo.new ≡ (stmt stmts.Quiet ++ spec specs.PartBegin
+        ++ boxed_tape operand.now ++ spec (specs.TypeofEnd close) ++ stmt stmts.Loud) ++ todo.old) }
+{
+    todo.stmt_op(StmtOp::Loud)?;
+    todo.spec_op(SpecOp::TypeofEnd { token: close })?;
+    todo.expr(operand)?;
+    todo.spec_op(SpecOp::PartBegin)?;
+    todo.stmt_op(StmtOp::Quiet)
+}
+
+/// A type by the name of a type.
+#[tactic(auto, using(crate::proofs::TodoLemmas::list_assoc))]
+fn typed_by_name<'a>(t: &'a TypeName, todo: &mut Todo<'a>) -> Result<(), NoMemory>
+    ensures { OnOk result (todo.new ≡ (spec specs.PartBegin
+        ++ type_tape t.now.specs.words.items t.now.declr ++ spec specs.TypeEnd) ++ todo.old) }
+{
+    todo.spec_op(SpecOp::TypeEnd)?;
+    type_name(&t.specs.words, &t.declr, todo)?;
+    todo.spec_op(SpecOp::PartBegin)
+}
+
 /// A word of specifiers. `is_alone`: a tag is a declaration by itself.
 fn specifier<'a>(word: &'a SpecWord, is_alone: bool, todo: &mut Todo<'a>) -> Result<(), NoMemory>
     ensures { OnOk result (todo.new ≡ word_tape is_alone (spec_word_of word.now) ++ todo.old) }
@@ -131,6 +164,9 @@ fn specifier<'a>(word: &'a SpecWord, is_alone: bool, todo: &mut Todo<'a>) -> Res
             keyword: Keyword::Inline,
         }),
         SpecWord::Thread { .. } | SpecWord::Noreturn { .. } | SpecWord::Attr(_) => Ok(()),
+        SpecWord::Align(_) | SpecWord::Auto { .. } => Ok(()),
+        SpecWord::Typeof { operand, close, .. } => typed_by_value(operand, *close, todo),
+        SpecWord::TypeofType { type_name: t, .. } => typed_by_name(t, todo),
         SpecWord::Qual(qual) => todo.spec_op(SpecOp::Word {
             token: token_of_qual(qual),
         }),
@@ -190,6 +226,10 @@ fn unnamed_word<'a>(word: &'a SpecWord, todo: &mut Todo<'a>) -> Result<(), NoMem
         | SpecWord::Type(_)
         | SpecWord::Enum(_)
         | SpecWord::TypedefName(_)
+        | SpecWord::Typeof { .. }
+        | SpecWord::TypeofType { .. }
+        | SpecWord::Align(_)
+        | SpecWord::Auto { .. }
         | SpecWord::Attr(_) => Ok(()),
         SpecWord::Struct(it) => unnamed_struct(it, todo),
     }

@@ -116,6 +116,23 @@ fn case<'a>(e: &'a Box<Expr>, body: &'a Box<Stmt>, todo: &mut Todo<'a>) -> Resul
 }
 
 #[tactic(auto, using(crate::proofs::TodoLemmas::list_assoc))]
+fn case_range<'a>(
+    first: &'a Box<Expr>,
+    last: &'a Box<Expr>,
+    body: &'a Box<Stmt>,
+    todo: &mut Todo<'a>,
+) -> Result<(), NoMemory>
+    ensures { OnOk result
+        (todo.new ≡ (quietly (expr_tape false (expr_of first.now.value))
+        ++ quietly (expr_tape false (expr_of last.now.value)) ++ stmt_tape false
+        (stmt_of body.now.value)) ++ todo.old) }
+{
+    todo.stmt(body)?;
+    todo.quiet(last)?;
+    todo.quiet(first)
+}
+
+#[tactic(auto, using(crate::proofs::TodoLemmas::list_assoc))]
 fn choice<'a>(
     e: &'a Box<Expr>,
     body: &'a Box<Stmt>,
@@ -228,6 +245,13 @@ pub fn expand_stmt<'a>(s: &'a Stmt, is_kept: bool, todo: &mut Todo<'a>) -> Resul
         StatementShape::Label { body, .. } => todo.stmt(body),
         StatementShape::Default { body, .. } => todo.stmt(body),
         StatementShape::Case { value, body, .. } => case(value, body, todo),
+        StatementShape::CaseRange {
+            first,
+            last,
+            body,
+            ..
+        } => case_range(first, last, body, todo),
+        StatementShape::GotoValue { value, .. } => condition(value, todo),
         StatementShape::If {
             condition: e,
             body,
@@ -275,6 +299,7 @@ fn block_item<'a>(item: &'a BlockItem, is_kept: bool, todo: &mut Todo<'a>) -> Re
     match item {
         BlockItem::Decl(it) => decl(it, todo),
         BlockItem::Stmt(s) => expand_stmt(s, is_kept, todo),
+        BlockItem::Labels { .. } => Ok(()),
     }
 }
 

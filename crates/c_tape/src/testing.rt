@@ -3,12 +3,15 @@
 ghost use Rattle.std.specs.Prelude.{◌≡◌, option_map, true, false};
 ghost use Rattle.c_tree.specs.View.{declr_of, dots_of, spec_word_of, stmt_of, block_item_of};
 ghost use Rattle.c_tree.specs.Unit.{spec_words_from, block_items_from};
-ghost use Rattle.c_tree.specs.Lists.{params_from, some_declr_from, init_declrs_from};
+ghost use Rattle.c_tree.specs.Lists.{params_from, some_declr_from, init_declrs_from, some_init_from};
 ghost use Rattle.c_tree.specs.Tree.{more_params};
-ghost use Rattle.c_tape.specs.Tests.{is_bare_word, is_bare, says_none, has_ellipsis, is_lone_word, is_lone, declares_tag, is_name, is_value, is_value_item, ends_in_value, is_end, tag_kind};
+ghost use Rattle.c_tree.specs.WellFormed.{is_auto, has_auto};
+ghost use Rattle.c_tape.specs.Tests.{is_bare_word, is_bare, says_none, has_ellipsis, is_lone_word, is_lone, declares_tag, is_name, is_value, is_value_item, ends_in_value, is_end, tag_kind, has_value, have_values, are_auto};
 
 use c_shape::{StatementShape, statement_shape};
-use c_syntax::{BlockItem, Declr, Ellipsis, InitDeclr, Listed, Param, SpecWord, Stmt};
+use c_syntax::{
+    BlockItem, Declr, Ellipsis, Init, InitDeclr, Listed, Marked, Param, SpecWord, Stmt,
+};
 use c_words::Keyword;
 use tape_ops::TagKind;
 
@@ -31,8 +34,14 @@ fn is_bare_one(word: &SpecWord) -> bool
         | SpecWord::Qual(_)
         | SpecWord::Struct(_)
         | SpecWord::Enum(_)
+        | SpecWord::Typeof { .. }
+        | SpecWord::TypeofType { .. }
+        | SpecWord::Auto { .. }
         | SpecWord::TypedefName(_) => false,
-        SpecWord::Inline { .. } | SpecWord::Noreturn { .. } | SpecWord::Attr(_) => true,
+        SpecWord::Inline { .. }
+        | SpecWord::Noreturn { .. }
+        | SpecWord::Attr(_)
+        | SpecWord::Align(_) => true,
         SpecWord::Type(word) => matches!(word.keyword, Keyword::Void),
     }
 }
@@ -93,9 +102,12 @@ fn is_lone_one(word: &SpecWord) -> bool
         | SpecWord::Qual(_)
         | SpecWord::Type(_)
         | SpecWord::Enum(_)
+        | SpecWord::Typeof { .. }
+        | SpecWord::TypeofType { .. }
+        | SpecWord::Auto { .. }
         | SpecWord::TypedefName(_) => false,
         SpecWord::Struct(it) => it.body.is_none(),
-        SpecWord::Attr(_) => true,
+        SpecWord::Attr(_) | SpecWord::Align(_) => true,
     }
 }
 
@@ -133,7 +145,9 @@ pub fn is_name_alone(d: &Declr) -> bool
         | Declr::AbsPointer { .. }
         | Declr::AbsParen { .. }
         | Declr::AbsArray { .. }
-        | Declr::AbsParams { .. } => false,
+        | Declr::AbsParams { .. }
+        | Declr::Identifiers { .. }
+        | Declr::BaseName { .. } => false,
     }
 }
 
@@ -153,6 +167,8 @@ fn is_value_stmt(s: &Stmt) -> bool
         | StatementShape::Do { .. }
         | StatementShape::For { .. }
         | StatementShape::Goto { .. }
+        | StatementShape::CaseRange { .. }
+        | StatementShape::GotoValue { .. }
         | StatementShape::Continue { .. }
         | StatementShape::Break { .. }
         | StatementShape::Return { .. }
@@ -164,7 +180,7 @@ fn is_valued(item: &BlockItem) -> bool
     ensures { result ≡ is_value_item (block_item_of item.now) }
 {
     match item {
-        BlockItem::Decl(_) => false,
+        BlockItem::Decl(_) | BlockItem::Labels { .. } => false,
         BlockItem::Stmt(s) => is_value_stmt(s),
     }
 }
@@ -188,4 +204,67 @@ pub fn is_last(rest: &[BlockItem]) -> bool
         Some(_) => false,
         None => true,
     }
+}
+
+fn is_auto(word: &SpecWord) -> bool
+    ensures { result ≡ is_auto (spec_word_of word.now) }
+{
+    match word {
+        SpecWord::Auto { .. } => true,
+        SpecWord::Storage(_)
+        | SpecWord::Thread { .. }
+        | SpecWord::Inline { .. }
+        | SpecWord::Noreturn { .. }
+        | SpecWord::Qual(_)
+        | SpecWord::Type(_)
+        | SpecWord::Struct(_)
+        | SpecWord::Enum(_)
+        | SpecWord::TypedefName(_)
+        | SpecWord::Attr(_)
+        | SpecWord::Typeof { .. }
+        | SpecWord::TypeofType { .. }
+        | SpecWord::Align(_) => false,
+    }
+}
+
+/// Whether `__auto_type` stands among words. Linear in them.
+fn has_auto(words: &[SpecWord]) -> bool
+    ensures { result ≡ has_auto (spec_words_from words.now) }
+{
+    for word in words {
+        if is_auto(word) {
+            return true;
+        }
+    }
+    false
+}
+
+fn has_value(init: &Option<Marked<Init>>) -> bool
+    ensures { result ≡ has_value (some_init_from init.now) }
+{
+    match init {
+        None => false,
+        Some(init) => match &init.part {
+            Init::Value(_) => true,
+            Init::InitList(_) => false,
+        },
+    }
+}
+
+fn have_values(declrs: &[Listed<InitDeclr>]) -> bool
+    ensures { result ≡ have_values (init_declrs_from declrs.now) }
+{
+    for it in declrs {
+        if !has_value(&it.item.init) {
+            return false;
+        }
+    }
+    true
+}
+
+/// Whether the names of a declaration have the types of their initialisers. Linear in its words and declarators.
+pub fn are_auto(words: &[SpecWord], declrs: &[Listed<InitDeclr>]) -> bool
+    ensures { result ≡ are_auto (spec_words_from words.now) (init_declrs_from declrs.now) }
+{
+    has_auto(words) && have_values(declrs)
 }

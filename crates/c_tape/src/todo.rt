@@ -1,17 +1,18 @@
 //! What is left to be put on a tape.
 
-ghost use Rattle.std.specs.Prelude.{◌≡◌, ◌++◌, [], ◌∷◌, OnOk, true, false};
-ghost use Rattle.c_tree.specs.View.{expr_of, declr_of, stmt_of};
+ghost use Rattle.std.specs.Prelude.{◌≡◌, ◌++◌, [], ◌∷◌, map, OnOk, true, false};
+ghost use Rattle.c_tree.specs.View.{expr_of, declaration_of, declr_of, stmt_of};
 ghost use Rattle.c_tree.specs.Unit.{spec_words_from, block_items_from, item_of};
-ghost use Rattle.c_tree.specs.Lists.{exprs_from, struct_items_from, mem_declrs_from, enumerators_from, params_from, desigs_from, init_items_from, init_declrs_from};
-ghost use Rattle.c_tape.specs.Tape.{expr, form, init, spec, declr, stmt, quietly, expr_tape, exprs_tape, arguments, steps_tape, words_tape, unnamed_tape, struct_items_tape, mem_declrs_tape, enumerators_tape, contents, pieces, params_tape, pointer_words_tape, array_words_tape, quals_tape, init_items_tape, indices_tape, rule_of_items, desigs_tape, init_declrs_tape, block_items_tape, stmt_tape, items_tape};
+ghost use Rattle.c_tree.specs.Lists.{assocs_from, exprs_from, struct_items_from, mem_declrs_from, enumerators_from, params_from, desigs_from, init_items_from, init_declrs_from};
+ghost use Rattle.c_tape.specs.Tape.{assocs_tape, tape_in, auto_declrs_tape, identifiers_tape, old_contents, old_declarations_tape, old_declrs_tape, expr, form, init, spec, declr, stmt, quietly, expr_tape, exprs_tape, arguments, steps_tape, words_tape, unnamed_tape, struct_items_tape, mem_declrs_tape, enumerators_tape, contents, pieces, params_tape, pointer_words_tape, array_words_tape, quals_tape, init_items_tape, indices_tape, rule_of_items, desigs_tape, init_declrs_tape, block_items_tape, stmt_tape, items_tape};
 ghost use Rattle.c_tape.specs.Pending.{pending, next_tape};
 
 use c_syntax::{
-    ArrayWord, BlockItem, Declr, Desig, Enumerator, Expr, InitDeclr, InitItem, Item, Listed,
-    MemDeclr, Param, PointerWord, Qual, SpecWord, Stmt, StructItem,
+    ArrayWord, Assoc, BlockItem, Declaration, Declr, Desig, Enumerator, Expr, Identifier,
+    InitDeclr, InitItem, Item, Listed, MemDeclr, Param, PointerWord, Qual, SpecWord, Stmt,
+    StructItem,
 };
-use qual_base::NoMemory;
+use qual_base::{NoMemory, TokenId};
 use std::alloc::Global;
 use std::marker::Model;
 use tape_ops::{DeclrOp, ExprOp, FormOp, InitOp, Op, SpecOp, StmtOp};
@@ -20,8 +21,8 @@ use tape_ops::{DeclrOp, ExprOp, FormOp, InitOp, Op, SpecOp, StmtOp};
 #[derive(Clone, Copy)]
 pub enum Task<'a> {
     Put(Op),
-    /// An expression, and whether it stands right before the `(` of a call.
-    Expr(&'a Box<Expr>, bool),
+    /// An expression, whether it stands right before the `(` of a call, and whether its place is only addressed.
+    Expr(&'a Box<Expr>, bool, bool),
     Exprs(&'a [Expr]),
     /// The arguments of a call, behind their values.
     Arguments(&'a [Expr]),
@@ -54,6 +55,16 @@ pub enum Task<'a> {
     BlockItems(&'a [BlockItem], bool),
     Stmt(&'a Box<Stmt>),
     Items(&'a [Item]),
+    /// The associations of a selection by a type.
+    Assocs(&'a [Assoc]),
+    /// The declarators of a declaration with `__auto_type` and this `;`.
+    AutoDeclrs(&'a [Listed<InitDeclr>], &'a TokenId),
+    Identifiers(&'a [Identifier]),
+    /// The name, the identifiers, the parameters and the sizes of a declarator of a function with these declarations.
+    OldContents(&'a Box<Declr>, &'a [Declaration]),
+    /// Declarations behind a list of identifiers.
+    OldDeclarations(&'a [Declaration]),
+    OldDeclrs(&'a [Listed<InitDeclr>]),
 }
 
 /// The tasks that are left, the next one last. Clauses see the tape that they are of.
@@ -151,7 +162,19 @@ impl<'a> Todo<'a> {
     pub fn expr(&mut self, e: &'a Box<Expr>) -> Result<(), NoMemory>
         ensures { OnOk result (self.new ≡ expr_tape false (expr_of e.now.value) ++ self.old) }
     {
-        match self.tasks.push(Task::Expr(e, false)) {
+        match self.tasks.push(Task::Expr(e, false, false)) {
+            Ok(()) => Ok(()),
+            Err(_) => Err(NoMemory),
+        }
+    }
+
+    /// An expression, and whether its place is only addressed.
+    #[tactic(auto, using(crate::proofs::TodoLemmas::pending_push))]
+    pub fn part(&mut self, e: &'a Box<Expr>, is_addressed: bool) -> Result<(), NoMemory>
+        ensures { OnOk result
+            (self.new ≡ tape_in false is_addressed (expr_of e.now.value) ++ self.old) }
+    {
+        match self.tasks.push(Task::Expr(e, false, is_addressed)) {
             Ok(()) => Ok(()),
             Err(_) => Err(NoMemory),
         }
@@ -162,7 +185,7 @@ impl<'a> Todo<'a> {
     pub fn callee(&mut self, e: &'a Box<Expr>) -> Result<(), NoMemory>
         ensures { OnOk result (self.new ≡ expr_tape true (expr_of e.now.value) ++ self.old) }
     {
-        match self.tasks.push(Task::Expr(e, true)) {
+        match self.tasks.push(Task::Expr(e, true, false)) {
             Ok(()) => Ok(()),
             Err(_) => Err(NoMemory),
         }
@@ -400,6 +423,79 @@ impl<'a> Todo<'a> {
         ensures { OnOk result (self.new ≡ items_tape items.now ++ self.old) }
     {
         match self.tasks.push(Task::Items(items)) {
+            Ok(()) => Ok(()),
+            Err(_) => Err(NoMemory),
+        }
+    }
+
+    #[tactic(auto, using(crate::proofs::TodoLemmas::pending_push))]
+    pub fn assocs(&mut self, assocs: &'a [Assoc]) -> Result<(), NoMemory>
+        ensures { OnOk result (self.new ≡ assocs_tape (assocs_from assocs.now) ++ self.old) }
+    {
+        match self.tasks.push(Task::Assocs(assocs)) {
+            Ok(()) => Ok(()),
+            Err(_) => Err(NoMemory),
+        }
+    }
+
+    #[tactic(auto, using(crate::proofs::TodoLemmas::pending_push))]
+    pub fn auto_declrs(
+        &mut self,
+        declrs: &'a [Listed<InitDeclr>],
+        semi: &'a TokenId,
+    ) -> Result<(), NoMemory>
+        ensures { OnOk result
+            (self.new ≡ auto_declrs_tape semi.now (init_declrs_from declrs.now) ++ self.old) }
+    {
+        match self.tasks.push(Task::AutoDeclrs(declrs, semi)) {
+            Ok(()) => Ok(()),
+            Err(_) => Err(NoMemory),
+        }
+    }
+
+    #[tactic(auto, using(crate::proofs::TodoLemmas::pending_push))]
+    pub fn identifiers(&mut self, names: &'a [Identifier]) -> Result<(), NoMemory>
+        ensures { OnOk result (self.new ≡ identifiers_tape names.now ++ self.old) }
+    {
+        match self.tasks.push(Task::Identifiers(names)) {
+            Ok(()) => Ok(()),
+            Err(_) => Err(NoMemory),
+        }
+    }
+
+    #[tactic(auto, using(crate::proofs::TodoLemmas::pending_push))]
+    pub fn old_contents(
+        &mut self,
+        d: &'a Box<Declr>,
+        declarations: &'a [Declaration],
+    ) -> Result<(), NoMemory>
+        ensures { OnOk result (self.new
+            ≡ old_contents (map declaration_of declarations.now) (declr_of d.now.value)
+            ++ self.old) }
+    {
+        match self.tasks.push(Task::OldContents(d, declarations)) {
+            Ok(()) => Ok(()),
+            Err(_) => Err(NoMemory),
+        }
+    }
+
+    #[tactic(auto, using(crate::proofs::TodoLemmas::pending_push))]
+    pub fn old_declarations(&mut self, declarations: &'a [Declaration]) -> Result<(), NoMemory>
+        ensures { OnOk result (self.new
+            ≡ old_declarations_tape (map declaration_of declarations.now) ++ self.old) }
+    {
+        match self.tasks.push(Task::OldDeclarations(declarations)) {
+            Ok(()) => Ok(()),
+            Err(_) => Err(NoMemory),
+        }
+    }
+
+    #[tactic(auto, using(crate::proofs::TodoLemmas::pending_push))]
+    pub fn old_declrs(&mut self, declrs: &'a [Listed<InitDeclr>]) -> Result<(), NoMemory>
+        ensures { OnOk result
+            (self.new ≡ old_declrs_tape (init_declrs_from declrs.now) ++ self.old) }
+    {
+        match self.tasks.push(Task::OldDeclrs(declrs)) {
             Ok(()) => Ok(()),
             Err(_) => Err(NoMemory),
         }

@@ -4,16 +4,20 @@ ghost use Rattle.std.specs.Prelude.{◌≡◌, ◌++◌, OnOk, IfOk};
 ghost use Rattle.c_tree.specs.Unit.{item_of, items_of};
 ghost use Rattle.c_tape.specs.Tape.{item_tape, items_tape, tape_of};
 
-use crate::declaration::{decl, expand_init_declrs};
+use crate::declaration::{decl, expand_auto_declrs, expand_init_declrs};
 use crate::declarator::{
     declarator, expand_array_words, expand_contents, expand_params, expand_pieces,
     expand_pointer_words, expand_quals, specifiers,
 };
 use crate::expression::{expand_arguments, expand_expr, expand_exprs};
+use crate::forms::expand_assocs;
 use crate::initialiser::{
     expand_desigs, expand_indices, expand_init_items, expand_rule_items, expand_steps,
 };
 use crate::list::OpList;
+use crate::old::{
+    expand_identifiers, expand_old_contents, expand_old_declarations, expand_old_declrs,
+};
 use crate::specifier::{
     expand_enumerators, expand_mem_declrs, expand_struct_items, expand_unnamed, expand_words,
 };
@@ -44,6 +48,22 @@ fn expand_item<'a>(item: &'a Item, todo: &mut Todo<'a>) -> Result<(), NoMemory>
             declarator(declr, true, todo)?;
             specifiers(&specs.words, false, todo)
         }
+        Item::OldFunction {
+            specs,
+            declr,
+            declarations,
+            body,
+            ..
+        } => {
+            todo.declr_op(DeclrOp::DeclarationEnd)?;
+            todo.stmt_op(StmtOp::FunctionEnd)?;
+            todo.block_items(body.items.as_slice(), false)?;
+            todo.stmt_op(StmtOp::FunctionBody)?;
+            todo.declr_op(DeclrOp::Declare)?;
+            todo.pieces(declr)?;
+            todo.old_contents(declr, declarations.as_slice())?;
+            specifiers(&specs.words, false, todo)
+        }
         Item::Decl(it) => decl(it, todo),
         Item::AsmDecl { .. } | Item::Semi(_) => Ok(()),
     }
@@ -71,7 +91,9 @@ fn turn<'a>(todo: &mut Todo<'a>, out: &mut OpList) -> Result<(), NoMemory>
     match todo.next() {
         None => Ok(()),
         Some(Task::Put(op)) => out.push(op),
-        Some(Task::Expr(e, is_called)) => expand_expr(e, is_called, todo),
+        Some(Task::Expr(e, is_called, is_addressed)) => {
+            expand_expr(e, is_called, is_addressed, todo)
+        }
         Some(Task::Exprs(es)) => expand_exprs(es, todo),
         Some(Task::Arguments(es)) => expand_arguments(es, todo),
         Some(Task::Steps(steps)) => expand_steps(steps, todo),
@@ -94,6 +116,12 @@ fn turn<'a>(todo: &mut Todo<'a>, out: &mut OpList) -> Result<(), NoMemory>
         Some(Task::BlockItems(items, is_kept)) => expand_block_items(items, is_kept, todo),
         Some(Task::Stmt(s)) => expand_stmt(s, false, todo),
         Some(Task::Items(items)) => expand_items(items, todo),
+        Some(Task::Assocs(assocs)) => expand_assocs(assocs, todo),
+        Some(Task::AutoDeclrs(declrs, semi)) => expand_auto_declrs(declrs, semi, todo),
+        Some(Task::Identifiers(names)) => expand_identifiers(names, todo),
+        Some(Task::OldContents(d, declarations)) => expand_old_contents(d, declarations, todo),
+        Some(Task::OldDeclarations(declarations)) => expand_old_declarations(declarations, todo),
+        Some(Task::OldDeclrs(declrs)) => expand_old_declrs(declrs, todo),
     }
 }
 

@@ -16,8 +16,8 @@ use Rattle.c_syntax.specs.declared.parts.ArrayWord.{ArrayWord}
 use Rattle.c_syntax.specs.declared.parts.Qual.TheVariants as quals
 use Rattle.c_syntax.specs.declared.parts.PointerWord.TheVariants as pointer_words
 use Rattle.c_syntax.specs.declared.parts.ArrayWord.TheVariants as array_words
-use Rattle.c_tree.specs.Tree.{Expr, operation, cast, prefix, sizeof_value, sizeof_type, extension, index, call, dot, arrow, post, compound, name_use, number_use, char_use, text_use, paren, statement_expr, va_arg, va_start, va_copy, offset, Operator, comma, assign, cond, binary, SomeExpr, no_expr, some_expr, Exprs, no_exprs, more_exprs, SpecWords, no_words, more_words, SpecWord, storage, thread, inline_word, noreturn, qualifier, basic, struct_type, enum_type, typedef_name, attribute, SomeBody, no_body, some_body, StructItems, no_struct_items, more_struct_items, StructItem, member, member_semi, member_assert, MemDeclrs, no_mem_declrs, more_mem_declrs, MemDeclr, named, unnamed, SomeValue, no_value, some_value, EnumType, enum_of, SomeEnumBody, no_enum_body, some_enum_body, Enumerators, no_enumerators, more_enumerators, Declr, pointer, declr_name, declr_paren, array, params, abs_pointer, abs_paren, abs_array, abs_params, SomeDeclr, no_declr, some_declr, SomeSize, no_size, some_size, ArraySize, size_value, size_star, Params, no_params, more_params, Init, init_value, init_braced, InitList, init_list, InitItems, no_init_items, more_init_items, Desigs, no_desigs, more_desigs, Desig, member_desig, index_desig, SomeInit, no_init, some_init, InitDeclrs, no_init_declrs, more_init_declrs, Declaration, declaration, Decl, decl_declaration, decl_assert, BlockItems, no_block_items, more_block_items, BlockItem, block_decl, block_stmt, Stmt, block, expr_stmt, attr_stmt, label, case_stmt, default_stmt, if_stmt, switch_stmt, while_stmt, do_stmt, for_stmt, goto_stmt, continue_stmt, break_stmt, return_stmt, asm_stmt, SomeElse, no_else, some_else, ForStart, start_declaration, start_value, Dots}
-use Rattle.c_tree.specs.Text.{sign_text, identifier_text, some_sign_text, tag_text, words_text, extensions_text, texts_text, tokens_between, group_text, attr_text, attrs_text, label_text, assert_text, qual_text, quals_text, pointer_words_text, array_words_text, dots_text, expr_text, operator_text, some_expr_text, exprs_text, other_exprs_text, spec_words_text, spec_word_text, some_body_text, struct_items_text, struct_item_text, mem_declrs_text, other_mem_declrs_text, mem_declr_text, some_value_text, enum_type_text, some_enum_body_text, enumerators_text, other_enumerators_text, declr_text, some_declr_text, some_size_text, array_size_text, params_text, other_params_text, init_text, init_list_text, init_items_text, other_init_items_text, desigs_text, desig_text, some_init_text, init_declrs_text, other_init_declrs_text, declaration_text, decl_text, block_items_text, block_item_text, stmt_text, some_else_text, for_start_text}
+use Rattle.c_tree.specs.Tree.{Expr, operation, cast, prefix, sizeof_value, sizeof_type, extension, index, call, dot, arrow, post, compound, name_use, number_use, char_use, text_use, paren, statement_expr, va_arg, va_start, va_copy, offset, complex_part, label_use, compat, choose, generic, Assocs, no_assocs, more_assocs, Assoc, typed_assoc, default_assoc, Operator, comma, assign, cond, binary, SomeExpr, no_expr, some_expr, Exprs, no_exprs, more_exprs, SpecWords, no_words, more_words, SpecWord, storage, thread, inline_word, noreturn, qualifier, basic, struct_type, enum_type, typedef_name, attribute, typeof_value, typeof_type, align, auto_word, SomeBody, no_body, some_body, StructItems, no_struct_items, more_struct_items, StructItem, member, member_semi, member_assert, MemDeclrs, no_mem_declrs, more_mem_declrs, MemDeclr, named, unnamed, SomeValue, no_value, some_value, EnumType, enum_of, SomeEnumBody, no_enum_body, some_enum_body, Enumerators, no_enumerators, more_enumerators, Declr, pointer, declr_name, declr_paren, array, params, abs_pointer, abs_paren, abs_array, abs_params, identifiers, base_name, SomeDeclr, no_declr, some_declr, SomeSize, no_size, some_size, ArraySize, size_value, size_star, Params, no_params, more_params, Init, init_value, init_braced, InitList, init_list, InitItems, no_init_items, more_init_items, Desigs, no_desigs, more_desigs, Desig, member_desig, index_desig, range_desig, old_desig, SomeInit, no_init, some_init, InitDeclrs, no_init_declrs, more_init_declrs, Declaration, declaration, Decl, decl_declaration, decl_assert, BlockItems, no_block_items, more_block_items, BlockItem, block_decl, block_stmt, block_labels, Stmt, block, expr_stmt, attr_stmt, label, case_stmt, default_stmt, if_stmt, switch_stmt, while_stmt, do_stmt, for_stmt, goto_stmt, continue_stmt, break_stmt, return_stmt, asm_stmt, case_range, goto_value, SomeElse, no_else, some_else, ForStart, start_declaration, start_value, Dots}
+use Rattle.c_tree.specs.Text.{sign_text, identifier_text, some_sign_text, tag_text, words_text, extensions_text, texts_text, names_text, other_names_text, tokens_between, group_text, attr_text, attrs_text, label_text, assert_text, qual_text, quals_text, pointer_words_text, array_words_text, dots_text, expr_text, assocs_text, assoc_text, operator_text, some_expr_text, exprs_text, other_exprs_text, spec_words_text, spec_word_text, some_body_text, struct_items_text, struct_item_text, mem_declrs_text, other_mem_declrs_text, mem_declr_text, some_value_text, enum_type_text, some_enum_body_text, enumerators_text, other_enumerators_text, declr_text, some_declr_text, some_size_text, array_size_text, params_text, other_params_text, init_text, init_list_text, init_items_text, other_init_items_text, desigs_text, desig_text, some_init_text, init_declrs_text, other_init_declrs_text, declaration_text, decl_text, block_items_text, block_item_text, stmt_text, some_else_text, for_start_text}
 use Rattle.c_tree.specs.WellFormed.{IsExpr}
 use Rattle.c_tree.specs.Ends.{or_zero, last_text, last_token, list_end, EndsAt}
 
@@ -52,6 +52,14 @@ extensions_end (token ∷ tokens) h = later (extensions_end tokens h)
 texts_end : (tokens : List ℕ) {o k : List Lexeme} → EndsWith o k → EndsWith o (texts_text tokens k)
 texts_end [] h = h
 texts_end (token ∷ tokens) h = later (texts_end tokens h)
+
+other_names_end : (names : List Identifier) {o k : List Lexeme} → EndsWith o k → EndsWith o (other_names_text names k)
+other_names_end [] h = h
+other_names_end (name ∷ names) h = later (later (other_names_end names h))
+
+names_end : (names : List Identifier) {o k : List Lexeme} → EndsWith o k → EndsWith o (names_text names k)
+names_end [] h = h
+names_end (name ∷ names) h = later (other_names_end names h)
 
 last_step : (token next : ℕ) (tokens : List ℕ) → last_text (next ∷ tokens) ≡ last_text (token ∷ next ∷ tokens)
 last_step token next tokens =
@@ -131,6 +139,19 @@ module _ (all : List Lexeme) where
     expr_end (va_start keyword opening e separator e2 closing) h = later (later (expr_end e (later (expr_end e2 (later h)))))
     expr_end (va_copy keyword opening e separator e2 closing) h = later (later (expr_end e (later (expr_end e2 (later h)))))
     expr_end (offset keyword opening ws d separator name steps closing) h = later (later (spec_words_end ws (some_declr_end d (later (later (desigs_end steps (later h)))))))
+    expr_end (complex_part keyword e) h = later (expr_end e h)
+    expr_end (label_use token name) h = later (later h)
+    expr_end (compat keyword opening ws d separator ws2 d2 closing) h = later (later (spec_words_end ws (some_declr_end d (later (spec_words_end ws2 (some_declr_end d2 (later h)))))))
+    expr_end (choose keyword opening e separator e2 separator2 e3 closing) h = later (later (expr_end e (later (expr_end e2 (later (expr_end e3 (later h)))))))
+    expr_end (generic keyword opening e xs closing) h = later (later (expr_end e (assocs_end xs (later h))))
+
+    assocs_end : (x : Assocs) {o k : List Lexeme} → EndsWith o k → EndsWith o (assocs_text all x k)
+    assocs_end no_assocs h = h
+    assocs_end (more_assocs x xs) h = later (assoc_end x (assocs_end xs h))
+
+    assoc_end : (x : Assoc) {o k : List Lexeme} → EndsWith o k → EndsWith o (assoc_text all x k)
+    assoc_end (typed_assoc ws d colon e) h = spec_words_end ws (some_declr_end d (later (expr_end e h)))
+    assoc_end (default_assoc keyword colon e) h = later (later (expr_end e h))
 
     operator_end : (x : Operator) (token : ℕ) {o k : List Lexeme} → EndsWith o k → EndsWith o (operator_text all x token k)
     operator_end comma token h = later h
@@ -165,6 +186,10 @@ module _ (all : List Lexeme) where
     spec_word_end (enum_type enum) h = enum_type_end enum h
     spec_word_end (typedef_name name) h = later h
     spec_word_end (attribute attr) h = attr_end attr h
+    spec_word_end (typeof_value keyword opening e closing) h = later (later (expr_end e (later h)))
+    spec_word_end (typeof_type word opening ws d closing) h = later (later (spec_words_end ws (some_declr_end d (later h))))
+    spec_word_end (align attr) h = later (group_end attr.group h)
+    spec_word_end (auto_word token) h = later h
 
     some_body_end : (x : SomeBody) {o k : List Lexeme} → EndsWith o k → EndsWith o (some_body_text all x k)
     some_body_end no_body h = h
@@ -220,6 +245,8 @@ module _ (all : List Lexeme) where
     declr_end (abs_paren opening attrs d closing) h = later (attrs_end attrs (declr_end d (later h)))
     declr_end (abs_array d opening words size closing) h = some_declr_end d (later (array_words_end words (some_size_end size (later h))))
     declr_end (abs_params d opening ps dots closing) h = some_declr_end d (later (params_end ps (dots_end dots (later h))))
+    declr_end (identifiers d opening names closing) h = declr_end d (later (names_end names (later h)))
+    declr_end (base_name token) h = later h
 
     some_declr_end : (x : SomeDeclr) {o k : List Lexeme} → EndsWith o k → EndsWith o (some_declr_text all x k)
     some_declr_end no_declr h = h
@@ -263,6 +290,8 @@ module _ (all : List Lexeme) where
     desig_end : (x : Desig) {o k : List Lexeme} → EndsWith o k → EndsWith o (desig_text all x k)
     desig_end (member_desig token name) h = later (later h)
     desig_end (index_desig opening e closing) h = later (expr_end e (later h))
+    desig_end (range_desig opening e dots e2 closing) h = later (expr_end e (later (expr_end e2 (later h))))
+    desig_end (old_desig name colon) h = later (later h)
 
     some_init_end : (x : SomeInit) {o k : List Lexeme} → EndsWith o k → EndsWith o (some_init_text all x k)
     some_init_end no_init h = h
@@ -290,6 +319,7 @@ module _ (all : List Lexeme) where
     block_item_end : (x : BlockItem) {o k : List Lexeme} → EndsWith o k → EndsWith o (block_item_text all x k)
     block_item_end (block_decl d) h = decl_end d h
     block_item_end (block_stmt s) h = stmt_end s h
+    block_item_end (block_labels keyword names semi) h = later (names_end names (later h))
 
     stmt_end : (x : Stmt) {o k : List Lexeme} → EndsWith o k → EndsWith o (stmt_text all x k)
     stmt_end (block opening items closing) h = later (block_items_end items (later h))
@@ -308,6 +338,8 @@ module _ (all : List Lexeme) where
     stmt_end (break_stmt keyword semi) h = later (later h)
     stmt_end (return_stmt keyword e semi) h = later (some_expr_end e (later h))
     stmt_end (asm_stmt keyword words group semi) h = later (words_end words (group_end group (later h)))
+    stmt_end (case_range keyword e dots e2 colon s) h = later (expr_end e (later (expr_end e2 (later (stmt_end s h)))))
+    stmt_end (goto_value keyword star e semi) h = later (later (expr_end e (later h)))
 
     some_else_end : (x : SomeElse) {o k : List Lexeme} → EndsWith o k → EndsWith o (some_else_text all x k)
     some_else_end no_else h = h
@@ -350,6 +382,11 @@ module _ (all : List Lexeme) where
   last_is (va_start keyword opening e separator e2 closing) k h = closing_is k CloseParen closing (later (later (expr_end e (later (expr_end e2 whole)))))
   last_is (va_copy keyword opening e separator e2 closing) k h = closing_is k CloseParen closing (later (later (expr_end e (later (expr_end e2 whole)))))
   last_is (offset keyword opening ws d separator name steps closing) k h = closing_is k CloseParen closing (later (later (spec_words_end ws (some_declr_end d (later (later (desigs_end steps whole)))))))
+  last_is (complex_part keyword e) k h = let l = last_is e k h.0 in (l.0, l.1, later l.2)
+  last_is (label_use token name) k h = name_is k name (later whole)
+  last_is (compat keyword opening ws d separator ws2 d2 closing) k h = closing_is k CloseParen closing (later (later (spec_words_end ws (some_declr_end d (later (spec_words_end ws2 (some_declr_end d2 whole)))))))
+  last_is (choose keyword opening e separator e2 separator2 e3 closing) k h = closing_is k CloseParen closing (later (later (expr_end e (later (expr_end e2 (later (expr_end e3 whole)))))))
+  last_is (generic keyword opening e xs closing) k h = closing_is k CloseParen closing (later (later (expr_end e (assocs_end xs whole))))
 
   pub last_ends : (e : Expr) (k : List Lexeme) → IsExpr all e → EndsAt (expr_text all e k) (last_token e) k
   last_ends e k h =

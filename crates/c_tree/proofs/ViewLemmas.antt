@@ -20,6 +20,7 @@ use Rattle.c_syntax.specs.declared.declarator.ArraySize as rust_array_size
 use Rattle.c_syntax.specs.declared.declarator.Declr as rust_declr
 use Rattle.c_syntax.specs.declared.declarator.Param as rust_param
 use Rattle.c_syntax.specs.declared.declarator.TypeName as rust_type_name
+use Rattle.c_syntax.specs.declared.expression.Assoc as rust_assoc
 use Rattle.c_syntax.specs.declared.expression.Expr as rust_expr
 use Rattle.c_syntax.specs.declared.initialiser.Desig as rust_desig
 use Rattle.c_syntax.specs.declared.initialiser.InitItem as rust_init_item
@@ -37,9 +38,9 @@ use Rattle.c_syntax.specs.declared.statement.BlockItem as rust_block_item
 use Rattle.c_syntax.specs.declared.statement.ForStart as rust_for_start
 use Rattle.c_syntax.specs.declared.statement.Stmt as rust_stmt
 use Rattle.c_tree.specs.Tree as tree
-use Rattle.c_tree.specs.View.{dots_of, expr_of, some_expr_of, exprs_of, spec_words_of, spec_word_of, some_body_of, struct_items_of, struct_item_of, mem_declrs_of, mem_declr_of, some_value_of, enum_type_of, some_enum_body_of, enumerators_of, declr_of, some_declr_of, some_size_of, params_of, init_of, init_list_of, init_items_of, desigs_of, desig_of, init_declrs_of, declaration_of, block_items_of, block_item_of, stmt_of, some_else_of, for_start_of}
+use Rattle.c_tree.specs.View.{dots_of, expr_of, some_expr_of, exprs_of, assocs_of, assoc_of, spec_words_of, spec_word_of, some_body_of, struct_items_of, struct_item_of, mem_declrs_of, mem_declr_of, some_value_of, enum_type_of, some_enum_body_of, enumerators_of, declr_of, some_declr_of, some_size_of, params_of, init_of, init_list_of, init_items_of, desigs_of, desig_of, init_declrs_of, declaration_of, block_items_of, block_item_of, stmt_of, some_else_of, for_start_of}
 use Rattle.c_tree.specs.Unit.{spec_words_from, block_items_from}
-use Rattle.c_tree.specs.Lists.{exprs_from, some_expr_from, struct_items_from, some_body_from, mem_declrs_from, some_value_from, enumerators_from, some_enum_body_from, some_declr_from, some_size_from, params_from, desigs_from, init_items_from, init_declrs_from, some_else_from}
+use Rattle.c_tree.specs.Lists.{exprs_from, assocs_from, some_expr_from, struct_items_from, some_body_from, mem_declrs_from, some_value_from, enumerators_from, some_enum_body_from, some_declr_from, some_size_from, params_from, desigs_from, init_items_from, init_declrs_from, some_else_from}
 
 both : {A B C : Type 0} (f : A → B → C) {a a2 : A} {b b2 : B} → a ≡ a2 → b ≡ b2 → f a b ≡ f a2 b2
 both f h k = rw (h, k) refl
@@ -47,6 +48,10 @@ both f h k = rw (h, k) refl
 exprs_row : (n : Count) (row : rust_expr.Row_of-Expr n) → exprs_of row ≡ exprs_from (rust_expr.items-the_row-Expr n row)
 exprs_row n rust_expr.end_of-Expr = refl
 exprs_row n (rust_expr.more_of-Expr e rest) = ap (λ (es : tree.Exprs). tree.more_exprs (expr_of e) es) (exprs_row _ rest)
+
+assocs_row : (n : Count) (row : rust_expr.Row_of-Assoc n) → assocs_of row ≡ assocs_from (rust_expr.items-the_row-Assoc n row)
+assocs_row n rust_expr.end_of-Assoc = refl
+assocs_row n (rust_expr.more_of-Assoc x rest) = ap (λ (xs : tree.Assocs). tree.more_assocs (assoc_of x) xs) (assocs_row _ rest)
 
 words_row : (n : Count) (row : rust_specs.Row_of-SpecWord n) → spec_words_of row ≡ spec_words_from (rust_specs.items-the_row-SpecWord n row)
 words_row n rust_specs.end_of-SpecWord = refl
@@ -115,17 +120,20 @@ block_items_hidden v = block_items_row _ (rows.hidden-the_row-BlockItem-3 v) ∙
 desigs_hidden : (v : Vec rust_desig.Desig Global) → desigs_of (rows.hidden-the_row-Desig-4 v) ≡ desigs_from v.items
 desigs_hidden v = desigs_row _ (rows.hidden-the_row-Desig-4 v) ∙ ap desigs_from (rows.items_hidden-the_row-Desig-4 v)
 
-struct_items_hidden : (v : Vec rust_struct_item.StructItem Global) → struct_items_of (rows.hidden-the_row-StructItem-5 v) ≡ struct_items_from v.items
-struct_items_hidden v = struct_items_row _ (rows.hidden-the_row-StructItem-5 v) ∙ ap struct_items_from (rows.items_hidden-the_row-StructItem-5 v)
+assocs_hidden : (v : Vec rust_assoc.Assoc Global) → assocs_of (rows.hidden-the_row-Assoc-5 v) ≡ assocs_from v.items
+assocs_hidden v = assocs_row _ (rows.hidden-the_row-Assoc-5 v) ∙ ap assocs_from (rows.items_hidden-the_row-Assoc-5 v)
 
-mem_declrs_hidden : (v : Vec (Listed rust_mem_declr.MemDeclr) Global) → mem_declrs_of (rows.hidden-the_row-Member-declrs-2-6 v) ≡ mem_declrs_from v.items
-mem_declrs_hidden v = mem_declrs_row _ (rows.hidden-the_row-Member-declrs-2-6 v) ∙ ap mem_declrs_from (rows.items_hidden-the_row-Member-declrs-2-6 v)
+struct_items_hidden : (v : Vec rust_struct_item.StructItem Global) → struct_items_of (rows.hidden-the_row-StructItem-6 v) ≡ struct_items_from v.items
+struct_items_hidden v = struct_items_row _ (rows.hidden-the_row-StructItem-6 v) ∙ ap struct_items_from (rows.items_hidden-the_row-StructItem-6 v)
 
-init_items_hidden : (v : Vec rust_init_item.InitItem Global) → init_items_of (rows.hidden-the_row-InitItem-8 v) ≡ init_items_from v.items
-init_items_hidden v = init_items_row _ (rows.hidden-the_row-InitItem-8 v) ∙ ap init_items_from (rows.items_hidden-the_row-InitItem-8 v)
+mem_declrs_hidden : (v : Vec (Listed rust_mem_declr.MemDeclr) Global) → mem_declrs_of (rows.hidden-the_row-Member-declrs-2-7 v) ≡ mem_declrs_from v.items
+mem_declrs_hidden v = mem_declrs_row _ (rows.hidden-the_row-Member-declrs-2-7 v) ∙ ap mem_declrs_from (rows.items_hidden-the_row-Member-declrs-2-7 v)
 
-enumerators_hidden : (v : Vec rust_enumerator.Enumerator Global) → enumerators_of (rows.hidden-the_row-Enumerator-9 v) ≡ enumerators_from v.items
-enumerators_hidden v = enumerators_row _ (rows.hidden-the_row-Enumerator-9 v) ∙ ap enumerators_from (rows.items_hidden-the_row-Enumerator-9 v)
+init_items_hidden : (v : Vec rust_init_item.InitItem Global) → init_items_of (rows.hidden-the_row-InitItem-9 v) ≡ init_items_from v.items
+init_items_hidden v = init_items_row _ (rows.hidden-the_row-InitItem-9 v) ∙ ap init_items_from (rows.items_hidden-the_row-InitItem-9 v)
+
+enumerators_hidden : (v : Vec rust_enumerator.Enumerator Global) → enumerators_of (rows.hidden-the_row-Enumerator-10 v) ≡ enumerators_from v.items
+enumerators_hidden v = enumerators_row _ (rows.hidden-the_row-Enumerator-10 v) ∙ ap enumerators_from (rows.items_hidden-the_row-Enumerator-10 v)
 
 -- what is held of an `Option`
 expr_held : (e : Option (Box rust_expr.Expr Global)) → some_expr_of (rows.back-Expr-Cond-2 e) ≡ some_expr_from e
@@ -155,7 +163,7 @@ else_held (Some other) = refl
 enum_body_shown : (body : rust_enum.Held-Enum-body) → some_enum_body_of body ≡ some_enum_body_from (rows.view-Enum-body body)
 enum_body_shown rust_enum.Enum-body-None' = refl
 enum_body_shown (rust_enum.Enum-body-Some' opening m items last closing) =
-    ap (λ (items : tree.Enumerators). tree.some_enum_body opening items last closing) (enumerators_row _ items ∙ ap enumerators_from (sym (rows.items_shown-the_row-Enumerator-9 m items)))
+    ap (λ (items : tree.Enumerators). tree.some_enum_body opening items last closing) (enumerators_row _ items ∙ ap enumerators_from (sym (rows.items_shown-the_row-Enumerator-10 m items)))
 
 pub cond_is : (condition : Box rust_expr.Expr Global) (question : ℕ) (middle : Option (Box rust_expr.Expr Global)) (colon : ℕ) (otherwise : Box rust_expr.Expr Global) →
     expr_of (rust_expr.Cond condition question middle colon otherwise) ≡ tree.operation (expr_of condition.value) (tree.cond (some_expr_from middle) colon) question (expr_of otherwise.value)
@@ -191,6 +199,25 @@ pub offset_is : (keyword opening : ℕ) (t : rust_type_name.TypeName) (separator
 offset_is keyword opening t separator name steps closing =
     both (λ (ws : tree.SpecWords) (d : tree.SomeDeclr). tree.offset keyword opening ws d separator name (desigs_of (rows.hidden-the_row-Desig-4 steps)) closing) (words_hidden t.specs.words) (declr_held t.declr) ∙
     ap (λ (ds : tree.Desigs). tree.offset keyword opening (spec_words_from t.specs.words.items) (some_declr_from t.declr) separator name ds closing) (desigs_hidden steps)
+
+pub compat_is : (keyword opening : ℕ) (t : rust_type_name.TypeName) (separator : ℕ) (t2 : rust_type_name.TypeName) (closing : ℕ) →
+    expr_of (rust_expr.Compat keyword opening t separator t2 closing) ≡
+    tree.compat keyword opening (spec_words_from t.specs.words.items) (some_declr_from t.declr) separator (spec_words_from t2.specs.words.items) (some_declr_from t2.declr) closing
+compat_is keyword opening t separator t2 closing =
+    both (λ (ws : tree.SpecWords) (d : tree.SomeDeclr). tree.compat keyword opening ws d separator (spec_words_of (rows.hidden-the_row-SpecWord-0 t2.specs.words)) (some_declr_of (rows.back-Declr-AbsPointer-2 t2.declr)) closing) (words_hidden t.specs.words) (declr_held t.declr) ∙
+    both (λ (ws : tree.SpecWords) (d : tree.SomeDeclr). tree.compat keyword opening (spec_words_from t.specs.words.items) (some_declr_from t.declr) separator ws d closing) (words_hidden t2.specs.words) (declr_held t2.declr)
+
+pub generic_is : (keyword opening : ℕ) (e : Box rust_expr.Expr Global) (xs : Vec rust_assoc.Assoc Global) (closing : ℕ) →
+    expr_of (rust_expr.Generic keyword opening e xs closing) ≡ tree.generic keyword opening (expr_of e.value) (assocs_from xs.items) closing
+generic_is keyword opening e xs closing = ap (λ (xs : tree.Assocs). tree.generic keyword opening (expr_of e.value) xs closing) (assocs_hidden xs)
+
+pub typed_assoc_is : (t : rust_type_name.TypeName) (colon : ℕ) (e : Box rust_expr.Expr Global) →
+    assoc_of (rust_assoc.Typed t colon e) ≡ tree.typed_assoc (spec_words_from t.specs.words.items) (some_declr_from t.declr) colon (expr_of e.value)
+typed_assoc_is t colon e = both (λ (ws : tree.SpecWords) (d : tree.SomeDeclr). tree.typed_assoc ws d colon (expr_of e.value)) (words_hidden t.specs.words) (declr_held t.declr)
+
+pub typeof_type_is : (word : Word) (opening : ℕ) (t : rust_type_name.TypeName) (closing : ℕ) →
+    spec_word_of (rust_spec_word.TypeofType word opening t closing) ≡ tree.typeof_type word opening (spec_words_from t.specs.words.items) (some_declr_from t.declr) closing
+typeof_type_is word opening t closing = both (λ (ws : tree.SpecWords) (d : tree.SomeDeclr). tree.typeof_type word opening ws d closing) (words_hidden t.specs.words) (declr_held t.declr)
 
 pub struct_is : (s : Box rust_struct.Struct Global) → spec_word_of (rust_spec_word.Struct s) ≡ tree.struct_type s.value.keyword s.value.attrs.items s.value.tag (some_body_from s.value.body)
 struct_is s = ap (λ (body : tree.SomeBody). tree.struct_type s.value.keyword s.value.attrs.items s.value.tag body) (body_held s.value.body)
@@ -230,13 +257,13 @@ pub init_list_is : (list : rust_init_list.InitList) →
     init_list_of list ≡ tree.init_list (views.out-InitList list).«open» (init_items_from (views.out-InitList list).items.items) (views.out-InitList list).comma (views.out-InitList list).close
 unfolding views.out-InitList denote.Hole.Carrier.out
 init_list_is (rust_init_list.InitList' opening m items last closing) =
-    ap (λ (items : tree.InitItems). tree.init_list opening items last closing) (init_items_row _ items ∙ ap init_items_from (sym (rows.items_shown-the_row-InitItem-8 m items)))
+    ap (λ (items : tree.InitItems). tree.init_list opening items last closing) (init_items_row _ items ∙ ap init_items_from (sym (rows.items_shown-the_row-InitItem-9 m items)))
 
 pub declaration_is : (d : rust_declaration.Declaration) → declaration_of d ≡
     tree.declaration (views.out-Declaration d).extensions.items (spec_words_from (views.out-Declaration d).specs.words.items) (init_declrs_from (views.out-Declaration d).declrs.items) (views.out-Declaration d).semi
 unfolding views.out-Declaration denote.Hole.Carrier.out
 declaration_is (rust_declaration.Declaration' exts m ws n ds semi) =
-    both (λ (ws : tree.SpecWords) (ds : tree.InitDeclrs). tree.declaration exts.items ws ds semi) (words_shown m ws) (init_declrs_row _ ds ∙ ap init_declrs_from (sym (rows.items_shown-the_row-Declaration-declrs-2-7 n ds)))
+    both (λ (ws : tree.SpecWords) (ds : tree.InitDeclrs). tree.declaration exts.items ws ds semi) (words_shown m ws) (init_declrs_row _ ds ∙ ap init_declrs_from (sym (rows.items_shown-the_row-Declaration-declrs-2-8 n ds)))
 
 pub block_is : (block : rust_block.Block) → stmt_of (rust_stmt.Block block) ≡ tree.block block.«open» (block_items_from block.items.items) block.close
 block_is block = ap (λ (items : tree.BlockItems). tree.block block.«open» items block.close) (block_items_hidden block.items)

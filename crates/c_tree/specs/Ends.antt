@@ -1,7 +1,7 @@
 -- The first and the last token of an expression, and the token that it is known by.
 use Rattle.std.specs.Prelude.{◌≡◌, ℕ, ◌-◌, List, [], ◌∷◌, ◌++◌, length, slice_get, Option, None, Some}
 use Rattle.c_tree.specs.declared.lexeme.Lexeme.{Lexeme}
-use Rattle.c_tree.specs.Tree.{Expr, operation, cast, prefix, sizeof_value, sizeof_type, extension, index, call, dot, arrow, post, compound, name_use, number_use, char_use, text_use, paren, statement_expr, va_arg, va_start, va_copy, offset, InitList, init_list}
+use Rattle.c_tree.specs.Tree.{Expr, operation, cast, prefix, sizeof_value, sizeof_type, extension, index, call, dot, arrow, post, compound, name_use, number_use, char_use, text_use, paren, statement_expr, va_arg, va_start, va_copy, offset, InitList, init_list, complex_part, label_use, compat, choose, generic}
 use Rattle.c_tree.specs.Text.{expr_text}
 use Rattle.c_tree.specs.WellFormed.{IsExpr}
 
@@ -40,6 +40,11 @@ first_token (va_arg keyword opening e separator ws d closing) = keyword
 first_token (va_start keyword opening e separator e2 closing) = keyword
 first_token (va_copy keyword opening e separator e2 closing) = keyword
 first_token (offset keyword opening ws d separator name steps closing) = keyword
+first_token (complex_part keyword e) = keyword
+first_token (label_use token name) = token
+first_token (compat keyword opening ws d separator ws2 d2 closing) = keyword
+first_token (choose keyword opening e separator e2 separator2 e3 closing) = keyword
+first_token (generic keyword opening e xs closing) = keyword
 
 abbrev pub list_end : InitList → ℕ
 list_end (init_list opening items last closing) = closing
@@ -67,6 +72,11 @@ last_token (va_arg keyword opening e separator ws d closing) = closing
 last_token (va_start keyword opening e separator e2 closing) = closing
 last_token (va_copy keyword opening e separator e2 closing) = closing
 last_token (offset keyword opening ws d separator name steps closing) = closing
+last_token (complex_part keyword e) = last_token e
+last_token (label_use token name) = name.token
+last_token (compat keyword opening ws d separator ws2 d2 closing) = closing
+last_token (choose keyword opening e separator e2 separator2 e3 closing) = closing
+last_token (generic keyword opening e xs closing) = closing
 
 -- the operator of an operation or a prefix, `++` or `--` behind an operand, `.` or `->`, `[` of an index, `(` of a call,
 -- and else the first token

@@ -3,7 +3,7 @@ use Rattle.std.specs.Prelude.{ℕ, List, [], ◌∷◌}
 use Rattle.c_syntax.specs.declared.parts.Qual.{Qual}
 use Rattle.c_syntax.specs.declared.parts.Qual.TheVariants as quals
 use Rattle.c_syntax.specs.declared.parts.Attr.{Attr}
-use Rattle.c_tree.specs.Tree.{SpecWords, no_words, more_words, SpecWord, storage, thread, inline_word, noreturn, qualifier, basic, struct_type, enum_type, typedef_name, attribute, EnumType, enum_of, SomeExpr, no_expr, some_expr, Init, init_value, init_braced, InitList, init_list, Stmt, block, expr_stmt, attr_stmt, label, case_stmt, default_stmt, if_stmt, switch_stmt, while_stmt, do_stmt, for_stmt, goto_stmt, continue_stmt, break_stmt, return_stmt, asm_stmt}
+use Rattle.c_tree.specs.Tree.{SpecWords, no_words, more_words, SpecWord, storage, thread, inline_word, noreturn, qualifier, basic, struct_type, enum_type, typedef_name, attribute, EnumType, enum_of, SomeExpr, no_expr, some_expr, Init, init_value, init_braced, InitList, init_list, Stmt, block, expr_stmt, attr_stmt, label, case_stmt, default_stmt, if_stmt, switch_stmt, while_stmt, do_stmt, for_stmt, goto_stmt, continue_stmt, break_stmt, return_stmt, asm_stmt, typeof_value, typeof_type, align, auto_word, case_range, goto_value}
 use Rattle.c_tree.specs.Ends.{first_token}
 
 abbrev pub qual_token : Qual → ℕ
@@ -25,6 +25,10 @@ word_token (struct_type word attrs tag body) = word.token
 word_token (enum_type e) = enum_token e
 word_token (typedef_name name) = name.token
 word_token (attribute attr) = attr.keyword
+word_token (typeof_value keyword opening e closing) = keyword
+word_token (typeof_type word opening ws d closing) = word.token
+word_token (align attr) = attr.keyword
+word_token (auto_word token) = token
 
 -- of specifiers and of a type name that begins with them; token 0 where there is no word, as in no well formed unit
 abbrev pub first_word : SpecWords → ℕ
@@ -65,3 +69,5 @@ stmt_start (continue_stmt keyword semi) = keyword
 stmt_start (break_stmt keyword semi) = keyword
 stmt_start (return_stmt keyword e semi) = keyword
 stmt_start (asm_stmt keyword words group semi) = keyword
+stmt_start (case_range keyword e dots e2 colon s) = keyword
+stmt_start (goto_value keyword star e semi) = keyword

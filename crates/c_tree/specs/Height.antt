@@ -4,7 +4,7 @@ use Rattle.c_syntax.specs.declared.parts.Attr.{Attr}
 use Rattle.c_syntax.specs.declared.parts.PointerWord.{PointerWord}
 use Rattle.c_syntax.specs.declared.parts.AsmLabel.{AsmLabel}
 use Rattle.c_syntax.specs.declared.parts.PointerWord.TheVariants as pointer_words
-use Rattle.c_tree.specs.Tree.{Expr, operation, cast, prefix, sizeof_value, sizeof_type, extension, index, call, dot, arrow, post, compound, name_use, number_use, char_use, text_use, paren, statement_expr, va_arg, va_start, va_copy, offset, Operator, comma, assign, cond, binary, SomeExpr, no_expr, some_expr, Exprs, no_exprs, more_exprs, SpecWords, no_words, more_words, SpecWord, storage, thread, inline_word, noreturn, qualifier, basic, struct_type, enum_type, typedef_name, attribute, SomeBody, no_body, some_body, StructItems, no_struct_items, more_struct_items, StructItem, member, member_semi, member_assert, MemDeclrs, no_mem_declrs, more_mem_declrs, MemDeclr, named, unnamed, SomeValue, no_value, some_value, EnumType, enum_of, SomeEnumBody, no_enum_body, some_enum_body, Enumerators, no_enumerators, more_enumerators, Declr, pointer, declr_name, declr_paren, array, params, abs_pointer, abs_paren, abs_array, abs_params, SomeDeclr, no_declr, some_declr, SomeSize, no_size, some_size, ArraySize, size_value, size_star, Params, no_params, more_params, Init, init_value, init_braced, InitList, init_list, InitItems, no_init_items, more_init_items, Desigs, no_desigs, more_desigs, Desig, member_desig, index_desig, SomeInit, no_init, some_init, InitDeclrs, no_init_declrs, more_init_declrs, Declaration, declaration, Decl, decl_declaration, decl_assert, BlockItems, no_block_items, more_block_items, BlockItem, block_decl, block_stmt, Stmt, block, expr_stmt, attr_stmt, label, case_stmt, default_stmt, if_stmt, switch_stmt, while_stmt, do_stmt, for_stmt, goto_stmt, continue_stmt, break_stmt, return_stmt, asm_stmt, SomeElse, no_else, some_else, ForStart, start_declaration, start_value}
+use Rattle.c_tree.specs.Tree.{Expr, operation, cast, prefix, sizeof_value, sizeof_type, extension, index, call, dot, arrow, post, compound, name_use, number_use, char_use, text_use, paren, statement_expr, va_arg, va_start, va_copy, offset, Operator, comma, assign, cond, binary, SomeExpr, no_expr, some_expr, Exprs, no_exprs, more_exprs, SpecWords, no_words, more_words, SpecWord, storage, thread, inline_word, noreturn, qualifier, basic, struct_type, enum_type, typedef_name, attribute, SomeBody, no_body, some_body, StructItems, no_struct_items, more_struct_items, StructItem, member, member_semi, member_assert, MemDeclrs, no_mem_declrs, more_mem_declrs, MemDeclr, named, unnamed, SomeValue, no_value, some_value, EnumType, enum_of, SomeEnumBody, no_enum_body, some_enum_body, Enumerators, no_enumerators, more_enumerators, Declr, pointer, declr_name, declr_paren, array, params, abs_pointer, abs_paren, abs_array, abs_params, SomeDeclr, no_declr, some_declr, SomeSize, no_size, some_size, ArraySize, size_value, size_star, Params, no_params, more_params, Init, init_value, init_braced, InitList, init_list, InitItems, no_init_items, more_init_items, Desigs, no_desigs, more_desigs, Desig, member_desig, index_desig, SomeInit, no_init, some_init, InitDeclrs, no_init_declrs, more_init_declrs, Declaration, declaration, Decl, decl_declaration, decl_assert, BlockItems, no_block_items, more_block_items, BlockItem, block_decl, block_stmt, Stmt, block, expr_stmt, attr_stmt, label, case_stmt, default_stmt, if_stmt, switch_stmt, while_stmt, do_stmt, for_stmt, goto_stmt, continue_stmt, break_stmt, return_stmt, asm_stmt, SomeElse, no_else, some_else, ForStart, start_declaration, start_value, complex_part, label_use, compat, choose, generic, Assocs, no_assocs, more_assocs, Assoc, typed_assoc, default_assoc, typeof_value, typeof_type, align, auto_word, identifiers, base_name, range_desig, old_desig, block_labels, case_range, goto_value}
 
 abbrev pub attrs_height : List Attr → ℕ
 attrs_height [] = 0
@@ -43,6 +43,19 @@ abbrev mutual
   expr_height (va_start keyword opening e separator e2 closing) = max (expr_height e) (expr_height e2) + 1
   expr_height (va_copy keyword opening e separator e2 closing) = max (expr_height e) (expr_height e2) + 1
   expr_height (offset keyword opening ws d separator name steps closing) = max (max (specs_height ws) (some_declr_height d) + 1) (steps_height steps) + 1
+  expr_height (complex_part keyword e) = expr_height e + 1
+  expr_height (label_use token name) = 1
+  expr_height (compat keyword opening ws d separator ws2 d2 closing) = max (max (specs_height ws) (some_declr_height d) + 1) (max (specs_height ws2) (some_declr_height d2) + 1) + 1
+  expr_height (choose keyword opening e separator e2 separator2 e3 closing) = max (expr_height e) (max (expr_height e2) (expr_height e3)) + 1
+  expr_height (generic keyword opening e xs closing) = max (expr_height e) (assocs_height xs) + 1
+
+  pub assocs_height : Assocs → ℕ
+  assocs_height no_assocs = 0
+  assocs_height (more_assocs x xs) = max (assoc_height x) (assocs_height xs)
+
+  pub assoc_height : Assoc → ℕ
+  assoc_height (typed_assoc ws d colon e) = max (max (specs_height ws) (some_declr_height d) + 1) (expr_height e) + 1
+  assoc_height (default_assoc keyword colon e) = expr_height e + 1
 
   pub operator_height : Operator → ℕ
   operator_height comma = 0
@@ -73,6 +86,11 @@ abbrev mutual
   spec_word_height (enum_type enum) = enum_type_height enum
   spec_word_height (typedef_name name) = 1
   spec_word_height (attribute attr) = 1
+  spec_word_height (typeof_value keyword opening e closing) = expr_height e + 1
+  spec_word_height (typeof_type word opening ws d closing) = max (specs_height ws) (some_declr_height d) + 1 + 1
+  spec_word_height (align attr) = 1
+  -- as high as the name that stands behind it
+  spec_word_height (auto_word token) = 1
 
   pub some_body_height : SomeBody → ℕ
   some_body_height no_body = 0
@@ -120,6 +138,8 @@ abbrev mutual
   declr_height (abs_paren opening attrs d closing) = max (attrs_height attrs) (declr_height d) + 1
   declr_height (abs_array d opening words size closing) = max (some_declr_height d) (some_size_height size) + 1
   declr_height (abs_params d opening ps dots closing) = max (some_declr_height d) (params_height ps) + 1
+  declr_height (identifiers d opening names closing) = declr_height d + 1
+  declr_height (base_name token) = 1
 
   pub some_declr_height : SomeDeclr → ℕ
   some_declr_height no_declr = 0
@@ -160,10 +180,14 @@ abbrev mutual
   pub step_height : Desig → ℕ
   step_height (member_desig token name) = 0
   step_height (index_desig opening e closing) = expr_height e
+  step_height (range_desig opening e dots e2 closing) = max (expr_height e) (expr_height e2)
+  step_height (old_desig name colon) = 0
 
   pub desig_height : Desig → ℕ
   desig_height (member_desig token name) = 1
   desig_height (index_desig opening e closing) = expr_height e + 1
+  desig_height (range_desig opening e dots e2 closing) = max (expr_height e) (expr_height e2) + 1
+  desig_height (old_desig name colon) = 1
 
   pub some_init_height : SomeInit → ℕ
   some_init_height no_init = 0
@@ -187,6 +211,7 @@ abbrev mutual
   pub block_item_height : BlockItem → ℕ
   block_item_height (block_decl d) = decl_height d
   block_item_height (block_stmt s) = stmt_height s
+  block_item_height (block_labels keyword names semi) = 1
 
   pub stmt_height : Stmt → ℕ
   stmt_height (block opening items closing) = block_height items
@@ -205,6 +230,8 @@ abbrev mutual
   stmt_height (break_stmt keyword semi) = 1
   stmt_height (return_stmt keyword e semi) = some_expr_height e + 1
   stmt_height (asm_stmt keyword words group semi) = 1
+  stmt_height (case_range keyword e dots e2 colon s) = max (max (expr_height e) (expr_height e2)) (stmt_height s) + 1
+  stmt_height (goto_value keyword star e semi) = expr_height e + 1
 
   pub some_else_height : SomeElse → ℕ
   some_else_height no_else = 0

@@ -5,7 +5,7 @@
 use Rattle.std.specs.Prelude.{◌≡◌, ℕ, ◌+◌, ◌≤◌, Bool, true, false}
 use Rattle.c_words.specs.declared.kinds.Punct.{Punct}
 use Rattle.c_words.specs.declared.kinds.Punct.TheVariants.{BarBar, AmpersandAmpersand, Bar, Caret, Ampersand, EqualEqual, BangEqual, Less, Greater, LessEqual, GreaterEqual, ShiftLeft, ShiftRight, Plus, Minus, Star, Slash, Percent, Equal, StarEqual, SlashEqual, PercentEqual, PlusEqual, MinusEqual, ShiftLeftEqual, ShiftRightEqual, AmpersandEqual, CaretEqual, BarEqual}
-use Rattle.c_tree.specs.Tree.{Expr, operation, cast, prefix, sizeof_value, sizeof_type, extension, index, call, dot, arrow, post, compound, Operator, comma, assign, cond, binary}
+use Rattle.c_tree.specs.Tree.{Expr, operation, cast, prefix, sizeof_value, sizeof_type, extension, index, call, dot, arrow, post, compound, Operator, comma, assign, cond, binary, complex_part, label_use}
 
 -- the level of a binary operator, from 1 to 10, the loosest first; 0 is no binary operator
 abbrev pub binary_level : Punct → ℕ
@@ -84,4 +84,6 @@ expr_level (dot e token name) = 15
 expr_level (arrow e token name) = 15
 expr_level (post e token p) = 15
 expr_level (compound opening ws d closing list) = 15
+expr_level (complex_part keyword e) = 14
+expr_level (label_use token name) = 14
 expr_level _ = 16

@@ -12,3 +12,4 @@ pub mod Ends
 pub mod Firsts
 pub mod Capped
 pub mod Lists
+pub mod Addresses

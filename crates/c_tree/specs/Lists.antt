@@ -9,6 +9,7 @@ use Rattle.c_syntax.specs.declared.declaration.InitDeclr as rust_init_declr
 use Rattle.c_syntax.specs.declared.declarator.ArraySize as rust_array_size
 use Rattle.c_syntax.specs.declared.declarator.Declr as rust_declr
 use Rattle.c_syntax.specs.declared.declarator.Param as rust_param
+use Rattle.c_syntax.specs.declared.expression.Assoc as rust_assoc
 use Rattle.c_syntax.specs.declared.expression.Expr as rust_expr
 use Rattle.c_syntax.specs.declared.initialiser.Desig as rust_desig
 use Rattle.c_syntax.specs.declared.initialiser.Init as rust_init
@@ -17,13 +18,17 @@ use Rattle.c_syntax.specs.declared.specifier.Enumerator as rust_enumerator
 use Rattle.c_syntax.specs.declared.specifier.MemDeclr as rust_mem_declr
 use Rattle.c_syntax.specs.declared.specifier.StructItem as rust_struct_item
 use Rattle.c_syntax.specs.declared.statement.Stmt as rust_stmt
-use Rattle.c_tree.specs.Tree.{SomeExpr, no_expr, some_expr, Exprs, no_exprs, more_exprs, SomeBody, no_body, some_body, StructItems, no_struct_items, more_struct_items, MemDeclrs, no_mem_declrs, more_mem_declrs, SomeValue, no_value, some_value, SomeEnumBody, no_enum_body, some_enum_body, Enumerators, no_enumerators, more_enumerators, SomeDeclr, no_declr, some_declr, SomeSize, no_size, some_size, Params, no_params, more_params, InitItems, no_init_items, more_init_items, Desigs, no_desigs, more_desigs, SomeInit, no_init, some_init, InitDeclrs, no_init_declrs, more_init_declrs, SomeElse, no_else, some_else}
-use Rattle.c_tree.specs.View.{expr_of, struct_item_of, mem_declr_of, declr_of, array_size_of, init_of, desig_of, stmt_of}
+use Rattle.c_tree.specs.Tree.{SomeExpr, no_expr, some_expr, Exprs, no_exprs, more_exprs, SomeBody, no_body, some_body, StructItems, no_struct_items, more_struct_items, MemDeclrs, no_mem_declrs, more_mem_declrs, SomeValue, no_value, some_value, SomeEnumBody, no_enum_body, some_enum_body, Enumerators, no_enumerators, more_enumerators, SomeDeclr, no_declr, some_declr, SomeSize, no_size, some_size, Params, no_params, more_params, InitItems, no_init_items, more_init_items, Desigs, no_desigs, more_desigs, SomeInit, no_init, some_init, InitDeclrs, no_init_declrs, more_init_declrs, SomeElse, no_else, some_else, Assocs, no_assocs, more_assocs}
+use Rattle.c_tree.specs.View.{expr_of, struct_item_of, mem_declr_of, declr_of, array_size_of, assoc_of, init_of, desig_of, stmt_of}
 use Rattle.c_tree.specs.Unit.{spec_words_from}
 
 abbrev pub exprs_from : List rust_expr.Expr → Exprs
 exprs_from [] = no_exprs
 exprs_from (e ∷ es) = more_exprs (expr_of e) (exprs_from es)
+
+abbrev pub assocs_from : List rust_assoc.Assoc → Assocs
+assocs_from [] = no_assocs
+assocs_from (x ∷ xs) = more_assocs (assoc_of x) (assocs_from xs)
 
 abbrev pub some_expr_from : Option (Box rust_expr.Expr Global) → SomeExpr
 some_expr_from None = no_expr

@@ -4,9 +4,9 @@
 -- else is in the tree.
 use Rattle.std.specs.Prelude.{ℕ, ◌+◌, ◌-◌, List, [], ◌∷◌, ◌++◌, take, drop, Option, None, Some}
 use Rattle.c_words.specs.declared.kinds.Punct.{Punct}
-use Rattle.c_words.specs.declared.kinds.Punct.TheVariants.{Arrow, CloseBrace, CloseBracket, CloseParen, Colon, Comma, Dot, Ellipsis, Equal, OpenBrace, OpenBracket, OpenParen, Question, Semicolon, Star}
+use Rattle.c_words.specs.declared.kinds.Punct.TheVariants.{AmpersandAmpersand, Arrow, CloseBrace, CloseBracket, CloseParen, Colon, Comma, Dot, Ellipsis, Equal, OpenBrace, OpenBracket, OpenParen, Question, Semicolon, Star}
 use Rattle.c_words.specs.declared.kinds.Keyword.{Keyword}
-use Rattle.c_words.specs.declared.kinds.Keyword.TheVariants.{Asm, Attribute, Break, Case, Continue, Default, Do, Else, Enum, Extension, For, Goto, If, Inline, Noreturn, Offsetof, Return, Static, StaticAssert, Switch, Thread, VaArg, VaCopy, VaStart, While}
+use Rattle.c_words.specs.declared.kinds.Keyword.TheVariants.{Alignas, Asm, Attribute, AutoType, BaseWord, Break, Case, Choose, Compatible, Continue, Default, Do, Else, Enum, Extension, For, Generic, Goto, If, Inline, LabelWord, Noreturn, Offsetof, Part, Return, Static, StaticAssert, Switch, Thread, Typeof, VaArg, VaCopy, VaStart, While}
 use Rattle.c_words.specs.declared.kinds.TokenKind.{TokenKind}
 use Rattle.c_words.specs.declared.kinds.TokenKind.TheVariants as kinds
 use Rattle.c_tree.specs.declared.lexeme.Lexeme.{Lexeme}
@@ -22,7 +22,7 @@ use Rattle.c_syntax.specs.declared.parts.ArrayWord.{ArrayWord}
 use Rattle.c_syntax.specs.declared.parts.Qual.TheVariants as quals
 use Rattle.c_syntax.specs.declared.parts.PointerWord.TheVariants as pointer_words
 use Rattle.c_syntax.specs.declared.parts.ArrayWord.TheVariants as array_words
-use Rattle.c_tree.specs.Tree.{Expr, operation, cast, prefix, sizeof_value, sizeof_type, extension, index, call, dot, arrow, post, compound, name_use, number_use, char_use, text_use, paren, statement_expr, va_arg, va_start, va_copy, offset, Operator, comma, assign, cond, binary, SomeExpr, no_expr, some_expr, Exprs, no_exprs, more_exprs, SpecWords, no_words, more_words, SpecWord, storage, thread, inline_word, noreturn, qualifier, basic, struct_type, enum_type, typedef_name, attribute, SomeBody, no_body, some_body, StructItems, no_struct_items, more_struct_items, StructItem, member, member_semi, member_assert, MemDeclrs, no_mem_declrs, more_mem_declrs, MemDeclr, named, unnamed, SomeValue, no_value, some_value, EnumType, enum_of, SomeEnumBody, no_enum_body, some_enum_body, Enumerators, no_enumerators, more_enumerators, Declr, pointer, declr_name, declr_paren, array, params, abs_pointer, abs_paren, abs_array, abs_params, SomeDeclr, no_declr, some_declr, SomeSize, no_size, some_size, ArraySize, size_value, size_star, Params, no_params, more_params, Init, init_value, init_braced, InitList, init_list, InitItems, no_init_items, more_init_items, Desigs, no_desigs, more_desigs, Desig, member_desig, index_desig, SomeInit, no_init, some_init, InitDeclrs, no_init_declrs, more_init_declrs, Declaration, declaration, Decl, decl_declaration, decl_assert, BlockItems, no_block_items, more_block_items, BlockItem, block_decl, block_stmt, Stmt, block, expr_stmt, attr_stmt, label, case_stmt, default_stmt, if_stmt, switch_stmt, while_stmt, do_stmt, for_stmt, goto_stmt, continue_stmt, break_stmt, return_stmt, asm_stmt, SomeElse, no_else, some_else, ForStart, start_declaration, start_value, Dots}
+use Rattle.c_tree.specs.Tree.{Expr, operation, cast, prefix, sizeof_value, sizeof_type, extension, index, call, dot, arrow, post, compound, name_use, number_use, char_use, text_use, paren, statement_expr, va_arg, va_start, va_copy, offset, Operator, comma, assign, cond, binary, SomeExpr, no_expr, some_expr, Exprs, no_exprs, more_exprs, SpecWords, no_words, more_words, SpecWord, storage, thread, inline_word, noreturn, qualifier, basic, struct_type, enum_type, typedef_name, attribute, SomeBody, no_body, some_body, StructItems, no_struct_items, more_struct_items, StructItem, member, member_semi, member_assert, MemDeclrs, no_mem_declrs, more_mem_declrs, MemDeclr, named, unnamed, SomeValue, no_value, some_value, EnumType, enum_of, SomeEnumBody, no_enum_body, some_enum_body, Enumerators, no_enumerators, more_enumerators, Declr, pointer, declr_name, declr_paren, array, params, abs_pointer, abs_paren, abs_array, abs_params, SomeDeclr, no_declr, some_declr, SomeSize, no_size, some_size, ArraySize, size_value, size_star, Params, no_params, more_params, Init, init_value, init_braced, InitList, init_list, InitItems, no_init_items, more_init_items, Desigs, no_desigs, more_desigs, Desig, member_desig, index_desig, SomeInit, no_init, some_init, InitDeclrs, no_init_declrs, more_init_declrs, Declaration, declaration, Decl, decl_declaration, decl_assert, BlockItems, no_block_items, more_block_items, BlockItem, block_decl, block_stmt, Stmt, block, expr_stmt, attr_stmt, label, case_stmt, default_stmt, if_stmt, switch_stmt, while_stmt, do_stmt, for_stmt, goto_stmt, continue_stmt, break_stmt, return_stmt, asm_stmt, SomeElse, no_else, some_else, ForStart, start_declaration, start_value, Dots, complex_part, label_use, compat, choose, generic, Assocs, no_assocs, more_assocs, Assoc, typed_assoc, default_assoc, typeof_value, typeof_type, align, auto_word, identifiers, base_name, range_desig, old_desig, block_labels, case_range, goto_value}
 
 abbrev pub plain_text : TokenKind → ℕ → List Lexeme → List Lexeme
 plain_text kind token k = record { kind = kind; at = token } ∷ k
@@ -70,6 +70,15 @@ number_before (t ∷ k) = t.at - 1
 -- a comma between items of a list, whose number is in no node
 abbrev pub separated : List Lexeme → List Lexeme
 separated k = sign_text Comma (number_before k) k
+
+-- names with a comma between two
+abbrev pub other_names_text : List Identifier → List Lexeme → List Lexeme
+other_names_text [] k = k
+other_names_text (name ∷ names) k = separated (identifier_text name (other_names_text names k))
+
+abbrev pub names_text : List Identifier → List Lexeme → List Lexeme
+names_text [] k = k
+names_text (name ∷ names) k = identifier_text name (other_names_text names k)
 
 -- the tokens of the unit from one number to another
 abbrev pub tokens_between : List Lexeme → ℕ → ℕ → List Lexeme
@@ -140,6 +149,20 @@ module _ (all : List Lexeme) where
     expr_text (va_start keyword opening e separator e2 closing) k = keyword_text VaStart keyword (sign_text OpenParen opening (expr_text e (sign_text Comma separator (expr_text e2 (sign_text CloseParen closing k)))))
     expr_text (va_copy keyword opening e separator e2 closing) k = keyword_text VaCopy keyword (sign_text OpenParen opening (expr_text e (sign_text Comma separator (expr_text e2 (sign_text CloseParen closing k)))))
     expr_text (offset keyword opening ws d separator name steps closing) k = keyword_text Offsetof keyword (sign_text OpenParen opening (spec_words_text ws (some_declr_text d (sign_text Comma separator (identifier_text name (desigs_text steps (sign_text CloseParen closing k)))))))
+    expr_text (complex_part keyword e) k = keyword_text Part keyword (expr_text e k)
+    expr_text (label_use token name) k = sign_text AmpersandAmpersand token (identifier_text name k)
+    expr_text (compat keyword opening ws d separator ws2 d2 closing) k = keyword_text Compatible keyword (sign_text OpenParen opening (spec_words_text ws (some_declr_text d (sign_text Comma separator (spec_words_text ws2 (some_declr_text d2 (sign_text CloseParen closing k)))))))
+    expr_text (choose keyword opening e separator e2 separator2 e3 closing) k = keyword_text Choose keyword (sign_text OpenParen opening (expr_text e (sign_text Comma separator (expr_text e2 (sign_text Comma separator2 (expr_text e3 (sign_text CloseParen closing k)))))))
+    expr_text (generic keyword opening e xs closing) k = keyword_text Generic keyword (sign_text OpenParen opening (expr_text e (assocs_text xs (sign_text CloseParen closing k))))
+
+    -- behind the control and one another, each after a comma
+    pub assocs_text : Assocs → List Lexeme → List Lexeme
+    assocs_text no_assocs k = k
+    assocs_text (more_assocs x xs) k = separated (assoc_text x (assocs_text xs k))
+
+    pub assoc_text : Assoc → List Lexeme → List Lexeme
+    assoc_text (typed_assoc ws d colon e) k = spec_words_text ws (some_declr_text d (sign_text Colon colon (expr_text e k)))
+    assoc_text (default_assoc keyword colon e) k = keyword_text Default keyword (sign_text Colon colon (expr_text e k))
 
     pub operator_text : Operator → ℕ → List Lexeme → List Lexeme
     operator_text comma token k = sign_text Comma token k
@@ -175,6 +198,10 @@ module _ (all : List Lexeme) where
     spec_word_text (enum_type enum) k = enum_type_text enum k
     spec_word_text (typedef_name name) k = name_text name.name name.token k
     spec_word_text (attribute attr) k = attr_text all attr k
+    spec_word_text (typeof_value keyword opening e closing) k = keyword_text Typeof keyword (sign_text OpenParen opening (expr_text e (sign_text CloseParen closing k)))
+    spec_word_text (typeof_type word opening ws d closing) k = word_text word (sign_text OpenParen opening (spec_words_text ws (some_declr_text d (sign_text CloseParen closing k))))
+    spec_word_text (align attr) k = keyword_text Alignas attr.keyword (group_text all attr.group k)
+    spec_word_text (auto_word token) k = keyword_text AutoType token k
 
     pub some_body_text : SomeBody → List Lexeme → List Lexeme
     some_body_text no_body k = k
@@ -232,6 +259,8 @@ module _ (all : List Lexeme) where
     declr_text (abs_paren opening attrs d closing) k = sign_text OpenParen opening (attrs_text all attrs (declr_text d (sign_text CloseParen closing k)))
     declr_text (abs_array d opening words size closing) k = some_declr_text d (sign_text OpenBracket opening (array_words_text all words (some_size_text size (sign_text CloseBracket closing k))))
     declr_text (abs_params d opening ps dots closing) k = some_declr_text d (sign_text OpenParen opening (params_text ps (dots_text all dots (sign_text CloseParen closing k))))
+    declr_text (identifiers d opening names closing) k = declr_text d (sign_text OpenParen opening (names_text names (sign_text CloseParen closing k)))
+    declr_text (base_name token) k = keyword_text BaseWord token k
 
     pub some_declr_text : SomeDeclr → List Lexeme → List Lexeme
     some_declr_text no_declr k = k
@@ -277,6 +306,8 @@ module _ (all : List Lexeme) where
     pub desig_text : Desig → List Lexeme → List Lexeme
     desig_text (member_desig token name) k = sign_text Dot token (identifier_text name k)
     desig_text (index_desig opening e closing) k = sign_text OpenBracket opening (expr_text e (sign_text CloseBracket closing k))
+    desig_text (range_desig opening e dots e2 closing) k = sign_text OpenBracket opening (expr_text e (sign_text Ellipsis dots (expr_text e2 (sign_text CloseBracket closing k))))
+    desig_text (old_desig name colon) k = identifier_text name (sign_text Colon colon k)
 
     pub some_init_text : SomeInit → List Lexeme → List Lexeme
     some_init_text no_init k = k
@@ -305,6 +336,7 @@ module _ (all : List Lexeme) where
     pub block_item_text : BlockItem → List Lexeme → List Lexeme
     block_item_text (block_decl d) k = decl_text d k
     block_item_text (block_stmt s) k = stmt_text s k
+    block_item_text (block_labels keyword names semi) k = keyword_text LabelWord keyword (names_text names (sign_text Semicolon semi k))
 
     pub stmt_text : Stmt → List Lexeme → List Lexeme
     stmt_text (block opening items closing) k = sign_text OpenBrace opening (block_items_text items (sign_text CloseBrace closing k))
@@ -323,6 +355,8 @@ module _ (all : List Lexeme) where
     stmt_text (break_stmt keyword semi) k = keyword_text Break keyword (sign_text Semicolon semi k)
     stmt_text (return_stmt keyword e semi) k = keyword_text Return keyword (some_expr_text e (sign_text Semicolon semi k))
     stmt_text (asm_stmt keyword words group semi) k = keyword_text Asm keyword (words_text words (group_text all group (sign_text Semicolon semi k)))
+    stmt_text (case_range keyword e dots e2 colon s) k = keyword_text Case keyword (expr_text e (sign_text Ellipsis dots (expr_text e2 (sign_text Colon colon (stmt_text s k)))))
+    stmt_text (goto_value keyword star e semi) k = keyword_text Goto keyword (sign_text Star star (expr_text e (sign_text Semicolon semi k)))
 
     pub some_else_text : SomeElse → List Lexeme → List Lexeme
     some_else_text no_else k = k

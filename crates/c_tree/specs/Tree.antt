@@ -44,6 +44,21 @@ mutual
     va_start : ℕ → ℕ → Expr → ℕ → Expr → ℕ → Expr
     va_copy : ℕ → ℕ → Expr → ℕ → Expr → ℕ → Expr
     offset : ℕ → ℕ → SpecWords → SomeDeclr → ℕ → Identifier → Desigs → ℕ → Expr
+    complex_part : ℕ → Expr → Expr
+    label_use : ℕ → Identifier → Expr
+    compat : ℕ → ℕ → SpecWords → SomeDeclr → ℕ → SpecWords → SomeDeclr → ℕ → Expr
+    choose : ℕ → ℕ → Expr → ℕ → Expr → ℕ → Expr → ℕ → Expr
+    generic : ℕ → ℕ → Expr → Assocs → ℕ → Expr
+
+  -- the associations of a selection by a type
+  pub data Assocs : Type 0 where
+    no_assocs : Assocs
+    more_assocs : Assoc → Assocs → Assocs
+
+  -- an expression for a type, or for all others
+  pub data Assoc : Type 0 where
+    typed_assoc : SpecWords → SomeDeclr → ℕ → Expr → Assoc
+    default_assoc : ℕ → ℕ → Expr → Assoc
 
   -- what stands between two operands: of a conditional, the middle and the colon
   pub data Operator : Type 0 where
@@ -79,6 +94,10 @@ mutual
     enum_type : EnumType → SpecWord
     typedef_name : TypedefName → SpecWord
     attribute : Attr → SpecWord
+    typeof_value : ℕ → ℕ → Expr → ℕ → SpecWord
+    typeof_type : Word → ℕ → SpecWords → SomeDeclr → ℕ → SpecWord
+    align : Attr → SpecWord
+    auto_word : ℕ → SpecWord
 
   -- the body of a struct or union, or none
   pub data SomeBody : Type 0 where
@@ -136,6 +155,8 @@ mutual
     abs_paren : ℕ → List Attr → Declr → ℕ → Declr
     abs_array : SomeDeclr → ℕ → List ArrayWord → SomeSize → ℕ → Declr
     abs_params : SomeDeclr → ℕ → Params → Option Dots → ℕ → Declr
+    identifiers : Declr → ℕ → List Identifier → ℕ → Declr
+    base_name : ℕ → Declr
 
   -- a declarator, or none
   pub data SomeDeclr : Type 0 where
@@ -180,6 +201,8 @@ mutual
   pub data Desig : Type 0 where
     member_desig : ℕ → Identifier → Desig
     index_desig : ℕ → Expr → ℕ → Desig
+    range_desig : ℕ → Expr → ℕ → Expr → ℕ → Desig
+    old_desig : Identifier → ℕ → Desig
 
   -- an initialiser behind its sign, or none
   pub data SomeInit : Type 0 where
@@ -209,6 +232,7 @@ mutual
   pub data BlockItem : Type 0 where
     block_decl : Decl → BlockItem
     block_stmt : Stmt → BlockItem
+    block_labels : ℕ → List Identifier → ℕ → BlockItem
 
   -- a statement
   pub data Stmt : Type 0 where
@@ -228,6 +252,8 @@ mutual
     break_stmt : ℕ → ℕ → Stmt
     return_stmt : ℕ → SomeExpr → ℕ → Stmt
     asm_stmt : ℕ → List Word → Group → ℕ → Stmt
+    case_range : ℕ → Expr → ℕ → Expr → ℕ → Stmt → Stmt
+    goto_value : ℕ → ℕ → Expr → ℕ → Stmt
 
   -- the other branch, or none
   pub data SomeElse : Type 0 where

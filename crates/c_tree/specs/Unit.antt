@@ -12,16 +12,17 @@ use Rattle.c_syntax.specs.declared.statement.BlockItem as rust_block_item
 use Rattle.c_syntax.specs.declared.declaration.Item as rust_item
 use Rattle.c_syntax.specs.declared.declaration.Item.TheVariants as rust_items
 use Rattle.c_syntax.specs.declared.declaration.Unit as rust_unit
-use Rattle.c_tree.specs.Tree.{SpecWords, no_words, more_words, BlockItems, no_block_items, more_block_items, Decl, Declr, pointer, declr_name, declr_paren, array, params}
-use Rattle.c_tree.specs.View.{spec_word_of, declr_of, decl_of, block_item_of}
-use Rattle.c_tree.specs.Text.{sign_text, keyword_text, group_text, attrs_text, extensions_text, spec_words_text, declr_text, decl_text, block_items_text}
-use Rattle.c_tree.specs.Height.{attrs_height, specs_height, declr_height, decl_height, block_height}
+use Rattle.c_tree.specs.Tree.{SpecWords, no_words, more_words, BlockItems, no_block_items, more_block_items, Declaration, declaration, Decl, attribute, Declr, pointer, declr_name, declr_paren, array, params, abs_pointer, abs_paren, abs_array, abs_params}
+use Rattle.c_tree.specs.View.{spec_word_of, declr_of, declaration_of, decl_of, block_item_of}
+use Rattle.c_tree.specs.Text.{sign_text, keyword_text, group_text, attrs_text, extensions_text, spec_words_text, declr_text, declaration_text, decl_text, block_items_text}
+use Rattle.c_tree.specs.Height.{attrs_height, specs_height, declr_height, declaration_height, decl_height, block_height}
 use Rattle.c_tree.specs.Groups.{IsGroup}
 use Rattle.c_tree.specs.Specifiers.{IsMix, storage_words}
-use Rattle.c_tree.specs.WellFormed.{AreAttrs, AreSpecWords, IsDeclr, IsDecl, AreBlockItems}
+use Rattle.c_tree.specs.WellFormed.{AreAttrs, AreSpecWords, IsDeclr, IsDeclaration, IsDecl, AreBlockItems, AreLabelsFirst, has_auto, lists_identifiers}
 
 pub data Item : Type 0 where
   function_item : List ℕ → SpecWords → Declr → List Attr → ℕ → BlockItems → ℕ → Item
+  old_function_item : List ℕ → SpecWords → Declr → List Attr → List Declaration → ℕ → BlockItems → ℕ → Item
   decl_item : Decl → Item
   asm_item : ℕ → Group → ℕ → Item
   semi_item : Semi → Item
@@ -36,6 +37,7 @@ block_items_from (item ∷ items) = more_block_items (block_item_of item) (block
 
 abbrev pub item_of : rust_item.Item → Item
 item_of (rust_items.Function exts specs d attrs body) = function_item exts.items (spec_words_from specs.words.items) (declr_of d.value) attrs.items body.«open» (block_items_from body.items.items) body.close
+item_of (rust_items.OldFunction exts specs d attrs ds body) = old_function_item exts.items (spec_words_from specs.words.items) (declr_of d.value) attrs.items (map declaration_of ds.items) body.«open» (block_items_from body.items.items) body.close
 item_of (rust_items.Decl d) = decl_item (decl_of d.value)
 item_of (rust_items.AsmDecl keyword group semi) = asm_item keyword group semi
 item_of (rust_items.Semi semi) = semi_item semi
@@ -43,8 +45,18 @@ item_of (rust_items.Semi semi) = semi_item semi
 abbrev pub items_of : rust_unit.Unit → List Item
 items_of u = map item_of u.items.items
 
+-- the declarations behind a list of identifiers
+abbrev pub declarations_text : List Lexeme → List Declaration → List Lexeme → List Lexeme
+declarations_text all [] k = k
+declarations_text all (d ∷ ds) k = declaration_text all d (declarations_text all ds k)
+
+abbrev pub declarations_height : List Declaration → ℕ
+declarations_height [] = 0
+declarations_height (d ∷ ds) = max (declaration_height d) (declarations_height ds)
+
 abbrev pub item_text : List Lexeme → Item → List Lexeme → List Lexeme
 item_text all (function_item exts ws d attrs opening items closing) k = extensions_text exts (spec_words_text all ws (declr_text all d (attrs_text all attrs (sign_text OpenBrace opening (block_items_text all items (sign_text CloseBrace closing k))))))
+item_text all (old_function_item exts ws d attrs ds opening items closing) k = extensions_text exts (spec_words_text all ws (declr_text all d (attrs_text all attrs (declarations_text all ds (sign_text OpenBrace opening (block_items_text all items (sign_text CloseBrace closing k)))))))
 item_text all (decl_item d) k = decl_text all d k
 item_text all (asm_item keyword group semi) k = keyword_text Asm keyword (group_text all group (sign_text Semicolon semi k))
 item_text all (semi_item semi) k = sign_text Semicolon semi.token k
@@ -60,6 +72,7 @@ pub record AreTokensOf (all : List Lexeme) (items : List Item) : Type 0 where
 
 abbrev pub item_height : Item → ℕ
 item_height (function_item exts ws d attrs opening items closing) = max (specs_height ws) (max (declr_height d) (max (attrs_height attrs) (block_height items))) + 1
+item_height (old_function_item exts ws d attrs ds opening items closing) = max (specs_height ws) (max (declr_height d) (max (attrs_height attrs) (max (declarations_height ds) (block_height items)))) + 1
 item_height (decl_item d) = decl_height d
 item_height (asm_item keyword group semi) = 1
 item_height (semi_item semi) = 1
@@ -81,9 +94,16 @@ is_round_name _ above = false
 abbrev pub declares_function : Declr → Bool
 declares_function d = is_round_name d false
 
+-- whether a list of declarations begins with attributes: behind a list of identifiers these are the function's
+abbrev pub begins_attribute : List Declaration → Bool
+begins_attribute [] = false
+begins_attribute (declaration [] (more_words (attribute attr) ws) ds semi ∷ rest) = true
+begins_attribute (d ∷ rest) = false
+
 -- a function's declarator declares one, and its specifiers have no `typedef`
 abbrev pub IsItem : List Lexeme → Item → Type 0
-IsItem all (function_item exts ws d attrs opening items closing) = IsMix ws × AreSpecWords all ws × ¬ Contains (storage_words ws) Typedef × IsDeclr all d × (declares_function d ≡ true) × AreAttrs all attrs × AreBlockItems all items
+IsItem all (function_item exts ws d attrs opening items closing) = IsMix ws × AreSpecWords all ws × (has_auto ws ≡ false) × ¬ Contains (storage_words ws) Typedef × IsDeclr all d × (declares_function d ≡ true) × AreAttrs all attrs × AreBlockItems all items × AreLabelsFirst items
+IsItem all (old_function_item exts ws d attrs ds opening items closing) = IsMix ws × AreSpecWords all ws × (has_auto ws ≡ false) × ¬ Contains (storage_words ws) Typedef × IsDeclr all d × (lists_identifiers d ≡ true) × AreAttrs all attrs × All (IsDeclaration all) ds × AreBlockItems all items × AreLabelsFirst items × (begins_attribute ds ≡ false)
 IsItem all (decl_item d) = IsDecl all d
 IsItem all (asm_item keyword group semi) = IsGroup all group
 IsItem all (semi_item semi) = Unit {0}

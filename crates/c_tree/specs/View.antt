@@ -7,6 +7,7 @@ use Rattle.c_syntax.specs.declared.declaration.Declaration as rust_declaration
 use Rattle.c_syntax.specs.declared.declaration.InitDeclr as rust_init_declr
 use Rattle.c_syntax.specs.declared.declarator.ArraySize as rust_array_size
 use Rattle.c_syntax.specs.declared.declarator.Declr as rust_declr
+use Rattle.c_syntax.specs.declared.expression.Assoc as rust_assoc
 use Rattle.c_syntax.specs.declared.expression.Expr as rust_expr
 use Rattle.c_syntax.specs.declared.initialiser.Desig as rust_desig
 use Rattle.c_syntax.specs.declared.initialiser.Init as rust_init
@@ -23,7 +24,7 @@ use Rattle.c_syntax.specs.declared.statement.Block as rust_block
 use Rattle.c_syntax.specs.declared.statement.BlockItem as rust_block_item
 use Rattle.c_syntax.specs.declared.statement.ForStart as rust_for_start
 use Rattle.c_syntax.specs.declared.statement.Stmt as rust_stmt
-use Rattle.c_tree.specs.Tree.{Expr, operation, cast, prefix, sizeof_value, sizeof_type, extension, index, call, dot, arrow, post, compound, name_use, number_use, char_use, text_use, paren, statement_expr, va_arg, va_start, va_copy, offset, comma, assign, cond, binary, SomeExpr, no_expr, some_expr, Exprs, no_exprs, more_exprs, SpecWords, no_words, more_words, SpecWord, storage, thread, inline_word, noreturn, qualifier, basic, struct_type, enum_type, typedef_name, attribute, SomeBody, no_body, some_body, StructItems, no_struct_items, more_struct_items, StructItem, member, member_semi, member_assert, MemDeclrs, no_mem_declrs, more_mem_declrs, MemDeclr, named, unnamed, SomeValue, no_value, some_value, EnumType, enum_of, SomeEnumBody, no_enum_body, some_enum_body, Enumerators, no_enumerators, more_enumerators, Declr, pointer, declr_name, declr_paren, array, params, abs_pointer, abs_paren, abs_array, abs_params, SomeDeclr, no_declr, some_declr, SomeSize, no_size, some_size, ArraySize, size_value, size_star, Params, no_params, more_params, Init, init_value, init_braced, InitList, init_list, InitItems, no_init_items, more_init_items, Desigs, no_desigs, more_desigs, Desig, member_desig, index_desig, SomeInit, no_init, some_init, InitDeclrs, no_init_declrs, more_init_declrs, Declaration, declaration, Decl, decl_declaration, decl_assert, BlockItems, no_block_items, more_block_items, BlockItem, block_decl, block_stmt, Stmt, block, expr_stmt, attr_stmt, label, case_stmt, default_stmt, if_stmt, switch_stmt, while_stmt, do_stmt, for_stmt, goto_stmt, continue_stmt, break_stmt, return_stmt, asm_stmt, SomeElse, no_else, some_else, ForStart, start_declaration, start_value, Dots}
+use Rattle.c_tree.specs.Tree.{Expr, operation, cast, prefix, sizeof_value, sizeof_type, extension, index, call, dot, arrow, post, compound, name_use, number_use, char_use, text_use, paren, statement_expr, va_arg, va_start, va_copy, offset, comma, assign, cond, binary, SomeExpr, no_expr, some_expr, Exprs, no_exprs, more_exprs, SpecWords, no_words, more_words, SpecWord, storage, thread, inline_word, noreturn, qualifier, basic, struct_type, enum_type, typedef_name, attribute, SomeBody, no_body, some_body, StructItems, no_struct_items, more_struct_items, StructItem, member, member_semi, member_assert, MemDeclrs, no_mem_declrs, more_mem_declrs, MemDeclr, named, unnamed, SomeValue, no_value, some_value, EnumType, enum_of, SomeEnumBody, no_enum_body, some_enum_body, Enumerators, no_enumerators, more_enumerators, Declr, pointer, declr_name, declr_paren, array, params, abs_pointer, abs_paren, abs_array, abs_params, SomeDeclr, no_declr, some_declr, SomeSize, no_size, some_size, ArraySize, size_value, size_star, Params, no_params, more_params, Init, init_value, init_braced, InitList, init_list, InitItems, no_init_items, more_init_items, Desigs, no_desigs, more_desigs, Desig, member_desig, index_desig, SomeInit, no_init, some_init, InitDeclrs, no_init_declrs, more_init_declrs, Declaration, declaration, Decl, decl_declaration, decl_assert, BlockItems, no_block_items, more_block_items, BlockItem, block_decl, block_stmt, Stmt, block, expr_stmt, attr_stmt, label, case_stmt, default_stmt, if_stmt, switch_stmt, while_stmt, do_stmt, for_stmt, goto_stmt, continue_stmt, break_stmt, return_stmt, asm_stmt, SomeElse, no_else, some_else, ForStart, start_declaration, start_value, Dots, complex_part, label_use, compat, choose, generic, Assocs, no_assocs, more_assocs, Assoc, typed_assoc, default_assoc, typeof_value, typeof_type, align, auto_word, identifiers, base_name, range_desig, old_desig, block_labels, case_range, goto_value}
 
 abbrev pub dots_of : Ellipsis → Dots
 dots_of e = record { comma = e.comma; quals = e.quals.items; dots = e.dots }
@@ -72,6 +73,19 @@ abbrev mutual
   expr_of (rust_expr.VaStart' keyword opening _ e separator _ e2 closing) = va_start keyword opening (expr_of e) separator (expr_of e2) closing
   expr_of (rust_expr.VaCopy' keyword opening _ e separator _ e2 closing) = va_copy keyword opening (expr_of e) separator (expr_of e2) closing
   expr_of (rust_expr.Offset' keyword opening _ ws d separator name _ steps closing) = offset keyword opening (spec_words_of ws) (some_declr_of d) separator name (desigs_of steps) closing
+  expr_of (rust_expr.Part' keyword _ e) = complex_part keyword (expr_of e)
+  expr_of (rust_expr.LabelUse token name) = label_use token name
+  expr_of (rust_expr.Compat' keyword opening _ ws d separator _ ws2 d2 closing) = compat keyword opening (spec_words_of ws) (some_declr_of d) separator (spec_words_of ws2) (some_declr_of d2) closing
+  expr_of (rust_expr.Choose' keyword opening _ e separator _ e2 separator2 _ e3 closing) = choose keyword opening (expr_of e) separator (expr_of e2) separator2 (expr_of e3) closing
+  expr_of (rust_expr.Generic' keyword opening _ e _ xs closing) = generic keyword opening (expr_of e) (assocs_of xs) closing
+
+  pub assocs_of : {m : _} → rust_expr.Row_of-Assoc m → Assocs
+  assocs_of rust_expr.end_of-Assoc = no_assocs
+  assocs_of (rust_expr.more_of-Assoc x xs) = more_assocs (assoc_of x) (assocs_of xs)
+
+  pub assoc_of : rust_assoc.Assoc → Assoc
+  assoc_of (rust_assoc.Typed' _ ws d colon _ e) = typed_assoc (spec_words_of ws) (some_declr_of d) colon (expr_of e)
+  assoc_of (rust_assoc.Default' keyword colon _ e) = default_assoc keyword colon (expr_of e)
 
   pub some_expr_of : rust_expr.Held-Expr-Cond-2 → SomeExpr
   some_expr_of rust_expr.Expr-Cond-2-None' = no_expr
@@ -96,6 +110,10 @@ abbrev mutual
   spec_word_of (rust_spec_word.Enum' _ it) = enum_type (enum_type_of it)
   spec_word_of (rust_spec_word.TypedefName name) = typedef_name name
   spec_word_of (rust_spec_word.Attr attr) = attribute attr
+  spec_word_of (rust_spec_word.Typeof' keyword opening _ e closing) = typeof_value keyword opening (expr_of e) closing
+  spec_word_of (rust_spec_word.TypeofType' word opening _ ws d closing) = typeof_type word opening (spec_words_of ws) (some_declr_of d) closing
+  spec_word_of (rust_spec_word.Align attr) = align attr
+  spec_word_of (rust_spec_word.Auto token) = auto_word token
 
   pub some_body_of : rust_struct.Held-Struct-body → SomeBody
   some_body_of rust_struct.Struct-body-None' = no_body
@@ -143,6 +161,8 @@ abbrev mutual
   declr_of (rust_declr.AbsParen' opening attrs _ d closing) = abs_paren opening attrs.items (declr_of d) closing
   declr_of (rust_declr.AbsArray' d opening words size closing) = abs_array (some_declr_of d) opening words.items (some_size_of size) closing
   declr_of (rust_declr.AbsParams' d opening _ ps dots closing) = abs_params (some_declr_of d) opening (params_of ps) (option_map dots_of dots) closing
+  declr_of (rust_declr.Identifiers' _ d opening names closing) = identifiers (declr_of d) opening names.items closing
+  declr_of (rust_declr.BaseName token) = base_name token
 
   pub some_declr_of : rust_declr.Held-Declr-AbsPointer-2 → SomeDeclr
   some_declr_of rust_declr.Declr-AbsPointer-2-None' = no_declr
@@ -178,6 +198,8 @@ abbrev mutual
   pub desig_of : rust_desig.Desig → Desig
   desig_of (rust_desig.Member token name) = member_desig token name
   desig_of (rust_desig.Index' opening _ e closing) = index_desig opening (expr_of e) closing
+  desig_of (rust_desig.Range' opening _ e dots _ e2 closing) = range_desig opening (expr_of e) dots (expr_of e2) closing
+  desig_of (rust_desig.Old name colon) = old_desig name colon
 
   pub some_init_of : rust_init_declr.Held-InitDeclr-init → SomeInit
   some_init_of rust_init_declr.InitDeclr-init-None' = no_init
@@ -201,6 +223,7 @@ abbrev mutual
   pub block_item_of : rust_block_item.BlockItem → BlockItem
   block_item_of (rust_block_item.Decl' _ d) = block_decl (decl_of d)
   block_item_of (rust_block_item.Stmt' _ s) = block_stmt (stmt_of s)
+  block_item_of (rust_block_item.Labels keyword names semi) = block_labels keyword names.items semi
 
   pub stmt_of : rust_stmt.Stmt → Stmt
   stmt_of (rust_stmt.Block' opening _ items closing) = block opening (block_items_of items) closing
@@ -219,6 +242,8 @@ abbrev mutual
   stmt_of (rust_stmt.Break keyword semi) = break_stmt keyword semi
   stmt_of (rust_stmt.Return' keyword e semi) = return_stmt keyword (some_expr_of e) semi
   stmt_of (rust_stmt.Asm keyword words group semi) = asm_stmt keyword words.items group semi
+  stmt_of (rust_stmt.CaseRange' keyword _ e dots _ e2 colon _ s) = case_range keyword (expr_of e) dots (expr_of e2) colon (stmt_of s)
+  stmt_of (rust_stmt.GotoValue' keyword star _ e semi) = goto_value keyword star (expr_of e) semi
 
   pub some_else_of : rust_stmt.Held-Stmt-If-5 → SomeElse
   some_else_of rust_stmt.Stmt-If-5-None' = no_else

@@ -78,7 +78,12 @@ pub fn first(e: &Expr) -> TokenId
         | Expr::VaArg { keyword, .. }
         | Expr::VaStart { keyword, .. }
         | Expr::VaCopy { keyword, .. }
-        | Expr::Offset { keyword, .. } => *keyword,
+        | Expr::Offset { keyword, .. }
+        | Expr::Part { keyword, .. }
+        | Expr::Compat { keyword, .. }
+        | Expr::Choose { keyword, .. }
+        | Expr::Generic { keyword, .. } => *keyword,
+        Expr::LabelUse { token, .. } => *token,
         Expr::TextUse { texts } => first_of(texts.as_slice()),
     }
 }
@@ -114,7 +119,8 @@ pub fn last(e: &Expr) -> TokenId
         Expr::Cast { operand, .. }
         | Expr::Prefix { operand, .. }
         | Expr::Sizeof { operand, .. }
-        | Expr::Ext { operand, .. } => last(operand),
+        | Expr::Ext { operand, .. }
+        | Expr::Part { operand, .. } => last(operand),
         Expr::Dot { member, .. } | Expr::Arrow { member, .. } => member.token,
         Expr::Post { token, .. }
         | Expr::NameUse { token, .. }
@@ -128,7 +134,11 @@ pub fn last(e: &Expr) -> TokenId
         | Expr::VaArg { close, .. }
         | Expr::VaStart { close, .. }
         | Expr::VaCopy { close, .. }
-        | Expr::Offset { close, .. } => *close,
+        | Expr::Offset { close, .. }
+        | Expr::Compat { close, .. }
+        | Expr::Choose { close, .. }
+        | Expr::Generic { close, .. } => *close,
+        Expr::LabelUse { label, .. } => label.token,
         Expr::Compound { list, .. } => end_of(list),
         Expr::TextUse { texts } => last_of(texts.as_slice()),
     }
@@ -180,7 +190,12 @@ pub fn key(e: &Expr) -> TokenId
         | Expr::VaArg { keyword, .. }
         | Expr::VaStart { keyword, .. }
         | Expr::VaCopy { keyword, .. }
-        | Expr::Offset { keyword, .. } => *keyword,
+        | Expr::Offset { keyword, .. }
+        | Expr::Part { keyword, .. }
+        | Expr::Compat { keyword, .. }
+        | Expr::Choose { keyword, .. }
+        | Expr::Generic { keyword, .. } => *keyword,
+        Expr::LabelUse { token, .. } => *token,
         Expr::TextUse { texts } => first_of(texts.as_slice()),
     }
 }

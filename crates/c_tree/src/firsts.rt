@@ -32,7 +32,10 @@ pub fn first_of_word(word: &SpecWord) -> TokenId
         SpecWord::Struct(it) => it.keyword.token,
         SpecWord::Enum(it) => it.keyword,
         SpecWord::TypedefName(name) => name.token,
-        SpecWord::Attr(attr) => attr.keyword,
+        SpecWord::Attr(attr) | SpecWord::Align(attr) => attr.keyword,
+        SpecWord::Typeof { keyword, .. } => *keyword,
+        SpecWord::TypeofType { keyword, .. } => keyword.token,
+        SpecWord::Auto { token } => *token,
     }
 }
 
@@ -104,6 +107,8 @@ pub fn first_of_stmt(statement: &Stmt) -> TokenId
         | Stmt::Continue { keyword, .. }
         | Stmt::Break { keyword, .. }
         | Stmt::Return { keyword, .. }
-        | Stmt::Asm { keyword, .. } => *keyword,
+        | Stmt::Asm { keyword, .. }
+        | Stmt::CaseRange { keyword, .. }
+        | Stmt::GotoValue { keyword, .. } => *keyword,
     }
 }

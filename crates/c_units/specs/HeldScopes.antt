@@ -9,25 +9,31 @@ use Rattle.typedef_scope.specs.declared.kind.Kind.{Kind}
 use Rattle.typedef_scope.specs.declared.kind.Kind.TheVariants.{Typedef}
 use Rattle.typedef_scope.specs.Scopes.{is_same, kind_in, else_in}
 
--- a scope: its names with their kinds, the newest first, and the name that is held
+-- a scope: its names with their kinds, the newest first, the name that is held, and whether its unit is read as wider C
 pub record HeldScope : Type 0 where
   pub names : List (ℕ × Kind)
   pub held : Option ℕ
+  pub wide : Bool
 
 -- the scopes that are open, the innermost first
 abbrev pub HeldScopes : Type 0
 HeldScopes = List HeldScope
 
-abbrev pub no_scope : HeldScope
-no_scope = record { names = []; held = None }
+-- a scope without names
+abbrev pub new_scope : Bool → HeldScope
+new_scope wide = record { names = []; held = None; wide = wide }
 
--- one scope, without names
-abbrev pub file_scope : HeldScopes
-file_scope = no_scope ∷ []
+-- one scope, without names, of a unit that is read as wider C or not
+abbrev pub file_scope : Bool → HeldScopes
+file_scope wide = new_scope wide ∷ []
 
 abbrev pub innermost : HeldScopes → HeldScope
-innermost [] = no_scope
+innermost [] = new_scope false
 innermost (scope ∷ outer) = scope
+
+-- whether the unit is read as wider C
+abbrev pub is_wide : HeldScopes → Bool
+is_wide scopes = (innermost scopes).wide
 
 -- what is open round the innermost scope
 abbrev pub leave : HeldScopes → HeldScopes
@@ -36,7 +42,7 @@ leave (scope ∷ outer) = outer
 
 -- a scope inside the others: one without names, or one that was closed before
 abbrev pub enter : HeldScopes → HeldScopes
-enter scopes = no_scope ∷ scopes
+enter scopes = new_scope (is_wide scopes) ∷ scopes
 
 abbrev pub reopen : HeldScope → HeldScopes → HeldScopes
 reopen scope scopes = scope ∷ scopes

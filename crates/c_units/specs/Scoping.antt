@@ -9,11 +9,13 @@
 use Rattle.std.specs.Prelude.{ℕ, Bool, true, false, ◌&&◌, not, List, [], ◌∷◌, Option, None, Some, if◌then◌else◌}
 use Rattle.c_words.specs.declared.kinds.Keyword.{Keyword}
 use Rattle.c_words.specs.declared.kinds.Keyword.TheVariants.{Typedef as TypedefWord}
-use Rattle.c_tree.specs.Tree.{Expr, operation, cast, prefix, sizeof_value, sizeof_type, extension, index, call, dot, arrow, post, compound, name_use, number_use, char_use, text_use, paren, statement_expr, va_arg, va_start, va_copy, offset, Operator, comma, assign, cond, binary, SomeExpr, no_expr, some_expr, Exprs, no_exprs, more_exprs, SpecWords, no_words, more_words, SpecWord, storage, thread, inline_word, noreturn, qualifier, basic, struct_type, enum_type, typedef_name, attribute, SomeBody, no_body, some_body, StructItems, no_struct_items, more_struct_items, StructItem, member, member_semi, member_assert, MemDeclrs, no_mem_declrs, more_mem_declrs, MemDeclr, named, unnamed, SomeValue, no_value, some_value, EnumType, enum_of, SomeEnumBody, no_enum_body, some_enum_body, Enumerators, no_enumerators, more_enumerators, Declr, pointer, declr_name, declr_paren, array, params, abs_pointer, abs_paren, abs_array, abs_params, SomeDeclr, no_declr, some_declr, SomeSize, no_size, some_size, ArraySize, size_value, size_star, Params, no_params, more_params, Init, init_value, init_braced, InitList, init_list, InitItems, no_init_items, more_init_items, Desigs, no_desigs, more_desigs, Desig, member_desig, index_desig, SomeInit, no_init, some_init, InitDeclrs, no_init_declrs, more_init_declrs, Declaration, declaration, Decl, decl_declaration, decl_assert, BlockItems, no_block_items, more_block_items, BlockItem, block_decl, block_stmt, Stmt, block, expr_stmt, attr_stmt, label, case_stmt, default_stmt, if_stmt, switch_stmt, while_stmt, do_stmt, for_stmt, goto_stmt, continue_stmt, break_stmt, return_stmt, asm_stmt, SomeElse, no_else, some_else, ForStart, start_declaration, start_value}
+use Rattle.c_tree.specs.Tree.{Expr, operation, cast, prefix, sizeof_value, sizeof_type, extension, index, call, dot, arrow, post, compound, name_use, number_use, char_use, text_use, paren, statement_expr, va_arg, va_start, va_copy, offset, Operator, comma, assign, cond, binary, SomeExpr, no_expr, some_expr, Exprs, no_exprs, more_exprs, SpecWords, no_words, more_words, SpecWord, storage, thread, inline_word, noreturn, qualifier, basic, struct_type, enum_type, typedef_name, attribute, SomeBody, no_body, some_body, StructItems, no_struct_items, more_struct_items, StructItem, member, member_semi, member_assert, MemDeclrs, no_mem_declrs, more_mem_declrs, MemDeclr, named, unnamed, SomeValue, no_value, some_value, EnumType, enum_of, SomeEnumBody, no_enum_body, some_enum_body, Enumerators, no_enumerators, more_enumerators, Declr, pointer, declr_name, declr_paren, array, params, abs_pointer, abs_paren, abs_array, abs_params, SomeDeclr, no_declr, some_declr, SomeSize, no_size, some_size, ArraySize, size_value, size_star, Params, no_params, more_params, Init, init_value, init_braced, InitList, init_list, InitItems, no_init_items, more_init_items, Desigs, no_desigs, more_desigs, Desig, member_desig, index_desig, SomeInit, no_init, some_init, InitDeclrs, no_init_declrs, more_init_declrs, Declaration, declaration, Decl, decl_declaration, decl_assert, BlockItems, no_block_items, more_block_items, BlockItem, block_decl, block_stmt, Stmt, block, expr_stmt, attr_stmt, label, case_stmt, default_stmt, if_stmt, switch_stmt, while_stmt, do_stmt, for_stmt, goto_stmt, continue_stmt, break_stmt, return_stmt, asm_stmt, SomeElse, no_else, some_else, ForStart, start_declaration, start_value, identifiers, base_name, complex_part, label_use, compat, choose, generic, Assocs, no_assocs, more_assocs, Assoc, typed_assoc, default_assoc, typeof_value, typeof_type, align, auto_word, range_desig, old_desig, block_labels, case_range, goto_value}
 use Rattle.c_tree.specs.Specifiers.{storage_words}
 use Rattle.typedef_scope.specs.declared.kind.Kind.{Kind}
 use Rattle.typedef_scope.specs.declared.kind.Kind.TheVariants.{Typedef, Value, Constant}
-use Rattle.c_units.specs.HeldScopes.{HeldScopes, names_type, enter, leave, hold, release, declare}
+use Rattle.c_units.specs.HeldScopes.{HeldScopes, names_type, enter, leave, hold, release, declare, is_wide, is_typedef}
+use Rattle.c_tree.specs.WellFormed.{has_auto}
+use Rattle.c_syntax.specs.declared.parts.Identifier.{Identifier}
 
 -- what a later part makes of the scopes behind an earlier one
 abbrev pub behind : Option HeldScopes → (HeldScopes → Option HeldScopes) → Option HeldScopes
@@ -46,6 +48,20 @@ abbrev pub at_name : Option Kind → ℕ → HeldScopes → Option HeldScopes
 at_name None name scopes = Some scopes
 at_name (Some kind) name scopes = hold name kind scopes
 
+-- a base word alone
+abbrev pub is_base : Declr → Bool
+is_base (base_name token) = true
+is_base (declr_name token name) = false
+is_base (array d opening words size closing) = false
+is_base (params d opening ps dots closing) = false
+is_base (identifiers d opening names closing) = false
+is_base (pointer star words d) = false
+is_base (declr_paren opening attrs d closing) = false
+is_base (abs_pointer star words d) = false
+is_base (abs_paren opening attrs d closing) = false
+is_base (abs_array d opening words size closing) = false
+is_base (abs_params d opening ps dots closing) = false
+
 -- the name that a declarator begins with
 abbrev pub first_name : Declr → Option ℕ
 first_name (declr_name token name) = Some name
@@ -57,10 +73,17 @@ first_name (abs_pointer star words d) = None
 first_name (abs_paren opening attrs d closing) = None
 first_name (abs_array d opening words size closing) = None
 first_name (abs_params d opening ps dots closing) = None
+first_name (identifiers d opening names closing) = first_name d
+first_name (base_name token) = None
 
 abbrev pub begins_with_type : HeldScopes → Option ℕ → Bool
 begins_with_type scopes None = false
 begins_with_type scopes (Some name) = names_type scopes name
+
+-- none of the identifiers of a list is a typedef name at its place
+abbrev pub identifiers_scopes : List Identifier → HeldScopes → Option HeldScopes
+identifiers_scopes [] s = Some s
+identifiers_scopes (it ∷ names) s = behind (where_true (not (names_type s it.name)) s) (identifiers_scopes names)
 
 -- In a parameter's declarator a name right behind a parenthesis and its attributes is no typedef name: it would be the
 -- first word of a parameter there (C99, 6.7.5.3 paragraph 11).
@@ -75,6 +98,8 @@ abbrev mutual
   shows_no_type scopes (abs_paren opening attrs d closing) = shows_no_type scopes d
   shows_no_type scopes (abs_array d opening words size closing) = some_shows_no_type scopes d
   shows_no_type scopes (abs_params d opening ps dots closing) = some_shows_no_type scopes d
+  shows_no_type scopes (identifiers d opening names closing) = shows_no_type scopes d
+  shows_no_type scopes (base_name token) = true
 
   pub some_shows_no_type : HeldScopes → SomeDeclr → Bool
   some_shows_no_type scopes no_declr = true
@@ -104,6 +129,20 @@ abbrev mutual
   expr_scopes (va_start keyword opening e separator e2 closing) s = behind (expr_scopes e s) (expr_scopes e2)
   expr_scopes (va_copy keyword opening e separator e2 closing) s = behind (expr_scopes e s) (expr_scopes e2)
   expr_scopes (offset keyword opening ws d separator name steps closing) s = behind (behind (spec_words_scopes ws s) (some_declr_scopes None d)) (desigs_scopes steps)
+  expr_scopes (complex_part keyword e) s = expr_scopes e s
+  expr_scopes (label_use token name) s = where_true (is_wide s) s
+  expr_scopes (compat keyword opening ws d separator ws2 d2 closing) s =
+      behind (behind (behind (spec_words_scopes ws s) (some_declr_scopes None d)) (spec_words_scopes ws2)) (some_declr_scopes None d2)
+  expr_scopes (choose keyword opening e separator e2 separator2 e3 closing) s = behind (behind (expr_scopes e s) (expr_scopes e2)) (expr_scopes e3)
+  expr_scopes (generic keyword opening e xs closing) s = behind (expr_scopes e s) (assocs_scopes xs)
+
+  pub assocs_scopes : Assocs → HeldScopes → Option HeldScopes
+  assocs_scopes no_assocs s = Some s
+  assocs_scopes (more_assocs x xs) s = behind (assoc_scopes x s) (assocs_scopes xs)
+
+  pub assoc_scopes : Assoc → HeldScopes → Option HeldScopes
+  assoc_scopes (typed_assoc ws d colon e) s = behind (behind (spec_words_scopes ws s) (some_declr_scopes None d)) (expr_scopes e)
+  assoc_scopes (default_assoc keyword colon e) s = expr_scopes e s
 
   pub operator_scopes : Operator → HeldScopes → Option HeldScopes
   operator_scopes comma s = Some s
@@ -134,6 +173,10 @@ abbrev mutual
   spec_word_scopes (enum_type enum) s = enum_type_scopes enum s
   spec_word_scopes (typedef_name name) s = where_true (names_type s name.name) s
   spec_word_scopes (attribute attr) s = Some s
+  spec_word_scopes (typeof_value keyword opening e closing) s = expr_scopes e s
+  spec_word_scopes (typeof_type word opening ws d closing) s = behind (spec_words_scopes ws s) (some_declr_scopes None d)
+  spec_word_scopes (align attr) s = Some s
+  spec_word_scopes (auto_word token) s = Some s
 
   pub some_body_scopes : SomeBody → HeldScopes → Option HeldScopes
   some_body_scopes no_body s = Some s
@@ -185,6 +228,8 @@ abbrev mutual
   declr_scopes kind (abs_paren opening attrs d closing) s = declr_scopes kind d s
   declr_scopes kind (abs_array d opening words size closing) s = behind (some_declr_scopes kind d s) (some_size_scopes size)
   declr_scopes kind (abs_params d opening ps dots closing) s = behind (some_declr_scopes kind d s) (in_own_scope (params_scopes ps))
+  declr_scopes kind (identifiers d opening names closing) s = behind (declr_scopes kind d s) (λ t. behind (where_true (is_wide t) t) (identifiers_scopes names))
+  declr_scopes kind (base_name token) s = where_true (is_wide s && is_typedef kind) s
 
   pub some_declr_scopes : Option Kind → SomeDeclr → HeldScopes → Option HeldScopes
   some_declr_scopes kind no_declr s = Some s
@@ -223,6 +268,8 @@ abbrev mutual
   pub desig_scopes : Desig → HeldScopes → Option HeldScopes
   desig_scopes (member_desig token name) s = Some s
   desig_scopes (index_desig opening e closing) s = expr_scopes e s
+  desig_scopes (range_desig opening e dots e2 closing) s = behind (behind (expr_scopes e s) (λ t. where_true (is_wide t) t)) (expr_scopes e2)
+  desig_scopes (old_desig name colon) s = where_true (is_wide s) s
 
   pub some_init_scopes : SomeInit → HeldScopes → Option HeldScopes
   some_init_scopes no_init s = Some s
@@ -234,8 +281,15 @@ abbrev mutual
   init_declrs_scopes kind (more_init_declrs attrs d asm_label attrs2 init ds) s =
       behind (behind (declr_scopes (Some kind) d s) (λ t. some_init_scopes init (release kind t))) (init_declrs_scopes kind ds)
 
+  -- a name of the type of its initialiser is declared behind that; a base word declares nothing
+  pub auto_declrs_scopes : InitDeclrs → HeldScopes → Option HeldScopes
+  auto_declrs_scopes no_init_declrs s = Some s
+  auto_declrs_scopes (more_init_declrs attrs d asm_label attrs2 init ds) s =
+      behind (behind (behind (if is_base d then Some s else declr_scopes (Some Value) d s) (some_init_scopes init)) (λ t. Some (release Value t))) (auto_declrs_scopes ds)
+
   pub declaration_scopes : Declaration → HeldScopes → Option HeldScopes
-  declaration_scopes (declaration exts ws ds semi) s = behind (spec_words_scopes ws s) (init_declrs_scopes (declared_kind ws) ds)
+  declaration_scopes (declaration exts ws ds semi) s =
+      behind (spec_words_scopes ws s) (if has_auto ws then auto_declrs_scopes ds else init_declrs_scopes (declared_kind ws) ds)
 
   pub decl_scopes : Decl → HeldScopes → Option HeldScopes
   decl_scopes (decl_declaration d) s = declaration_scopes d s
@@ -248,6 +302,7 @@ abbrev mutual
   pub block_item_scopes : BlockItem → HeldScopes → Option HeldScopes
   block_item_scopes (block_decl d) s = decl_scopes d s
   block_item_scopes (block_stmt t) s = stmt_scopes t s
+  block_item_scopes (block_labels keyword names semi) s = Some s
 
   pub stmt_scopes : Stmt → HeldScopes → Option HeldScopes
   stmt_scopes (block opening items closing) s = in_own_scope (block_items_scopes items) s
@@ -268,6 +323,8 @@ abbrev mutual
   stmt_scopes (break_stmt keyword semi) s = Some s
   stmt_scopes (return_stmt keyword e semi) s = some_expr_scopes e s
   stmt_scopes (asm_stmt keyword words group semi) s = Some s
+  stmt_scopes (case_range keyword e dots e2 colon t) s = behind (behind (behind (expr_scopes e s) (λ u. where_true (is_wide u) u)) (expr_scopes e2)) (stmt_scopes t)
+  stmt_scopes (goto_value keyword star e semi) s = behind (where_true (is_wide s) s) (expr_scopes e)
 
   pub some_else_scopes : SomeElse → HeldScopes → Option HeldScopes
   some_else_scopes no_else s = Some s
@@ -276,3 +333,7 @@ abbrev mutual
   pub for_start_scopes : ForStart → HeldScopes → Option HeldScopes
   for_start_scopes (start_declaration d) s = declaration_scopes d s
   for_start_scopes (start_value e semi) s = some_expr_scopes e s
+
+-- behind what stands in the place of the name behind `__auto_type`
+abbrev pub auto_name_scopes : Declr → HeldScopes → Option HeldScopes
+auto_name_scopes d s = if is_base d then Some s else declr_scopes (Some Value) d s

@@ -1,13 +1,13 @@
 -- The well-formed units of preprocessed C: their tokens are those of the grammar, the rules beside the grammar hold, each
 -- name has the kind of its place by scope, and the height is at most 500.
-use Rattle.std.specs.Prelude.{◌≡◌, ℕ, suc, List, [], ◌∷◌, Option, None, Some}
+use Rattle.std.specs.Prelude.{◌≡◌, ℕ, Bool, suc, List, [], ◌∷◌, Option, None, Some}
 use Rattle.c_words.specs.declared.kinds.TokenKind.{TokenKind}
 use Rattle.c_tree.specs.declared.lexeme.Lexeme.{Lexeme}
-use Rattle.c_tree.specs.Tree.{Declr, pointer, declr_name, declr_paren, array, params, abs_pointer, abs_paren, abs_array, abs_params, Params, SpecWords, BlockItems}
-use Rattle.c_tree.specs.Unit.{Item, function_item, decl_item, asm_item, semi_item, IsUnit, AreTokensOf}
+use Rattle.c_tree.specs.Tree.{Declr, pointer, declr_name, declr_paren, array, params, abs_pointer, abs_paren, abs_array, abs_params, Params, no_params, SpecWords, BlockItems, identifiers, base_name, Declaration}
+use Rattle.c_tree.specs.Unit.{Item, function_item, decl_item, asm_item, semi_item, IsUnit, AreTokensOf, old_function_item}
 use Rattle.typedef_scope.specs.declared.kind.Kind.TheVariants.{Value}
 use Rattle.c_units.specs.HeldScopes.{HeldScopes, file_scope, enter, innermost, reopen, leave, hold, release}
-use Rattle.c_units.specs.Scoping.{behind, spec_words_scopes, declr_scopes, params_scopes, decl_scopes, block_items_scopes}
+use Rattle.c_units.specs.Scoping.{behind, spec_words_scopes, declr_scopes, params_scopes, decl_scopes, block_items_scopes, declaration_scopes}
 
 -- the name of a declarator alone, parentheses aside
 abbrev pub bare_name : Declr → Option ℕ
@@ -20,6 +20,8 @@ bare_name (abs_pointer star words d) = None
 bare_name (abs_paren opening attrs d closing) = None
 bare_name (abs_array d opening words size closing) = None
 bare_name (abs_params d opening ps dots closing) = None
+bare_name (identifiers d opening names closing) = None
+bare_name (base_name token) = None
 
 -- a function's own parameters are those directly around its name; here with the name itself
 pub record OwnParams : Type 0 where
@@ -40,6 +42,8 @@ own_params (abs_pointer star words d) = None
 own_params (abs_paren opening attrs d closing) = None
 own_params (abs_array d opening words size closing) = None
 own_params (abs_params d opening ps dots closing) = None
+own_params (identifiers d opening names closing) = or_those_of (bare_name d) no_params (own_params d)
+own_params (base_name token) = None
 
 -- behind a function's own parameters, in their scope, while the function's name is held
 abbrev pub own_scope : Option OwnParams → HeldScopes → Option HeldScopes
@@ -52,8 +56,20 @@ function_scopes ws d items s =
     behind (spec_words_scopes ws s) (λ t. behind (declr_scopes (Some Value) d t) (λ u. behind (own_scope (own_params d) t)
     (λ w. behind (block_items_scopes items (reopen (innermost w) (release Value u))) (λ inner. Some (leave inner)))))
 
+-- the declarations of parameters behind a list of identifiers
+abbrev pub declarations_scopes : List Declaration → HeldScopes → Option HeldScopes
+declarations_scopes [] s = Some s
+declarations_scopes (d ∷ ds) s = behind (declaration_scopes d s) (declarations_scopes ds)
+
+-- Such a function's declarations stand in the scope of its parameters, while its name is held; it is declared behind the last of these.
+abbrev pub old_function_scopes : SpecWords → Declr → List Declaration → BlockItems → HeldScopes → Option HeldScopes
+old_function_scopes ws d ds items s =
+    behind (spec_words_scopes ws s) (λ t. behind (declr_scopes (Some Value) d t) (λ u. behind (declarations_scopes ds (enter u))
+    (λ w. behind (block_items_scopes items (reopen (innermost w) (release Value (leave w)))) (λ inner. Some (leave inner)))))
+
 abbrev pub item_scopes : Item → HeldScopes → Option HeldScopes
 item_scopes (function_item exts ws d attrs opening items closing) s = function_scopes ws d items s
+item_scopes (old_function_item exts ws d attrs ds opening items closing) s = old_function_scopes ws d ds items s
 item_scopes (decl_item d) s = decl_scopes d s
 item_scopes (asm_item keyword group semi) s = Some s
 item_scopes (semi_item semi) s = Some s
@@ -63,12 +79,12 @@ items_scopes [] s = Some s
 items_scopes (item ∷ items) s = behind (item_scopes item s) (items_scopes items)
 
 -- The tokens are those of these items, which obey the grammar and the rules beside it, and each name has the kind of its
--- place.
-pub record IsWellFormed (all : List Lexeme) (items : List Item) : Type 0 where
+-- place. The unit is read as wider C or not.
+pub record IsWellFormed (wide : Bool) (all : List Lexeme) (items : List Item) : Type 0 where
   pub tokens : AreTokensOf all items
   pub rules : IsUnit all items
   pub scopes : HeldScopes
-  pub named : items_scopes items file_scope ≡ Some scopes
+  pub named : items_scopes items (file_scope wide) ≡ Some scopes
 
 -- tokens with their numbers, from a number on
 abbrev pub numbered_from : ℕ → List TokenKind → List Lexeme

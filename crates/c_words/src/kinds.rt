@@ -43,6 +43,8 @@ pub enum Keyword {
     While,
     Bool,
     Complex,
+    /// `_Complex` in wider C, which goes with integers and base words too.
+    AnyComplex,
     Imaginary,
     Asm,
     Attribute,
@@ -60,8 +62,26 @@ pub enum Keyword {
     VaStart,
     VaCopy,
     Offsetof,
-    /// A word that no form of the grammar has, as `typeof` or `_Generic`.
+    /// A word that no form of the grammar has, as `typeof` or `_Generic` where sources are not read as wider C.
     Reserved,
+    /// `typeof`, `__typeof` and `__typeof__`.
+    Typeof,
+    Generic,
+    Atomic,
+    /// `_Atomic` right before `(`, which begins the name of a type in specifiers.
+    AtomicType,
+    Alignas,
+    AutoType,
+    /// `__label__`.
+    LabelWord,
+    /// `__real__` and `__imag__`.
+    Part,
+    /// `__seg_fs` and `__seg_gs`, the named address spaces.
+    Seg,
+    /// `__builtin_types_compatible_p`.
+    Compatible,
+    /// `__builtin_choose_expr`.
+    Choose,
 }
 
 /// An operator or a bracket (C99, 6.4.6), without `#`, `##` and the digraphs.

@@ -6,7 +6,7 @@ ghost use Rattle.flow_graph.specs.System.{IsWithin};
 use crate::{CertFault, read_certificate};
 use certificate_text::certificate_text;
 use flow_graph::{Constraint, FlowGraph, Link};
-use lattice_core::{Entry, Lattice, Lattices, Level, Name, Pair, Sign};
+use lattice_core::{Deref, Entry, Lattice, Lattices, Level, Name, Pair, Sign};
 use qual_base::{Elem, LatticeNo, Numbered, Span, TokenId, UnitNo, VarId};
 use std::alloc::Global;
 use std::test::Fail;
@@ -54,7 +54,7 @@ fn two(alloc: Global) -> Result<Lattices, Fail> {
             level: Level::Value,
             sign: Sign::Eq,
             write: false,
-            deref: false,
+            deref: Deref::No,
         })
     };
     let mut entries = Vec::new(alloc);

@@ -7,7 +7,7 @@ use crate::needed::{Case, NEEDED, Row, Sets};
 use certificate_laws::CertRule;
 use closure_check::{CheckIndex, Part, check_part, is_part};
 use flow_graph::{Constraint, FlowGraph, Link, Site, names_elements};
-use lattice_core::{Entry, Lattice, Level, Name, Pair, Sign};
+use lattice_core::{Deref, Entry, Lattice, Level, Name, Pair, Sign};
 use qual_base::{
     Elem, ElemSet, FuncId, LatticeNo, Numbered, Owner, SiteId, Span, TokenId, UnitNo, VarId,
 };
@@ -135,7 +135,7 @@ fn two(rt: &impl Abort, alloc: Global) -> Result<Lattice, Fail> {
             level: Level::Value,
             sign: Sign::Eq,
             write: false,
-            deref: false,
+            deref: Deref::No,
         })?;
     }
     let line = Pair {

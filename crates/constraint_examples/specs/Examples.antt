@@ -8,6 +8,7 @@ use Rattle.c_syntax.specs.declared.parts.Qual.TheVariants as quals
 use Rattle.c_syntax.specs.declared.parts.PointerWord.TheVariants as pointer_words
 use Rattle.qual_base.specs.declared.places.Owner.{Owner}
 use Rattle.qual_base.specs.declared.places.Owner.TheVariants.{Nobody, Function}
+use Rattle.lattice_core.specs.declared.Deref.TheVariants as derefs
 use Rattle.lattice_core.specs.declared.Entry.{Entry}
 use Rattle.lattice_core.specs.declared.Level.TheVariants as levels
 use Rattle.lattice_core.specs.declared.Sign.TheVariants as attribute_signs
@@ -36,7 +37,7 @@ of_entries entries = record { entries = entries; order = record { above = [] }; 
 -- a source of unit 1 whose annotation words and zeros stand at these tokens
 abbrev pub program : List (ℕ × (ℕ × ℕ)) → List ℕ → List LatticeView → List Item → Program
 program marks zeros lattices items = record {
-  sources = record { spelling = record { unit = 1; annotates = λ token. is_some (mark_among marks token); is_naught = among zeros; key = λ name. name }; items = items } ∷ [];
+  sources = record { spelling = record { unit = 1; wide = false; annotates = λ token. is_some (mark_among marks token); is_naught = among zeros; key = λ name. name }; items = items } ∷ [];
   lattices = lattices;
   mark = λ at. mark_among marks at.1;
   index = λ at. [];
@@ -52,19 +53,19 @@ pub record Gives (p : Program) (constraints : List (Link × (ℕ × ℕ))) (site
   pub owners_are : (system_of p).owners ≡ owners
 
 abbrev pub lattices_1 : List LatticeView
-lattices_1 = ((of_entries ((record { name = []; level = levels.Value; sign = attribute_signs.Neg; write = false; deref = false }) ∷ (record { name = []; level = levels.Value; sign = attribute_signs.Pos; write = false; deref = false }) ∷ [])) ∷ [])
+lattices_1 = ((of_entries ((record { name = []; level = levels.Value; sign = attribute_signs.Neg; write = false; deref = derefs.No }) ∷ (record { name = []; level = levels.Value; sign = attribute_signs.Pos; write = false; deref = derefs.No }) ∷ [])) ∷ [])
 
 abbrev pub lattices_2 : List LatticeView
-lattices_2 = ((of_entries ((record { name = []; level = levels.Ref; sign = attribute_signs.Neg; write = true; deref = false }) ∷ (record { name = []; level = levels.Ref; sign = attribute_signs.Pos; write = false; deref = false }) ∷ [])) ∷ [])
+lattices_2 = ((of_entries ((record { name = []; level = levels.Ref; sign = attribute_signs.Neg; write = true; deref = derefs.No }) ∷ (record { name = []; level = levels.Ref; sign = attribute_signs.Pos; write = false; deref = derefs.No }) ∷ [])) ∷ [])
 
 abbrev pub lattices_3 : List LatticeView
-lattices_3 = ((of_entries ((record { name = []; level = levels.Value; sign = attribute_signs.Neg; write = false; deref = true }) ∷ (record { name = []; level = levels.Value; sign = attribute_signs.Pos; write = false; deref = false }) ∷ [])) ∷ [])
+lattices_3 = ((of_entries ((record { name = []; level = levels.Value; sign = attribute_signs.Neg; write = false; deref = derefs.Yes }) ∷ (record { name = []; level = levels.Value; sign = attribute_signs.Pos; write = false; deref = derefs.No }) ∷ [])) ∷ [])
 
 abbrev pub lattices_4 : List LatticeView
-lattices_4 = ((of_entries ((record { name = []; level = levels.Value; sign = attribute_signs.Neg; write = false; deref = false }) ∷ (record { name = []; level = levels.Value; sign = attribute_signs.Eq; write = false; deref = false }) ∷ (record { name = []; level = levels.Value; sign = attribute_signs.Pos; write = false; deref = false }) ∷ (record { name = []; level = levels.Value; sign = attribute_signs.Neg; write = false; deref = false }) ∷ [])) ∷ [])
+lattices_4 = ((of_entries ((record { name = []; level = levels.Value; sign = attribute_signs.Neg; write = false; deref = derefs.No }) ∷ (record { name = []; level = levels.Value; sign = attribute_signs.Eq; write = false; deref = derefs.No }) ∷ (record { name = []; level = levels.Value; sign = attribute_signs.Pos; write = false; deref = derefs.No }) ∷ (record { name = []; level = levels.Value; sign = attribute_signs.Neg; write = false; deref = derefs.No }) ∷ [])) ∷ [])
 
 abbrev pub lattices_5 : List LatticeView
-lattices_5 = ((of_entries ((record { name = []; level = levels.Value; sign = attribute_signs.Neg; write = false; deref = false }) ∷ (record { name = []; level = levels.Value; sign = attribute_signs.Pos; write = false; deref = false }) ∷ [])) ∷ (of_entries ((record { name = []; level = levels.Value; sign = attribute_signs.Neg; write = false; deref = true }) ∷ (record { name = []; level = levels.Value; sign = attribute_signs.Pos; write = false; deref = false }) ∷ [])) ∷ [])
+lattices_5 = ((of_entries ((record { name = []; level = levels.Value; sign = attribute_signs.Neg; write = false; deref = derefs.No }) ∷ (record { name = []; level = levels.Value; sign = attribute_signs.Pos; write = false; deref = derefs.No }) ∷ [])) ∷ (of_entries ((record { name = []; level = levels.Value; sign = attribute_signs.Neg; write = false; deref = derefs.Yes }) ∷ (record { name = []; level = levels.Value; sign = attribute_signs.Pos; write = false; deref = derefs.No }) ∷ [])) ∷ [])
 
 abbrev pub lattices_6 : List LatticeView
 lattices_6 = []

@@ -8,6 +8,7 @@ use Rattle.lattice_core.specs.declared.Level.{Level}
 use Rattle.lattice_core.specs.declared.Level.TheVariants as levels
 use Rattle.lattice_core.specs.declared.Sign.{Sign}
 use Rattle.lattice_core.specs.declared.Sign.TheVariants as attribute_signs
+use Rattle.lattice_core.specs.declared.Deref.TheVariants as derefs
 use Rattle.lattice_core.specs.declared.Entry.{Entry}
 use Rattle.lattice_core.specs.View.{LatticeView}
 use Rattle.flow_graph.specs.declared.constraint.Link.TheVariants.{Le, Const}
@@ -27,7 +28,7 @@ is_some_number [] = false
 is_some_number (n ∷ ns) = true
 
 abbrev pub entry : Level → Sign → Entry
-entry level sign = record { name = []; level = level; sign = sign; write = false; deref = false }
+entry level sign = record { name = []; level = level; sign = sign; write = false; deref = derefs.No }
 
 -- lattice 0 is one of references, lattice 1 one of values
 abbrev pub lattices : List LatticeView
@@ -40,6 +41,7 @@ program words marks items sources = record {
   sources = record {
     spelling = record {
       unit = 0;
+      wide = false;
       annotates = λ token. is_some_number (numbers_among words token) || is_some (mark_among marks token);
       is_naught = λ token. false;
       key = λ name. name;
@@ -63,7 +65,7 @@ program_1 = program ((0, (1 ∷ 2 ∷ [])) ∷ (5, (1 ∷ 2 ∷ [])) ∷ (11, (1
 -- those of the declaration in the source.
 abbrev pub program_2 : Program
 program_2 = program ((0, (1 ∷ [])) ∷ (4, (2 ∷ [])) ∷ (5, (1 ∷ [])) ∷ (9, (2 ∷ [])) ∷ (12, (3 ∷ 2 ∷ 1 ∷ [])) ∷ []) ((8, (1, 1)) ∷ []) ((decl_item (decl_declaration (declaration [] (more_words (qualifier (quals.Element 0)) (more_words (basic (record { token = 1; keyword = keywords.Int })) no_words)) (more_init_declrs [] (params (declr_name 2 0) 3 (more_params (more_words (qualifier (quals.Element 4)) (more_words (qualifier (quals.Element 5)) (more_words (basic (record { token = 6; keyword = keywords.Char })) no_words))) no_declr [] (more_params (more_words (qualifier (quals.Element 8)) (more_words (qualifier (quals.Element 9)) (more_words (basic (record { token = 10; keyword = keywords.Int })) no_words))) no_declr [] no_params)) (Some (record { comma = 11; quals = ((quals.Element 12) ∷ []); dots = 13 })) 14) None [] no_init no_init_declrs) 15))) ∷ []) (record {
-  spelling = record { unit = 1; annotates = λ token. false; is_naught = λ token. false; key = λ name. name };
+  spelling = record { unit = 1; wide = false; annotates = λ token. false; is_naught = λ token. false; key = λ name. name };
   items = (decl_item (decl_declaration (declaration [] (more_words (basic (record { token = 0; keyword = keywords.Int })) no_words) (more_init_declrs [] (params (declr_name 1 0) 2 (more_params (more_words (basic (record { token = 3; keyword = keywords.Char })) no_words) no_declr [] (more_params (more_words (basic (record { token = 5; keyword = keywords.Int })) no_words) no_declr [] no_params)) (Some (record { comma = 6; quals = []; dots = 7 })) 8) None [] no_init no_init_declrs) 9))) ∷ [];
 } ∷ [])
 

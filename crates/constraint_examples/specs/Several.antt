@@ -26,6 +26,7 @@ source_of marks unit items =
     record {
       spelling = record {
         unit = unit;
+        wide = false;
         annotates = λ token. is_some (mark_at marks (unit, token));
         is_naught = λ token. false;
         key = λ name. name;

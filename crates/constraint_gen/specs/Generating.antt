@@ -13,6 +13,7 @@ use Rattle.constraint_rules.specs.Systems.{Program, starts_of, system_of}
 use Rattle.unit_system.specs.Systems.{AreNumbered}
 use Rattle.constraint_gen.specs.declared.generating.Generated.{Generated}
 use Rattle.constraint_gen.specs.Programs.{positions_in, listed_in}
+use Rattle.row_rules.specs.Annotations.{has_access}
 
 -- The units of which some tokens and a program are left: each is well formed of its tokens and no two have one number, and the names
 -- and the tapes are theirs.
@@ -29,5 +30,5 @@ pub record IsGenerated (units : List UnitRead) (p : Program) (it : Generated) : 
   pub system : it.graph ≡ system_of p
   pub count : length it.skeletons.vars ≡ length (positions_in p)
   pub stand : (q : PositionView) (v : ℕ) → Stands it.skeletons.vars q v → slice_get (positions_in p) v ≡ Some q
-  pub skeletons : AreNumbered (starts_of p.sources) it.skeletons
+  pub skeletons : AreNumbered (starts_of (has_access p.lattices) p.sources) it.skeletons
   pub listed : it.listed.items ≡ listed_in units p

@@ -9,6 +9,7 @@ use Rattle.c_types.specs.Sources.{UnitRead, lexed_of, sources_in}
 use Rattle.index_words.specs.Marks.{IndexMark, index_in}
 use Rattle.constraint_rules.specs.Systems.{Program, starts_of}
 use Rattle.constraint_gen.specs.Listing.{is_listed, listed_at}
+use Rattle.row_rules.specs.Annotations.{has_access}
 
 -- units in their order over lattices, with what the index words of the prelude say
 abbrev pub program_in : List LatticeView → List IndexMark → List UnitRead → Program
@@ -21,7 +22,7 @@ program_in lattices marks units = record {
 
 -- where the variables stand, by their numbers
 abbrev pub positions_in : Program → List PositionView
-positions_in p = positions_of (starts_of p.sources)
+positions_in p = positions_of (starts_of (has_access p.lattices) p.sources)
 
 -- the variables that a report lists, ascending: those that stand where a source declares a name
 abbrev pub listed_in : List UnitRead → Program → List ℕ

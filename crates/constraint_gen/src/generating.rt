@@ -15,6 +15,7 @@ ghost use Rattle.constraint_gen.specs.Programs.{positions_in, program_in};
 ghost use Rattle.constraint_gen.specs.Generating.{IsGenerated, IsProgramOf};
 ghost use Rattle.constraint_gen.specs.Listing.{is_listed, listed_at};
 ghost use Rattle.constraint_gen.specs.Marking.{NumbersDiffer};
+ghost use Rattle.row_rules.specs.Annotations.{has_access};
 
 use crate::listing::listed;
 use crate::marking::marks;
@@ -28,7 +29,8 @@ use owned_laws::systems_are_owned;
 use position_laws::{positions_are_counted, positions_stand};
 use qual_base::VarId;
 use row_laws::constraints_are_found;
-use start_laws::starts_of_program_are_found;
+use row_world::access_lattices;
+use start_laws::{selections_of_program_are_found, starts_of_program_are_found};
 use std::alloc::Global;
 use unit_skeletons::Skeletons;
 use unit_system::{
@@ -52,19 +54,31 @@ struct Listed {
     listed: Vec<VarId>,
 }
 
+/// Whether some lattice has an element that bounds accesses. Linear in the elements of all lattices.
+fn bounds_accesses(lattices: &Lattices) -> bool
+    ensures { result ≡ has_access lattices.now }
+{
+    access_lattices(lattices) != 0
+}
+
 /// Numbers units and lists variables; where the skeletons begin is let go.
-fn number(alloc: Global, units: &[Tokens], program: &Program) -> Result<Listed, GenerateFault>
-    ensures numbers { IfOk result (λ it. IsNumberingOf program.now it.numbering) }
+fn number(
+    alloc: Global,
+    units: &[Tokens],
+    program: &Program,
+    access: bool,
+) -> Result<Listed, GenerateFault>
+    ensures numbers { IfOk result (λ it. IsNumberingOf access program.now it.numbering) }
     ensures listed { IfOk result (λ it. NumbersDiffer units.now → it.listed.items
         ≡ listed_at (is_listed
         units.now (names_in program.now.rows program.now.names))
-        0 (positions_of (starts_on program.now))) }
-    ensures few { OnOk result (variables_among (starts_on program.now) ≤ most_variables) }
+        0 (positions_of (starts_on access program.now))) }
+    ensures few { OnOk result (variables_among (starts_on access program.now) ≤ most_variables) }
     ensures too_many { IsErrOf result GenerateFault.TooManyVariables
-        → most_variables < variables_among (starts_on program.now) }
+        → most_variables < variables_among (starts_on access program.now) }
     ensures apart { IsErrOf result GenerateFault.TooManyConstraints → ⊥ }
 {
-    let NumberedUnits { starts, numbering } = match number_units(alloc, program) {
+    let NumberedUnits { starts, numbering } = match number_units(alloc, program, access) {
         Ok(it) => it,
         Err(fault) => return Err(fault),
     };
@@ -83,7 +97,7 @@ fn constrain(
     lattices: &Lattices,
     numbering: Numbering,
 ) -> Result<UnitSystem, GenerateFault>
-    requires { IsNumberingOf program.now numbering }
+    requires { IsNumberingOf (has_access lattices.now) program.now numbering }
     ensures system { IfOk result (λ it. (all : List UnitRead) →
         IsProgramOf all units.now program.now →
         it.graph ≡ system_of (program_in lattices.now prelude.now all)) }
@@ -99,6 +113,7 @@ fn constrain(
     ensures apart { IsErrOf result GenerateFault.TooManyVariables → ⊥ }
 {
     starts_of_program_are_found();
+    selections_of_program_are_found();
     constraints_are_found();
     let Ok(marks) = marks(alloc, units) else {
         return Err(GenerateFault::NoMemory);
@@ -158,7 +173,12 @@ pub fn generate(
     systems_are_owned();
     elements_are_named();
     lattices.law();
-    let Listed { numbering, listed } = match number(alloc, units, program) {
+    let Listed { numbering, listed } = match number(
+        alloc,
+        units,
+        program,
+        bounds_accesses(lattices),
+    ) {
         Ok(it) => it,
         Err(fault) => return Err(fault),
     };

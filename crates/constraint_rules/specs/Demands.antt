@@ -1,10 +1,10 @@
 -- The constraints of each form, by cases on the tree: those of its parts in the order of the text, and behind them its own.
-use Rattle.std.specs.Prelude.{ℕ, suc, Bool, true, false, List, [], ◌∷◌, ◌++◌, Option, None, Some}
+use Rattle.std.specs.Prelude.{ℕ, suc, Bool, true, false, List, [], ◌∷◌, ◌++◌, Option, None, Some, ◌&&◌, if◌then◌else◌}
 use Rattle.qual_base.specs.declared.places.Span.{Span}
 use Rattle.flow_graph.specs.declared.constraint.Constraint.{Constraint}
-use Rattle.c_tree.specs.Tree.{Expr, operation, cast, prefix, sizeof_value, sizeof_type, extension, index, call, dot, arrow, post, compound, name_use, number_use, char_use, text_use, paren, statement_expr, va_arg, va_start, va_copy, offset, comma, assign, cond, binary, SomeExpr, no_expr, some_expr, Exprs, no_exprs, more_exprs, SpecWords, no_words, more_words, SpecWord, storage, thread, inline_word, noreturn, qualifier, basic, struct_type, enum_type, typedef_name, attribute, SomeBody, no_body, some_body, StructItems, no_struct_items, more_struct_items, StructItem, member, member_semi, member_assert, MemDeclrs, no_mem_declrs, more_mem_declrs, MemDeclr, named, unnamed, Declr, pointer, declr_name, declr_paren, array, params, abs_pointer, abs_paren, abs_array, abs_params, SomeDeclr, no_declr, some_declr, Params, no_params, more_params, Init, init_value, init_braced, InitList, init_list, InitItems, no_init_items, more_init_items, Desigs, no_desigs, more_desigs, Desig, member_desig, index_desig, SomeInit, no_init, some_init, InitDeclrs, no_init_declrs, more_init_declrs, Declaration, declaration, Decl, decl_declaration, decl_assert, BlockItems, no_block_items, more_block_items, BlockItem, block_decl, block_stmt, Stmt, block, expr_stmt, attr_stmt, label, case_stmt, default_stmt, if_stmt, switch_stmt, while_stmt, do_stmt, for_stmt, goto_stmt, continue_stmt, break_stmt, return_stmt, asm_stmt, SomeElse, no_else, some_else, ForStart, start_declaration, start_value}
+use Rattle.c_tree.specs.Tree.{Expr, operation, cast, prefix, sizeof_value, sizeof_type, extension, index, call, dot, arrow, post, compound, name_use, number_use, char_use, text_use, paren, statement_expr, va_arg, va_start, va_copy, offset, comma, assign, cond, binary, SomeExpr, no_expr, some_expr, Exprs, no_exprs, more_exprs, SpecWords, no_words, more_words, SpecWord, storage, thread, inline_word, noreturn, qualifier, basic, struct_type, enum_type, typedef_name, attribute, SomeBody, no_body, some_body, StructItems, no_struct_items, more_struct_items, StructItem, member, member_semi, member_assert, MemDeclrs, no_mem_declrs, more_mem_declrs, MemDeclr, named, unnamed, Declr, pointer, declr_name, declr_paren, array, params, abs_pointer, abs_paren, abs_array, abs_params, SomeDeclr, no_declr, some_declr, Params, no_params, more_params, Init, init_value, init_braced, InitList, init_list, InitItems, no_init_items, more_init_items, Desigs, no_desigs, more_desigs, Desig, member_desig, index_desig, SomeInit, no_init, some_init, InitDeclrs, no_init_declrs, more_init_declrs, Declaration, declaration, Decl, decl_declaration, decl_assert, BlockItems, no_block_items, more_block_items, BlockItem, block_decl, block_stmt, Stmt, block, expr_stmt, attr_stmt, label, case_stmt, default_stmt, if_stmt, switch_stmt, while_stmt, do_stmt, for_stmt, goto_stmt, continue_stmt, break_stmt, return_stmt, asm_stmt, SomeElse, no_else, some_else, ForStart, start_declaration, start_value, complex_part, label_use, compat, choose, generic, typeof_value, typeof_type, align, auto_word, range_desig, old_desig, case_range, goto_value, block_labels, identifiers, base_name, Assocs, no_assocs, more_assocs, Assoc, typed_assoc, default_assoc}
 use Rattle.c_tree.specs.Ends.{first_token, last_token, first_text}
-use Rattle.c_tree.specs.Unit.{Item, function_item, decl_item, asm_item, semi_item}
+use Rattle.c_tree.specs.Unit.{Item, function_item, decl_item, asm_item, semi_item, old_function_item}
 use Rattle.type_table.specs.Types.{CType, pointer}
 use Rattle.qual_types.specs.declared.look.Kind.TheVariants as kinds
 use Rattle.qual_types.specs.Skel.{Skel, flat, ref, fun, root, param_at, struct_of}
@@ -13,11 +13,14 @@ use Rattle.name_rules.specs.Spellings.{Named}
 use Rattle.name_rules.specs.Uses.{use_at, type_named_at}
 use Rattle.type_rules.specs.Tokens.{first_word, declared_name, is_bare}
 use Rattle.type_rules.specs.Shapes.{is_zero}
-use Rattle.constraint_rules.specs.Values.{val}
-use Rattle.row_rules.specs.Annotations.{further, parameters, write_bounds}
-use Rattle.row_rules.specs.Rows.{RowKind, assigned, behind_known, cast_demand, chosen, computed, dereferenced, first_alone, flowing, formed_here, initialised, literal_row, next_of_struct, own_skeleton, param_kind, passed, prefixed, returned, row_at, row_of_name, started, taken_fresh, use_demand}
-use Rattle.row_rules.specs.Vals.{contents, member_of, member_skel, own, value}
+use Rattle.constraint_rules.specs.Values.{val, pointer_to, candidate_of, candidates_of}
+use Rattle.row_rules.specs.Annotations.{further, parameters, write_bounds, has_access}
+use Rattle.row_rules.specs.Rows.{RowKind, assigned, behind_known, cast_demand, chosen, computed, dereferenced, first_alone, flowing, formed_here, initialised, literal_row, next_of_struct, own_skeleton, param_kind, passed, prefixed, returned, row_at, row_of_name, started, taken_fresh, use_demand, index_demand, carried, picked, identified_kind}
+use Rattle.row_rules.specs.Vals.{contents, member_of, member_skel, own, value, left_of}
 use Rattle.row_rules.specs.Worlds.{World, all_lattices, at, in_all, span}
+use Rattle.c_tree.specs.Addresses.{comes_by_pointer}
+use Rattle.c_words.specs.declared.kinds.Punct.{Punct}
+use Rattle.c_words.specs.declared.kinds.Punct.TheVariants as signs
 
 abbrev pub type_of_name : World → SpecWords → Option CType
 type_of_name w ws = type_named_at w.names.type_names (at w (first_word ws))
@@ -25,6 +28,8 @@ type_of_name w ws = type_named_at w.names.type_names (at w (first_word ws))
 abbrev pub desig_skel : World → Skel → Desig → Skel
 desig_skel w s (member_desig token name) = contents (member_skel w s name.name)
 desig_skel w s (index_desig opening e closing) = contents s
+desig_skel w s (range_desig opening e dots e2 closing) = contents s
+desig_skel w s (old_desig name colon) = contents (member_skel w s name.name)
 
 abbrev pub desigs_skel : World → Skel → Desigs → Skel
 desigs_skel w s no_desigs = s
@@ -45,6 +50,8 @@ abbrev pub next_behind : World → Skel → Desigs → ℕ → ℕ
 next_behind w s no_desigs next = suc next
 next_behind w s (more_desigs (member_desig token name) ds) next = behind_known (member_of w (struct_of s) name.name) next
 next_behind w s (more_desigs (index_desig opening e closing) ds) next = next
+next_behind w s (more_desigs (range_desig opening e dots e2 closing) ds) next = next
+next_behind w s (more_desigs (old_desig name colon) ds) next = behind_known (member_of w (struct_of s) name.name) next
 
 module _ (w : World) where
   -- the span of an expression
@@ -85,54 +92,82 @@ unnamed_word_demand w (basic word) = []
 unnamed_word_demand w (enum_type e) = []
 unnamed_word_demand w (typedef_name name) = []
 unnamed_word_demand w (attribute attr) = []
+unnamed_word_demand w (typeof_value keyword opening e closing) = []
+unnamed_word_demand w (typeof_type word opening ws d closing) = []
+unnamed_word_demand w (align attr) = []
+unnamed_word_demand w (auto_word token) = []
 
 abbrev pub unnamed_demand : World → SpecWords → List Constraint
 unnamed_demand w no_words = []
 unnamed_demand w (more_words word words) = unnamed_word_demand w word ++ unnamed_demand w words
 
+-- The operand of `&` is only addressed; its pointer may carry the one by which it came to its place. With the constraints of the
+-- operand where it is only addressed, and where it is not.
+abbrev pub prefix_demand : World → Bool → ℕ → Punct → Expr → List Constraint → List Constraint → List Constraint
+prefix_demand w aims token signs.Ampersand e addressed taken = addressed
+    ++ (if comes_by_pointer false e && has_access w.lattices then carried w (val w e).skel (pointer_to w e) (own w token) (span w token token)
+    else prefixed w signs.Ampersand (zero_at w e) (val w e) (own w token) false (where_is w (prefix token signs.Ampersand e)))
+prefix_demand w aims token p e addressed taken = taken ++ prefixed w p (zero_at w e) (val w e) (own w token) aims (where_is w (prefix token p e))
+
+-- of an expression; where its place is only addressed, an index, a `*` or a `->` there is bounded by fewer elements
 abbrev mutual
-  pub demand : World → Expr → List Constraint
-  demand w (operation e comma token e2) = demand w e ++ demand w e2
-  demand w (operation e (assign p) token e2) = demand w e ++ (demand w e2 ++ assigned w p (zero_at w e2) (val w e).skel (value (val w e2)) (where_is w (operation e (assign p) token e2)))
-  demand w (operation e (cond no_expr colon) token e2) = demand w e ++ (demand w e2
+  pub demand_in : World → Bool → Expr → List Constraint
+  demand_in w aims (operation e comma token e2) = demand_in w false e ++ demand_in w false e2
+  demand_in w aims (operation e (assign p) token e2) = demand_in w false e ++ (demand_in w false e2 ++ assigned w p (zero_at w e2) (val w e).skel (value (val w e2)) (where_is w (operation e (assign p) token e2)))
+  demand_in w aims (operation e (cond no_expr colon) token e2) = demand_in w false e ++ (demand_in w false e2
       ++ chosen w (zero_at w e) (zero_at w e2) (value (val w e)) (value (val w e2)) (own w token) (where_is w (operation e (cond no_expr colon) token e2)))
-  demand w (operation e (cond (some_expr m) colon) token e2) = demand w e ++ (demand w m ++ (demand w e2
+  demand_in w aims (operation e (cond (some_expr m) colon) token e2) = demand_in w false e ++ (demand_in w false m ++ (demand_in w false e2
       ++ chosen w (zero_at w m) (zero_at w e2) (value (val w m)) (value (val w e2)) (own w token) (where_is w (operation e (cond (some_expr m) colon) token e2))))
-  demand w (operation e (binary p) token e2) = demand w e ++ (demand w e2
+  demand_in w aims (operation e (binary p) token e2) = demand_in w false e ++ (demand_in w false e2
       ++ computed w p (zero_at w e) (zero_at w e2) (value (val w e)) (value (val w e2)) (own w token) (where_is w (operation e (binary p) token e2)))
-  demand w (cast opening ws d closing e) = words_demand w ws ++ (some_declr_demand w row_of_name d ++ (demand w e
+  demand_in w aims (cast opening ws d closing e) = words_demand w ws ++ (some_declr_demand w row_of_name d ++ (demand_in w false e
       ++ cast_demand w (type_of_name w ws) (zero_at w e) (value (val w e)) (own w opening) (where_is w (cast opening ws d closing e))))
-  demand w (prefix token p e) = demand w e ++ prefixed w p (zero_at w e) (val w e) (own w token) (where_is w (prefix token p e))
-  demand w (sizeof_value word e) = []
-  demand w (sizeof_type word opening ws d closing) = []
-  demand w (extension keyword e) = demand w e
-  demand w (index e opening e2 closing) = demand w e ++ (demand w e2 ++ dereferenced w (val w (index e opening e2 closing)).skel (where_is w (index e opening e2 closing)))
-  demand w (call e opening es closing) = demand w e ++ (exprs_demand w es ++ arguments w (contents (value (val w e))) 0 es)
-  demand w (dot e token name) = demand w e
-  demand w (arrow e token name) = demand w e ++ dereferenced w (value (val w e)) (where_is w (arrow e token name))
-  demand w (post e token p) = demand w e ++ write_bounds w (root (val w e).skel) (where_is w (post e token p))
-  demand w (compound opening ws d closing list) = words_demand w ws ++ (some_declr_demand w row_of_name d ++ (init_list_demand w list
+  demand_in w aims (prefix token p e) = prefix_demand w aims token p e (demand_in w true e) (demand_in w false e)
+  demand_in w aims (sizeof_value word e) = []
+  demand_in w aims (sizeof_type word opening ws d closing) = []
+  demand_in w aims (extension keyword e) = demand_in w aims e
+  demand_in w aims (index e opening e2 closing) = demand_in w false e ++ (demand_in w false e2 ++ index_demand w (value (val w e)) (value (val w e2)) aims (where_is w (index e opening e2 closing)))
+  demand_in w aims (call e opening es closing) = demand_in w false e ++ (exprs_demand w es ++ arguments w (contents (value (val w e))) 0 es)
+  demand_in w aims (dot e token name) = demand_in w aims e
+  demand_in w aims (arrow e token name) = demand_in w false e ++ dereferenced w (value (val w e)) aims (where_is w (arrow e token name))
+  demand_in w aims (post e token p) = demand_in w false e ++ write_bounds w (root (val w e).skel) (where_is w (post e token p))
+  demand_in w aims (compound opening ws d closing list) = words_demand w ws ++ (some_declr_demand w row_of_name d ++ (init_list_demand w list
       ++ (literal_row w opening (type_of_name w ws) ++ list_rule w (contents (own w opening)) list)))
-  demand w (name_use token name) = use_demand w token (use_at w.names.uses (at w token))
-  demand w (number_use token) = []
-  demand w (char_use token) = []
-  demand w (text_use texts) = formed_here w (first_text texts)
-  demand w (paren opening e closing) = demand w e
-  demand w (statement_expr opening opening2 items closing closing2) = block_items_demand w items
-  demand w (va_arg keyword opening e separator ws d closing) = demand w e ++ (words_demand w ws ++ (some_declr_demand w row_of_name d
+  demand_in w aims (name_use token name) = use_demand w token (use_at w.names.uses (at w token))
+  demand_in w aims (number_use token) = []
+  demand_in w aims (char_use token) = []
+  demand_in w aims (text_use texts) = formed_here w (first_text texts)
+  demand_in w aims (paren opening e closing) = demand_in w aims e
+  demand_in w aims (statement_expr opening opening2 items closing closing2) = block_items_demand w items
+  demand_in w aims (va_arg keyword opening e separator ws d closing) = demand_in w false e ++ (words_demand w ws ++ (some_declr_demand w row_of_name d
       ++ taken_fresh w keyword (type_of_name w ws) (value (val w e)) (where_is w (va_arg keyword opening e separator ws d closing))))
-  demand w (va_start keyword opening e separator e2 closing) = demand w e ++ (demand w e2 ++ started w w.own (value (val w e)) (where_is w (va_start keyword opening e separator e2 closing)))
-  demand w (va_copy keyword opening e separator e2 closing) = demand w e ++ (demand w e2
+  demand_in w aims (va_start keyword opening e separator e2 closing) = demand_in w false e ++ (demand_in w false e2 ++ started w w.own (value (val w e)) (where_is w (va_start keyword opening e separator e2 closing)))
+  demand_in w aims (va_copy keyword opening e separator e2 closing) = demand_in w false e ++ (demand_in w false e2
       ++ flowing (zero_at w e2) (value (val w e2)) (value (val w e)) (all_lattices w) (where_is w (va_copy keyword opening e separator e2 closing)))
-  demand w (offset keyword opening ws d separator name steps closing) = []
+  demand_in w aims (offset keyword opening ws d separator name steps closing) = []
+  demand_in w aims (complex_part keyword e) = demand_in w aims e
+  demand_in w aims (label_use token name) = formed_here w token
+  demand_in w aims (compat keyword opening ws d separator ws2 d2 closing) = []
+  demand_in w aims (choose keyword opening e separator e2 separator2 e3 closing) = demand_in w false e2 ++ (demand_in w false e3
+      ++ picked w (left_of (candidate_of w e2 ∷ candidate_of w e3 ∷ [])) (own w keyword) (span w keyword keyword))
+  demand_in w aims (generic keyword opening e xs closing) = assocs_demand w xs
+      ++ picked w (left_of (candidates_of w keyword 0 xs)) (own w keyword) (span w keyword keyword)
+
+  pub assocs_demand : World → Assocs → List Constraint
+  assocs_demand w no_assocs = []
+  assocs_demand w (more_assocs x xs) = assoc_demand w x ++ assocs_demand w xs
+
+  pub assoc_demand : World → Assoc → List Constraint
+  assoc_demand w (typed_assoc ws d colon e) = words_demand w ws ++ (some_declr_demand w row_of_name d ++ demand_in w false e)
+  assoc_demand w (default_assoc keyword colon e) = demand_in w false e
 
   pub some_expr_demand : World → SomeExpr → List Constraint
   some_expr_demand w no_expr = []
-  some_expr_demand w (some_expr e) = demand w e
+  some_expr_demand w (some_expr e) = demand_in w false e
 
   pub exprs_demand : World → Exprs → List Constraint
   exprs_demand w no_exprs = []
-  exprs_demand w (more_exprs e es) = demand w e ++ exprs_demand w es
+  exprs_demand w (more_exprs e es) = demand_in w false e ++ exprs_demand w es
 
   pub words_demand : World → SpecWords → List Constraint
   words_demand w no_words = []
@@ -149,6 +184,10 @@ abbrev mutual
   word_demand w (enum_type e) = []
   word_demand w (typedef_name name) = []
   word_demand w (attribute attr) = []
+  word_demand w (typeof_value keyword opening e closing) = []
+  word_demand w (typeof_type word opening ws d closing) = words_demand w ws ++ some_declr_demand w row_of_name d
+  word_demand w (align attr) = []
+  word_demand w (auto_word token) = []
 
   pub some_body_demand : World → SomeBody → List Constraint
   some_body_demand w no_body = []
@@ -188,6 +227,8 @@ abbrev mutual
   declr_demand w row own (abs_paren opening attrs d closing) = declr_demand w row own d
   declr_demand w row own (abs_array d opening words size closing) = some_declr_demand w row d
   declr_demand w row own (abs_params d opening ps dots closing) = some_declr_demand w row d ++ params_demand w None false 0 ps
+  declr_demand w row own (identifiers d opening names closing) = declr_demand w row own d
+  declr_demand w row own (base_name token) = []
 
   -- of a type name too, whose declarator has no name
   pub some_declr_demand : World → RowKind → SomeDeclr → List Constraint
@@ -199,7 +240,7 @@ abbrev mutual
   params_demand w own bare i (more_params ws d attrs ps) = words_demand w ws ++ (some_declr_demand w (param_kind own bare i) d ++ params_demand w own bare (suc i) ps)
 
   pub init_demand : World → Init → List Constraint
-  init_demand w (init_value e) = demand w e
+  init_demand w (init_value e) = demand_in w false e
   init_demand w (init_braced list) = init_list_demand w list
 
   pub init_list_demand : World → InitList → List Constraint
@@ -217,6 +258,15 @@ abbrev mutual
   some_init_demand w it no_init = []
   some_init_demand w it (some_init equal init) = init_demand w init ++ rule w (initialised w it) init
 
+  -- of the declarations behind a list of identifiers: the row of a name is that of a parameter, by the number of its declaration
+  pub old_declrs_demand : World → Option Skel → InitDeclrs → List Constraint
+  old_declrs_demand w own no_init_declrs = []
+  old_declrs_demand w own (more_init_declrs attrs d asm_label attrs2 init ds) =
+      declr_demand w (identified_kind w own (declared_name d)) None d ++ (some_init_demand w (declared_name d) init ++ old_declrs_demand w own ds)
+
+  pub old_declaration_demand : World → Option Skel → Declaration → List Constraint
+  old_declaration_demand w own (declaration exts ws ds semi) = words_demand w ws ++ old_declrs_demand w own ds
+
   pub declaration_demand : World → Declaration → List Constraint
   declaration_demand w (declaration exts ws ds semi) = words_demand w ws ++ init_declrs_demand w ds
 
@@ -231,6 +281,7 @@ abbrev mutual
   pub block_item_demand : World → BlockItem → List Constraint
   block_item_demand w (block_decl d) = decl_demand w d
   block_item_demand w (block_stmt t) = stmt_demand w t
+  block_item_demand w (block_labels keyword names semi) = []
 
   pub stmt_demand : World → Stmt → List Constraint
   stmt_demand w (block opening items closing) = block_items_demand w items
@@ -239,17 +290,19 @@ abbrev mutual
   stmt_demand w (label name colon attrs t) = stmt_demand w t
   stmt_demand w (case_stmt keyword e colon t) = stmt_demand w t
   stmt_demand w (default_stmt keyword colon t) = stmt_demand w t
-  stmt_demand w (if_stmt keyword opening e closing t other) = demand w e ++ (stmt_demand w t ++ some_else_demand w other)
-  stmt_demand w (switch_stmt keyword opening e closing t) = demand w e ++ stmt_demand w t
-  stmt_demand w (while_stmt keyword opening e closing t) = demand w e ++ stmt_demand w t
-  stmt_demand w (do_stmt keyword t keyword2 opening e closing semi) = stmt_demand w t ++ demand w e
+  stmt_demand w (if_stmt keyword opening e closing t other) = demand_in w false e ++ (stmt_demand w t ++ some_else_demand w other)
+  stmt_demand w (switch_stmt keyword opening e closing t) = demand_in w false e ++ stmt_demand w t
+  stmt_demand w (while_stmt keyword opening e closing t) = demand_in w false e ++ stmt_demand w t
+  stmt_demand w (do_stmt keyword t keyword2 opening e closing semi) = stmt_demand w t ++ demand_in w false e
   stmt_demand w (for_stmt keyword opening start e semi e2 closing t) = for_start_demand w start ++ (some_expr_demand w e ++ (some_expr_demand w e2 ++ stmt_demand w t))
   stmt_demand w (goto_stmt keyword name semi) = []
   stmt_demand w (continue_stmt keyword semi) = []
   stmt_demand w (break_stmt keyword semi) = []
   stmt_demand w (return_stmt keyword no_expr semi) = []
-  stmt_demand w (return_stmt keyword (some_expr e) semi) = demand w e ++ returned w w.own (zero_at w e) (value (val w e)) (span w keyword semi)
+  stmt_demand w (return_stmt keyword (some_expr e) semi) = demand_in w false e ++ returned w w.own (zero_at w e) (value (val w e)) (span w keyword semi)
   stmt_demand w (asm_stmt keyword words group semi) = []
+  stmt_demand w (case_range keyword e dots e2 colon t) = stmt_demand w t
+  stmt_demand w (goto_value keyword star e semi) = demand_in w false e
 
   pub some_else_demand : World → SomeElse → List Constraint
   some_else_demand w no_else = []
@@ -259,9 +312,36 @@ abbrev mutual
   for_start_demand w (start_declaration d) = declaration_demand w d
   for_start_demand w (start_value e semi) = some_expr_demand w e
 
+-- an expression that is not only addressed, and one that is
+abbrev pub demand : World → Expr → List Constraint
+demand w e = demand_in w false e
+
+abbrev pub addressed_demand : World → Expr → List Constraint
+addressed_demand w e = demand_in w true e
+
+abbrev pub old_declarations_demand : World → Option Skel → List Declaration → List Constraint
+old_declarations_demand w own [] = []
+old_declarations_demand w own (d ∷ ds) = old_declaration_demand w own d ++ old_declarations_demand w own ds
+
+-- a declarator with a list of identifiers: the declarations behind it stand where those of parameters do
+abbrev pub old_declr_demand : World → Option Skel → List Declaration → Declr → List Constraint
+old_declr_demand w own ds (identifiers d opening names closing) = declr_demand w row_of_name None d ++ old_declarations_demand w own ds
+old_declr_demand w own ds (pointer star words d) = old_declr_demand w own ds d
+old_declr_demand w own ds (declr_paren opening attrs d closing) = old_declr_demand w own ds d
+old_declr_demand w own ds (array d opening words size closing) = old_declr_demand w own ds d
+old_declr_demand w own ds (params d opening ps dots closing) = old_declr_demand w own ds d ++ params_demand w None false 0 ps
+old_declr_demand w own ds (declr_name token name) = declr_demand w row_of_name None (declr_name token name)
+old_declr_demand w own ds (base_name token) = []
+old_declr_demand w own ds (abs_pointer star words d) = declr_demand w row_of_name None (abs_pointer star words d)
+old_declr_demand w own ds (abs_paren opening attrs d closing) = declr_demand w row_of_name None (abs_paren opening attrs d closing)
+old_declr_demand w own ds (abs_array d opening words size closing) = declr_demand w row_of_name None (abs_array d opening words size closing)
+old_declr_demand w own ds (abs_params d opening ps dots closing) = declr_demand w row_of_name None (abs_params d opening ps dots closing)
+
 abbrev pub item_demand : World → Item → List Constraint
 item_demand w (function_item exts ws d attrs opening items closing) =
     words_demand w ws ++ (declr_demand w row_of_name (own_skeleton w (declared_name d)) d ++ block_items_demand (record w { own = own_skeleton w (declared_name d) }) items)
+item_demand w (old_function_item exts ws d attrs ds opening items closing) =
+    words_demand w ws ++ (old_declr_demand w (own_skeleton w (declared_name d)) ds d ++ block_items_demand (record w { own = own_skeleton w (declared_name d) }) items)
 item_demand w (decl_item d) = decl_demand w d
 item_demand w (asm_item keyword group semi) = []
 item_demand w (semi_item semi) = []

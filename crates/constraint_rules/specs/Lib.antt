@@ -2,3 +2,4 @@ pub mod Demands
 pub mod Starts
 pub mod Systems
 pub mod Values
+pub mod Selections

@@ -1,18 +1,19 @@
 -- Where skeletons begin: at each declared name and at each expression that has a fresh one, in the order of the text. What is
 -- the size of an array, the width of a member, the value of an enumerator, a case label, an index of a designator, or an operand
 -- of `sizeof` or `offsetof` gives no fresh skeleton and no site; names that are declared in it have theirs.
-use Rattle.std.specs.Prelude.{Bool, true, false, ◌&&◌, not, List, [], ◌∷◌, ◌++◌, Option, None, Some}
-use Rattle.c_tree.specs.Tree.{Expr, operation, cast, prefix, sizeof_value, sizeof_type, extension, index, call, dot, arrow, post, compound, name_use, number_use, char_use, text_use, paren, statement_expr, va_arg, va_start, va_copy, offset, comma, assign, cond, binary, SomeExpr, no_expr, some_expr, Exprs, no_exprs, more_exprs, SpecWords, no_words, more_words, SpecWord, storage, thread, inline_word, noreturn, qualifier, basic, struct_type, enum_type, typedef_name, attribute, SomeBody, no_body, some_body, StructItems, no_struct_items, more_struct_items, StructItem, member, member_semi, member_assert, MemDeclrs, no_mem_declrs, more_mem_declrs, MemDeclr, named, unnamed, SomeValue, no_value, some_value, EnumType, enum_of, no_enum_body, some_enum_body, Enumerators, no_enumerators, more_enumerators, Declr, pointer, declr_name, declr_paren, array, params, abs_pointer, abs_paren, abs_array, abs_params, SomeDeclr, no_declr, some_declr, SomeSize, no_size, some_size, ArraySize, size_value, size_star, Params, no_params, more_params, Init, init_value, init_braced, InitList, init_list, InitItems, no_init_items, more_init_items, Desigs, no_desigs, more_desigs, Desig, member_desig, index_desig, SomeInit, no_init, some_init, InitDeclrs, no_init_declrs, more_init_declrs, Declaration, declaration, Decl, decl_declaration, decl_assert, BlockItems, no_block_items, more_block_items, BlockItem, block_decl, block_stmt, Stmt, block, expr_stmt, attr_stmt, label, case_stmt, default_stmt, if_stmt, switch_stmt, while_stmt, do_stmt, for_stmt, goto_stmt, continue_stmt, break_stmt, return_stmt, asm_stmt, SomeElse, no_else, some_else, ForStart, start_declaration, start_value}
-use Rattle.c_tree.specs.Unit.{Item, function_item, decl_item, asm_item, semi_item}
+use Rattle.std.specs.Prelude.{ℕ, Bool, true, false, ◌&&◌, not, List, [], ◌∷◌, ◌++◌, Option, None, Some}
+use Rattle.c_tree.specs.Tree.{Expr, operation, cast, prefix, sizeof_value, sizeof_type, extension, index, call, dot, arrow, post, compound, name_use, number_use, char_use, text_use, paren, statement_expr, va_arg, va_start, va_copy, offset, comma, assign, cond, binary, SomeExpr, no_expr, some_expr, Exprs, no_exprs, more_exprs, SpecWords, no_words, more_words, SpecWord, storage, thread, inline_word, noreturn, qualifier, basic, struct_type, enum_type, typedef_name, attribute, SomeBody, no_body, some_body, StructItems, no_struct_items, more_struct_items, StructItem, member, member_semi, member_assert, MemDeclrs, no_mem_declrs, more_mem_declrs, MemDeclr, named, unnamed, SomeValue, no_value, some_value, EnumType, enum_of, no_enum_body, some_enum_body, Enumerators, no_enumerators, more_enumerators, Declr, pointer, declr_name, declr_paren, array, params, abs_pointer, abs_paren, abs_array, abs_params, SomeDeclr, no_declr, some_declr, SomeSize, no_size, some_size, ArraySize, size_value, size_star, Params, no_params, more_params, Init, init_value, init_braced, InitList, init_list, InitItems, no_init_items, more_init_items, Desigs, no_desigs, more_desigs, Desig, member_desig, index_desig, SomeInit, no_init, some_init, InitDeclrs, no_init_declrs, more_init_declrs, Declaration, declaration, Decl, decl_declaration, decl_assert, BlockItems, no_block_items, more_block_items, BlockItem, block_decl, block_stmt, Stmt, block, expr_stmt, attr_stmt, label, case_stmt, default_stmt, if_stmt, switch_stmt, while_stmt, do_stmt, for_stmt, goto_stmt, continue_stmt, break_stmt, return_stmt, asm_stmt, SomeElse, no_else, some_else, ForStart, start_declaration, start_value, typeof_value, typeof_type, align, auto_word, complex_part, label_use, compat, choose, generic, range_desig, old_desig, case_range, goto_value, block_labels, identifiers, base_name, Assocs, no_assocs, more_assocs, Assoc, typed_assoc, default_assoc}
+use Rattle.c_tree.specs.Unit.{Item, function_item, decl_item, asm_item, semi_item, old_function_item}
 use Rattle.c_tree.specs.Ends.{first_text}
 use Rattle.type_table.specs.Types.{CType, base, void, pointer}
 use Rattle.name_rules.specs.Spellings.{Place, Spelling, place}
 use Rattle.name_rules.specs.Scopes.{Names}
-use Rattle.name_rules.specs.Values.{value}
+use Rattle.name_rules.specs.Values.{value, Candidate, Association, is_fresh_pick, pick_shape, selected}
 use Rattle.name_rules.specs.Uses.{use_at, type_named_at, text_type}
 use Rattle.type_rules.specs.Tokens.{first_word, declared_name, is_bare}
-use Rattle.type_rules.specs.Shapes.{is_zero, shape_of}
-use Rattle.row_rules.specs.Starting.{Around, Having, Start, declared_function, fresh, fresh_where, had_name, having_where, is_fresh_binary, is_fresh_prefix, is_some_pointer, name_start, quiet, some_fresh, some_place, use_start, of_function, with_skeleton, without_skeleton}
+use Rattle.type_rules.specs.Shapes.{is_zero, shape_of, candidate_of, associations_of}
+use Rattle.row_rules.specs.Starting.{Around, Having, Start, declared_function, fresh, fresh_where, had_name, having_where, is_fresh_binary, is_fresh_prefix, is_some_pointer, name_start, quiet, some_fresh, some_place, use_start, of_function, with_skeleton, without_skeleton, prefix_starts, selected_by}
+use Rattle.c_tree.specs.Addresses.{comes_by_pointer}
 
 abbrev pub type_at : Around → SpecWords → Option CType
 type_at a ws = type_named_at a.names.type_names (place a.spelling (first_word ws))
@@ -30,6 +31,14 @@ unnamed_start a (basic word) = []
 unnamed_start a (enum_type e) = []
 unnamed_start a (typedef_name name) = []
 unnamed_start a (attribute attr) = []
+unnamed_start a (typeof_value keyword opening e closing) = []
+unnamed_start a (typeof_type word opening ws d closing) = []
+unnamed_start a (align attr) = []
+unnamed_start a (auto_word token) = []
+
+-- what begins at a pick: a value of its own where several candidates are left
+abbrev pub pick_starts : Around → ℕ → List Candidate → List Start
+pick_starts a token all = fresh_where (is_fresh_pick all) (some_fresh a token (pick_shape all).type)
 
 abbrev pub unnamed_starts : Around → SpecWords → List Start
 unnamed_starts a no_words = []
@@ -46,7 +55,7 @@ abbrev mutual
   expr_starts a (operation e (binary p) token e2) = expr_starts a e ++ (expr_starts a e2
       ++ fresh_where (is_fresh_binary p (is_some_pointer (value (shape_of a.spelling a.names e))) (is_some_pointer (value (shape_of a.spelling a.names e2)))) (fresh a token (base [])))
   expr_starts a (cast opening ws d closing e) = words_starts a ws ++ (some_declr_starts a with_skeleton d ++ (expr_starts a e ++ some_fresh a opening (type_at a ws)))
-  expr_starts a (prefix token p e) = expr_starts a e ++ fresh_where (is_fresh_prefix p) (fresh a token (base []))
+  expr_starts a (prefix token p e) = expr_starts a e ++ prefix_starts p (comes_by_pointer false e && a.access) a token (shape_of a.spelling a.names e)
   expr_starts a (sizeof_value word e) = expr_starts (quiet a) e ++ fresh a word.token (base [])
   expr_starts a (sizeof_type word opening ws d closing) = words_starts (quiet a) ws ++ (some_declr_starts (quiet a) with_skeleton d ++ fresh a word.token (base []))
   expr_starts a (extension keyword e) = expr_starts a e
@@ -66,6 +75,24 @@ abbrev mutual
   expr_starts a (va_start keyword opening e separator e2 closing) = expr_starts a e ++ (expr_starts a e2 ++ fresh a keyword (void []))
   expr_starts a (va_copy keyword opening e separator e2 closing) = expr_starts a e ++ (expr_starts a e2 ++ fresh a keyword (void []))
   expr_starts a (offset keyword opening ws d separator name steps closing) = words_starts (quiet a) ws ++ (some_declr_starts (quiet a) with_skeleton d ++ (desigs_starts a steps ++ fresh a keyword (base [])))
+  expr_starts a (complex_part keyword e) = expr_starts a e
+  expr_starts a (label_use token name) = fresh a token (pointer [] (void []))
+  expr_starts a (compat keyword opening ws d separator ws2 d2 closing) =
+      words_starts (quiet a) ws ++ (some_declr_starts (quiet a) with_skeleton d ++ (words_starts (quiet a) ws2
+      ++ (some_declr_starts (quiet a) with_skeleton d2 ++ fresh a keyword (base []))))
+  expr_starts a (choose keyword opening e separator e2 separator2 e3 closing) =
+      expr_starts (quiet a) e ++ (expr_starts a e2 ++ (expr_starts a e3 ++ pick_starts a keyword (candidate_of a.spelling a.names e2 ∷ candidate_of a.spelling a.names e3 ∷ [])))
+  expr_starts a (generic keyword opening e xs closing) =
+      expr_starts (quiet a) e ++ (assocs_starts a xs
+      ++ pick_starts a keyword (selected_by (value (shape_of a.spelling a.names e)) (associations_of a.spelling a.names xs)))
+
+  pub assocs_starts : Around → Assocs → List Start
+  assocs_starts a no_assocs = []
+  assocs_starts a (more_assocs x xs) = assoc_starts a x ++ assocs_starts a xs
+
+  pub assoc_starts : Around → Assoc → List Start
+  assoc_starts a (typed_assoc ws d colon e) = words_starts a ws ++ (some_declr_starts a with_skeleton d ++ expr_starts a e)
+  assoc_starts a (default_assoc keyword colon e) = expr_starts a e
 
   -- whether the value of a statement expression is that of its last item
   pub ends_in_value : BlockItems → Bool
@@ -76,6 +103,7 @@ abbrev mutual
   pub is_value : BlockItem → Bool
   is_value (block_decl d) = false
   is_value (block_stmt t) = is_value_stmt t
+  is_value (block_labels keyword names semi) = false
 
   pub is_value_stmt : Stmt → Bool
   is_value_stmt (expr_stmt (some_expr e) semi) = true
@@ -95,6 +123,8 @@ abbrev mutual
   is_value_stmt (break_stmt keyword semi) = false
   is_value_stmt (return_stmt keyword e semi) = false
   is_value_stmt (asm_stmt keyword words group semi) = false
+  is_value_stmt (case_range keyword e dots e2 colon t) = false
+  is_value_stmt (goto_value keyword star e semi) = false
 
   pub some_expr_starts : Around → SomeExpr → List Start
   some_expr_starts a no_expr = []
@@ -119,6 +149,10 @@ abbrev mutual
   word_starts a (enum_type e) = enum_starts a e
   word_starts a (typedef_name name) = []
   word_starts a (attribute attr) = []
+  word_starts a (typeof_value keyword opening e closing) = expr_starts (quiet a) e
+  word_starts a (typeof_type word opening ws d closing) = words_starts a ws ++ some_declr_starts a with_skeleton d
+  word_starts a (align attr) = []
+  word_starts a (auto_word token) = []
 
   pub some_body_starts : Around → SomeBody → List Start
   some_body_starts a no_body = []
@@ -168,6 +202,8 @@ abbrev mutual
   declr_starts a h own (abs_paren opening attrs d closing) = declr_starts a h own d
   declr_starts a h own (abs_array d opening words size closing) = some_declr_starts a h d ++ some_size_starts a size
   declr_starts a h own (abs_params d opening ps dots closing) = some_declr_starts a h d ++ params_starts a without_skeleton ps
+  declr_starts a h own (identifiers d opening names closing) = declr_starts a h own d
+  declr_starts a h own (base_name token) = []
 
   -- of a type name too, whose declarator has no name
   pub some_declr_starts : Around → Having → SomeDeclr → List Start
@@ -204,6 +240,8 @@ abbrev mutual
   pub desig_starts : Around → Desig → List Start
   desig_starts a (member_desig token name) = []
   desig_starts a (index_desig opening e closing) = expr_starts (quiet a) e
+  desig_starts a (range_desig opening e dots e2 closing) = expr_starts (quiet a) e ++ expr_starts (quiet a) e2
+  desig_starts a (old_desig name colon) = []
 
   pub some_init_starts : Around → SomeInit → List Start
   some_init_starts a no_init = []
@@ -212,6 +250,14 @@ abbrev mutual
   pub init_declrs_starts : Around → InitDeclrs → List Start
   init_declrs_starts a no_init_declrs = []
   init_declrs_starts a (more_init_declrs attrs d asm_label attrs2 init ds) = declr_starts a with_skeleton without_skeleton d ++ (some_init_starts a init ++ init_declrs_starts a ds)
+
+  -- of the declarations behind a list of identifiers: the names are parameters of the function
+  pub old_declrs_starts : Around → Having → InitDeclrs → List Start
+  old_declrs_starts a h no_init_declrs = []
+  old_declrs_starts a h (more_init_declrs attrs d asm_label attrs2 init ds) = declr_starts a h without_skeleton d ++ (some_init_starts a init ++ old_declrs_starts a h ds)
+
+  pub old_declaration_starts : Around → Having → Declaration → List Start
+  old_declaration_starts a h (declaration exts ws ds semi) = words_starts a ws ++ old_declrs_starts a h ds
 
   pub declaration_starts : Around → Declaration → List Start
   declaration_starts a (declaration exts ws ds semi) = words_starts a ws ++ init_declrs_starts a ds
@@ -227,6 +273,7 @@ abbrev mutual
   pub block_item_starts : Around → BlockItem → List Start
   block_item_starts a (block_decl d) = decl_starts a d
   block_item_starts a (block_stmt t) = stmt_starts a t
+  block_item_starts a (block_labels keyword names semi) = []
 
   pub stmt_starts : Around → Stmt → List Start
   stmt_starts a (block opening items closing) = block_items_starts a items
@@ -245,6 +292,8 @@ abbrev mutual
   stmt_starts a (break_stmt keyword semi) = []
   stmt_starts a (return_stmt keyword e semi) = some_expr_starts a e
   stmt_starts a (asm_stmt keyword words group semi) = []
+  stmt_starts a (case_range keyword e dots e2 colon t) = expr_starts (quiet a) e ++ (expr_starts (quiet a) e2 ++ stmt_starts a t)
+  stmt_starts a (goto_value keyword star e semi) = expr_starts a e
 
   pub some_else_starts : Around → SomeElse → List Start
   some_else_starts a no_else = []
@@ -255,15 +304,36 @@ abbrev mutual
   for_start_starts a (start_value e semi) = some_expr_starts a e
 
 -- at file scope a fresh skeleton belongs to nobody
-abbrev pub item_starts : Spelling → Names → Item → List Start
-item_starts u s (function_item exts ws d attrs opening items closing) =
-    words_starts (around u s None) ws ++ (declr_starts (around u s None) with_skeleton (of_function (declared_function u s (declared_name d))) d ++ block_items_starts (around u s (declared_function u s (declared_name d))) items) where
-      around : Spelling → Names → Option Place → Around
-      around u s f = record { spelling = u; names = s; enclosing = f; is_quiet = false }
-item_starts u s (decl_item d) = decl_starts (record { spelling = u; names = s; enclosing = None; is_quiet = false }) d
-item_starts u s (asm_item keyword group semi) = []
-item_starts u s (semi_item semi) = []
+abbrev pub around_in : Bool → Spelling → Names → Option Place → Around
+around_in access u s f = record { spelling = u; names = s; enclosing = f; is_quiet = false; access = access }
 
-abbrev pub items_starts : Spelling → Names → List Item → List Start
-items_starts u s [] = []
-items_starts u s (item ∷ items) = item_starts u s item ++ items_starts u s items
+abbrev pub old_declarations_starts : Around → Having → List Declaration → List Start
+old_declarations_starts a h [] = []
+old_declarations_starts a h (d ∷ ds) = old_declaration_starts a h d ++ old_declarations_starts a h ds
+
+-- a declarator with a list of identifiers: the declarations behind it stand where those of parameters do
+abbrev pub old_declr_starts : Around → Having → List Declaration → Declr → List Start
+old_declr_starts a own ds (identifiers d opening names closing) = declr_starts a with_skeleton without_skeleton d ++ old_declarations_starts a own ds
+old_declr_starts a own ds (pointer star words d) = old_declr_starts a own ds d
+old_declr_starts a own ds (declr_paren opening attrs d closing) = old_declr_starts a own ds d
+old_declr_starts a own ds (array d opening words size closing) = old_declr_starts a own ds d ++ some_size_starts a size
+old_declr_starts a own ds (params d opening ps dots closing) = old_declr_starts a own ds d ++ params_starts a without_skeleton ps
+old_declr_starts a own ds (declr_name token name) = declr_starts a with_skeleton without_skeleton (declr_name token name)
+old_declr_starts a own ds (base_name token) = []
+old_declr_starts a own ds (abs_pointer star words d) = declr_starts a with_skeleton without_skeleton (abs_pointer star words d)
+old_declr_starts a own ds (abs_paren opening attrs d closing) = declr_starts a with_skeleton without_skeleton (abs_paren opening attrs d closing)
+old_declr_starts a own ds (abs_array d opening words size closing) = declr_starts a with_skeleton without_skeleton (abs_array d opening words size closing)
+old_declr_starts a own ds (abs_params d opening ps dots closing) = declr_starts a with_skeleton without_skeleton (abs_params d opening ps dots closing)
+
+abbrev pub item_starts : Bool → Spelling → Names → Item → List Start
+item_starts access u s (function_item exts ws d attrs opening items closing) =
+    words_starts (around_in access u s None) ws ++ (declr_starts (around_in access u s None) with_skeleton (of_function (declared_function u s (declared_name d))) d ++ block_items_starts (around_in access u s (declared_function u s (declared_name d))) items)
+item_starts access u s (old_function_item exts ws d attrs ds opening items closing) =
+    words_starts (around_in access u s None) ws ++ (old_declr_starts (around_in access u s None) (of_function (declared_function u s (declared_name d))) ds d ++ block_items_starts (around_in access u s (declared_function u s (declared_name d))) items)
+item_starts access u s (decl_item d) = decl_starts (around_in access u s None) d
+item_starts access u s (asm_item keyword group semi) = []
+item_starts access u s (semi_item semi) = []
+
+abbrev pub items_starts : Bool → Spelling → Names → List Item → List Start
+items_starts access u s [] = []
+items_starts access u s (item ∷ items) = item_starts access u s item ++ items_starts access u s items

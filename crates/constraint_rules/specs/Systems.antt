@@ -1,5 +1,5 @@
 -- The system of a program: the constraints of its units one behind the other, its call sites, and the owner of each variable.
-use Rattle.std.specs.Prelude.{◌≡◌, ℕ, List, [], ◌∷◌, ◌++◌, slice_get, Option, None, Some}
+use Rattle.std.specs.Prelude.{◌≡◌, ℕ, List, [], ◌∷◌, ◌++◌, slice_get, Option, None, Some, Bool}
 use Rattle.lattice_core.specs.View.{LatticeView}
 use Rattle.flow_graph.specs.declared.constraint.Constraint.{Constraint}
 use Rattle.flow_graph.specs.System.{System}
@@ -10,8 +10,10 @@ use Rattle.type_rules.specs.Program.{Source, names_of}
 use Rattle.constraint_rules.specs.Demands.{items_demand}
 use Rattle.constraint_rules.specs.Starts.{items_starts}
 use Rattle.row_rules.specs.Sites.{functions_of, owners_among, site_places, sites_among, variables_among}
-use Rattle.row_rules.specs.Starting.{Start}
+use Rattle.row_rules.specs.Starting.{Start, Selection, flag_among}
 use Rattle.row_rules.specs.Worlds.{World, numbered_from}
+use Rattle.row_rules.specs.Annotations.{has_access}
+use Rattle.constraint_rules.specs.Selections.{items_selections}
 
 -- a program: its units, the lattices, the lattice and element that each annotation word names, and the numbers of each index word
 pub record Program : Type 0 where
@@ -20,26 +22,35 @@ pub record Program : Type 0 where
   pub mark : Place → Option (ℕ × ℕ)
   pub index : Place → List ℕ
 
-abbrev pub starts_among : Names → List Source → List Start
-starts_among s [] = []
-starts_among s (it ∷ sources) = items_starts it.spelling s it.items ++ starts_among s sources
+abbrev pub starts_among : Bool → Names → List Source → List Start
+starts_among access s [] = []
+starts_among access s (it ∷ sources) = items_starts access it.spelling s it.items ++ starts_among access s sources
 
 -- all skeletons, in the order in which their variables are numbered
-abbrev pub starts_of : List Source → List Start
-starts_of sources = starts_among (names_of sources) sources
+abbrev pub starts_of : Bool → List Source → List Start
+starts_of access sources = starts_among access (names_of sources) sources
 
-abbrev pub variables_of : List Source → ℕ
-variables_of sources = variables_among (starts_of sources)
+abbrev pub variables_of : Bool → List Source → ℕ
+variables_of access sources = variables_among (starts_of access sources)
+
+abbrev pub selections_among : Names → List Source → List Selection
+selections_among s [] = []
+selections_among s (it ∷ sources) = items_selections it.spelling s it.items ++ selections_among s sources
+
+-- which associations are candidates of the selection at a place: by the types that are known behind all units
+abbrev pub candidate_in : List Source → Place → ℕ → Bool
+candidate_in sources p n = flag_among (selections_among (names_of sources) sources) p n
 
 abbrev pub world_of : Program → Source → World
 world_of p it = record {
   spelling = it.spelling;
   names = names_of p.sources;
-  skeletons = numbered_from 0 (starts_of p.sources);
-  sites = site_places (starts_of p.sources);
+  skeletons = numbered_from 0 (starts_of (has_access p.lattices) p.sources);
+  sites = site_places (starts_of (has_access p.lattices) p.sources);
   lattices = p.lattices;
   mark = p.mark;
   index = p.index;
+  candidate = candidate_in p.sources;
   own = None;
 }
 
@@ -55,6 +66,6 @@ AreNamed lattices sys =
 abbrev pub system_of : Program → System
 system_of p = record {
   constraints = demands_among p p.sources;
-  sites = sites_among (functions_of (names_of p.sources)) (starts_of p.sources);
-  owners = owners_among (functions_of (names_of p.sources)) (starts_of p.sources);
+  sites = sites_among (functions_of (names_of p.sources)) (starts_of (has_access p.lattices) p.sources);
+  owners = owners_among (functions_of (names_of p.sources)) (starts_of (has_access p.lattices) p.sources);
 }

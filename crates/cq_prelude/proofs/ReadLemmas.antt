@@ -1,5 +1,5 @@
 -- What is read of a prelude, and why bytes are none.
-use Rattle.std.proofs.Common.{◌≡◌, ◌≢◌, ℕ, List, [], ◌∷◌, Option, zero, suc, refl, sym, ap, ◌∙◌, subst, arith, All, Contains}
+use Rattle.std.proofs.Common.{◌≡◌, ◌≢◌, ℕ, Bool, List, [], ◌∷◌, Option, zero, suc, refl, sym, ap, ◌∙◌, subst, arith, All, Contains}
 use Rattle.std.specs.Prelude.{codes}
 use Rattle.c_lexer.specs.Reading.{Meanings, Spells}
 use Rattle.c_lexer.specs.Refusals.{IsRefusal}
@@ -31,66 +31,66 @@ use Rattle.cq_prelude.specs.declared.fault.PreludeFault.{PreludeFault}
 use Rattle.cq_prelude.specs.declared.fault.PreludeFault.TheVariants.{BadIndex, HasBody, Lex, NoMemory, Parse, Shape}
 use Rattle.cq_prelude.proofs.Meanings.{spelled_by}
 
-pub sound_alone : (source : Source) → IsWellFormed (lexemes_of source.tokens) (items_of source.unit) →
+pub sound_alone : (source : Source) → IsWellFormed source.tokens.wide (lexemes_of source.tokens) (items_of source.unit) →
     All IsSound (sources_of (source ∷ []))
 sound_alone source h zero d lt = (lexemes_of source.tokens, h.rules)
 sound_alone source h (suc k) d lt = absurd (omega arith)
 
-pub lex_refusal : (words : Meanings) (bytes : List ℕ) (fault : LexFault) → IsRefusal 0 words bytes fault →
-    IsFaultOf words bytes (placed_lex fault)
-lex_refusal words bytes (BadByte spot) h = (h, λ same. (cc))
-lex_refusal words bytes (Unended spot) h = (h, λ same. (cc))
-lex_refusal words bytes (UnknownQualifier spot) h = (h, λ same. (cc))
-lex_refusal words bytes NoRoom h = tt
+pub lex_refusal : (wide : Bool) (words : Meanings) (bytes : List ℕ) (fault : LexFault) → IsRefusal 0 wide words bytes fault →
+    IsFaultOf wide words bytes (placed_lex fault)
+lex_refusal wide words bytes (BadByte spot) h = (h, λ same. (cc))
+lex_refusal wide words bytes (Unended spot) h = (h, λ same. (cc))
+lex_refusal wide words bytes (UnknownQualifier spot) h = (h, λ same. (cc))
+lex_refusal wide words bytes NoRoom h = tt
 
 -- the tokens of unit 0 that bytes spell, with the words that are asked
-spells : (words : Meanings) (bytes : List ℕ) (lexed : Lexed) → Lexes words bytes lexed →
-    (names : List (List ℕ)) × Spells 0 words bytes lexed.tokens names lexed.marks
-spells words bytes lexed h =
-    let spelled = rw (h.unit, h.bytes_are) at h.marks.spelled in
-    (spelled.0, spelled_by 0 h.marks.words words h.marks.mean bytes lexed.tokens spelled.0 lexed.marks spelled.1)
+spells : (wide : Bool) (words : Meanings) (bytes : List ℕ) (lexed : Lexed) → Lexes wide words bytes lexed →
+    (names : List (List ℕ)) × Spells 0 wide words bytes lexed.tokens names lexed.marks
+spells wide words bytes lexed h =
+    let spelled = rw (h.unit, h.dialect, h.bytes_are) at h.marks.spelled in
+    (spelled.0, spelled_by 0 wide h.marks.words words h.marks.mean bytes lexed.tokens spelled.0 lexed.marks spelled.1)
 
-abbrev made : ℕ → List ℕ → List Token → List Mark → Option (ℕ × ℕ) → Option (ℕ × ℕ) → Option (ℕ × ℕ) → Lexed
-made unit bytes tokens marks constant volatile restrict =
-    record { unit = unit; bytes = bytes; tokens = tokens; marks = marks; constant = constant; volatile = volatile; restrict = restrict }
+abbrev made : ℕ → Bool → List ℕ → List Token → List Mark → Option (ℕ × ℕ) → Option (ℕ × ℕ) → Option (ℕ × ℕ) → Lexed
+made unit wide bytes tokens marks constant volatile restrict =
+    record { unit = unit; wide = wide; bytes = bytes; tokens = tokens; marks = marks; constant = constant; volatile = volatile; restrict = restrict }
 
-same : (one other : Lexed) → one.unit ≡ other.unit → one.bytes ≡ other.bytes → one.tokens ≡ other.tokens → one.marks ≡ other.marks →
+same : (one other : Lexed) → one.unit ≡ other.unit → one.wide ≡ other.wide → one.bytes ≡ other.bytes → one.tokens ≡ other.tokens → one.marks ≡ other.marks →
     one.constant ≡ other.constant → one.volatile ≡ other.volatile → one.restrict ≡ other.restrict → one ≡ other
-same one other unit bytes tokens marks constant volatile restrict =
-    let parts : made one.unit one.bytes one.tokens one.marks one.constant one.volatile one.restrict
-    ≡ made other.unit other.bytes other.tokens other.marks other.constant other.volatile other.restrict = cc in
+same one other unit dialect bytes tokens marks constant volatile restrict =
+    let parts : made one.unit one.wide one.bytes one.tokens one.marks one.constant one.volatile one.restrict
+    ≡ made other.unit other.wide other.bytes other.tokens other.marks other.constant other.volatile other.restrict = cc in
     parts
 
-pub same_lexed : (words : Meanings) (bytes : List ℕ) (one other : Lexed) → one.unit ≡ 0 → one.bytes ≡ bytes → NamesKeywords words one →
-    Lexes words bytes other →
-    ((tokens : List Token) (names : List (List ℕ)) (marks : List Mark) → Spells 0 words bytes tokens names marks →
+pub same_lexed : (wide : Bool) (words : Meanings) (bytes : List ℕ) (one other : Lexed) → one.unit ≡ 0 → one.wide ≡ wide → one.bytes ≡ bytes → NamesKeywords words one →
+    Lexes wide words bytes other →
+    ((tokens : List Token) (names : List (List ℕ)) (marks : List Mark) → Spells 0 wide words bytes tokens names marks →
     (one.tokens ≡ tokens) × (one.marks ≡ marks)) → one ≡ other
-same_lexed words bytes one other unit bytes_are keywords h only =
-    let spelled = spells words bytes other h in
+same_lexed wide words bytes one other unit dialect bytes_are keywords h only =
+    let spelled = spells wide words bytes other h in
     let read = only other.tokens spelled.0 other.marks spelled.1 in
-    same one other (unit ∙ sym h.unit) (bytes_are ∙ sym h.bytes_are) read.0 read.1
+    same one other (unit ∙ sym h.unit) (dialect ∙ sym h.dialect) (bytes_are ∙ sym h.bytes_are) read.0 read.1
     (keywords.constant ∙ sym (h.marks.mean (codes "const")) ∙ sym h.marks.keywords.constant)
     (keywords.volatile ∙ sym (h.marks.mean (codes "volatile")) ∙ sym h.marks.keywords.volatile)
     (keywords.restrict ∙ sym (h.marks.mean (codes "restrict")) ∙ sym h.marks.keywords.restrict)
 
-pub lex_only : (words : Meanings) (bytes : List ℕ) (lexed : Lexed) (fault : LexFault) → Lexes words bytes lexed →
-    ((tokens : List Token) (names : List (List ℕ)) (marks : List Mark) → Spells 0 words bytes tokens names marks → fault ≡ NoRoom) →
+pub lex_only : (wide : Bool) (words : Meanings) (bytes : List ℕ) (lexed : Lexed) (fault : LexFault) → Lexes wide words bytes lexed →
+    ((tokens : List Token) (names : List (List ℕ)) (marks : List Mark) → Spells 0 wide words bytes tokens names marks → fault ≡ NoRoom) →
     placed_lex fault ≡ NoMemory
-lex_only words bytes lexed fault h only =
-    let spelled = spells words bytes lexed h in ap placed_lex (only lexed.tokens spelled.0 lexed.marks spelled.1)
+lex_only wide words bytes lexed fault h only =
+    let spelled = spells wide words bytes lexed h in ap placed_lex (only lexed.tokens spelled.0 lexed.marks spelled.1)
 
-pub parse_fault : (words : Meanings) (bytes : List ℕ) (lexed : Lexed) (fault : ParseFault) → Lexes words bytes lexed →
-    (fault ≢ OutOfRoom → IsUnitRefusal lexed fault) → IsFaultOf words bytes (placed_parse lexed fault (refused_at fault))
-parse_fault words bytes lexed (Syntax token) h refused = (lexed, h, λ same. (cc), refused (λ same. (cc)), refl)
-parse_fault words bytes lexed (TooDeep token) h refused = (lexed, h, λ same. (cc), refused (λ same. (cc)), refl)
-parse_fault words bytes lexed (Redeclared token) h refused = (lexed, h, λ same. (cc), refused (λ same. (cc)), refl)
-parse_fault words bytes lexed (BadMix token) h refused = (lexed, h, λ same. (cc), refused (λ same. (cc)), refl)
-parse_fault words bytes lexed (BadTarget token) h refused = (lexed, h, λ same. (cc), refused (λ same. (cc)), refl)
-parse_fault words bytes lexed OutOfRoom h refused = tt
+pub parse_fault : (wide : Bool) (words : Meanings) (bytes : List ℕ) (lexed : Lexed) (fault : ParseFault) → Lexes wide words bytes lexed →
+    (fault ≢ OutOfRoom → IsUnitRefusal lexed fault) → IsFaultOf wide words bytes (placed_parse lexed fault (refused_at fault))
+parse_fault wide words bytes lexed (Syntax token) h refused = (lexed, h, λ same. (cc), refused (λ same. (cc)), refl)
+parse_fault wide words bytes lexed (TooDeep token) h refused = (lexed, h, λ same. (cc), refused (λ same. (cc)), refl)
+parse_fault wide words bytes lexed (Redeclared token) h refused = (lexed, h, λ same. (cc), refused (λ same. (cc)), refl)
+parse_fault wide words bytes lexed (BadMix token) h refused = (lexed, h, λ same. (cc), refused (λ same. (cc)), refl)
+parse_fault wide words bytes lexed (BadTarget token) h refused = (lexed, h, λ same. (cc), refused (λ same. (cc)), refl)
+parse_fault wide words bytes lexed OutOfRoom h refused = tt
 
 parse_only : (lexed : Lexed) (fault : ParseFault) (items : List Item) →
-    (fault ≢ OutOfRoom → (items : List Item) → IsWellFormed (lexemes_of lexed) items → ⊥) →
-    IsWellFormed (lexemes_of lexed) items →
+    (fault ≢ OutOfRoom → (items : List Item) → IsWellFormed lexed.wide (lexemes_of lexed) items → ⊥) →
+    IsWellFormed lexed.wide (lexemes_of lexed) items →
     placed_parse lexed fault (refused_at fault) ≡ NoMemory
 parse_only lexed (Syntax token) items none h = absurd (none (λ same. (cc)) items h)
 parse_only lexed (TooDeep token) items none h = absurd (none (λ same. (cc)) items h)
@@ -99,14 +99,14 @@ parse_only lexed (BadMix token) items none h = absurd (none (λ same. (cc)) item
 parse_only lexed (BadTarget token) items none h = absurd (none (λ same. (cc)) items h)
 parse_only lexed OutOfRoom items none h = refl
 
-pub unit_fault : (words : Meanings) (bytes : List ℕ) (it : UnitRead) (fault : PreludeFault) → Parses words bytes it → IsFaultIn it fault →
-    IsFaultOf words bytes fault
-unit_fault words bytes it (Lex fault) parses h = absurd h
-unit_fault words bytes it (Parse fault spot) parses h = absurd h
-unit_fault words bytes it (HasBody spot) parses h = (it, h.0, parses, h.1, h.2)
-unit_fault words bytes it (BadIndex spot) parses h = (it, h.0, parses, h.1, h.2)
-unit_fault words bytes it (Shape fault spot) parses h = (it, parses, h.0, h.1.reason, h.1.first, h.1.place)
-unit_fault words bytes it NoMemory parses h = tt
+pub unit_fault : (wide : Bool) (words : Meanings) (bytes : List ℕ) (it : UnitRead) (fault : PreludeFault) → Parses wide words bytes it → IsFaultIn it fault →
+    IsFaultOf wide words bytes fault
+unit_fault wide words bytes it (Lex fault) parses h = absurd h
+unit_fault wide words bytes it (Parse fault spot) parses h = absurd h
+unit_fault wide words bytes it (HasBody spot) parses h = (it, h.0, parses, h.1, h.2)
+unit_fault wide words bytes it (BadIndex spot) parses h = (it, h.0, parses, h.1, h.2)
+unit_fault wide words bytes it (Shape fault spot) parses h = (it, parses, h.0, h.1.reason, h.1.first, h.1.place)
+unit_fault wide words bytes it NoMemory parses h = tt
 
 none_first : (fault : Fault) (all : List Fault) → all ≡ [] → rules.IsFirst fault all → ⊥
 none_first fault all is h = let has = subst (λ (faults : List Fault). Contains faults fault) is h.there in omega (arith, has.1)
@@ -120,6 +120,7 @@ no_shape it (shapes.ArgCount unit token) spot none h = none_first _ _ none h.fir
 no_shape it (shapes.NotPlace unit token) spot none h = none_first _ _ none h.first
 no_shape it (shapes.DefinedTwice unit token) spot none h = none_first _ _ none h.first
 no_shape it (shapes.TypeTooLarge unit token) spot none h = none_first _ _ none h.first
+no_shape it (shapes.NoType unit token) spot none h = none_first _ _ none h.first
 no_shape it shapes.NoMemory spot none h = h.reason refl
 
 unit_only : (it : UnitRead) (fault : PreludeFault) → NoneFails it.lexed it.items → HasNoFault (sources_in (it ∷ [])) → IsFaultIn it fault →
@@ -135,21 +136,21 @@ abbrev read_unit : Lexed → List Item → UnitRead
 read_unit lexed items = record { lexed = lexed; items = items }
 
 -- a prelude is the unit that is read
-pub unit_is : (words : Meanings) (bytes : List ℕ) (it : UnitRead) (marks : List IndexMark) (lexed : Lexed) (items : List Item) →
-    lexed ≡ it.lexed → ((others : List Item) → IsWellFormed (lexemes_of lexed) others → items ≡ others) →
-    IsPrelude words bytes it marks → read_unit lexed items ≡ it
-unit_is words bytes it marks lexed items same only h =
-    let parsed = only it.items (subst (λ (tokens : Lexed). IsWellFormed (lexemes_of tokens) it.items) (sym same) h.parses.formed) in
+pub unit_is : (wide : Bool) (words : Meanings) (bytes : List ℕ) (it : UnitRead) (marks : List IndexMark) (lexed : Lexed) (items : List Item) →
+    lexed ≡ it.lexed → ((others : List Item) → IsWellFormed lexed.wide (lexemes_of lexed) others → items ≡ others) →
+    IsPrelude wide words bytes it marks → read_unit lexed items ≡ it
+unit_is wide words bytes it marks lexed items same only h =
+    let parsed = only it.items (subst (λ (tokens : Lexed). IsWellFormed tokens.wide (lexemes_of tokens) it.items) (sym same) h.parses.formed) in
     let parts : read_unit lexed items ≡ read_unit it.lexed it.items = cc in
     parts
 
-pub memory_only : (words : Meanings) (bytes : List ℕ) (it : UnitRead) (marks : List IndexMark) (read : UnitRead) (fault : PreludeFault) →
-    read ≡ it → IsPrelude words bytes it marks → IsFaultIn read fault → fault ≡ NoMemory
-memory_only words bytes it marks read fault same h fails =
+pub memory_only : (wide : Bool) (words : Meanings) (bytes : List ℕ) (it : UnitRead) (marks : List IndexMark) (read : UnitRead) (fault : PreludeFault) →
+    read ≡ it → IsPrelude wide words bytes it marks → IsFaultIn read fault → fault ≡ NoMemory
+memory_only wide words bytes it marks read fault same h fails =
     unit_only it fault h.rules h.shaped (subst (λ (unit : UnitRead). IsFaultIn unit fault) same fails)
 
-pub not_parsed : (words : Meanings) (bytes : List ℕ) (it : UnitRead) (marks : List IndexMark) (lexed : Lexed) (fault : ParseFault) →
-    lexed ≡ it.lexed → (fault ≢ OutOfRoom → (items : List Item) → IsWellFormed (lexemes_of lexed) items → ⊥) →
-    IsPrelude words bytes it marks → placed_parse lexed fault (refused_at fault) ≡ NoMemory
-not_parsed words bytes it marks lexed fault same none h =
-    parse_only lexed fault it.items none (subst (λ (tokens : Lexed). IsWellFormed (lexemes_of tokens) it.items) (sym same) h.parses.formed)
+pub not_parsed : (wide : Bool) (words : Meanings) (bytes : List ℕ) (it : UnitRead) (marks : List IndexMark) (lexed : Lexed) (fault : ParseFault) →
+    lexed ≡ it.lexed → (fault ≢ OutOfRoom → (items : List Item) → IsWellFormed lexed.wide (lexemes_of lexed) items → ⊥) →
+    IsPrelude wide words bytes it marks → placed_parse lexed fault (refused_at fault) ≡ NoMemory
+not_parsed wide words bytes it marks lexed fault same none h =
+    parse_only lexed fault it.items none (subst (λ (tokens : Lexed). IsWellFormed tokens.wide (lexemes_of tokens) it.items) (sym same) h.parses.formed)

@@ -1,7 +1,7 @@
 -- A word of specifiers before others.
 use Rattle.std.proofs.Common.{◌≡◌, true, refl}
 use Rattle.std.specs.Bool.{if◌then◌else◌}
-use Rattle.c_tree.specs.Tree.{SpecWord, SpecWords, more_words, storage, thread, inline_word, noreturn, qualifier, basic, struct_type, enum_type, typedef_name, attribute}
+use Rattle.c_tree.specs.Tree.{SpecWord, SpecWords, more_words, storage, thread, inline_word, noreturn, qualifier, basic, struct_type, enum_type, typedef_name, attribute, typeof_value, typeof_type, align, auto_word}
 use Rattle.c_tree.specs.Specifiers.{storage_words}
 use Rattle.cq_prelude.specs.Placing.{has_typedef}
 use Rattle.cq_prelude.specs.Words.{is_typedef_word}
@@ -18,3 +18,7 @@ typedef_more (struct_type word attrs tag body) ws = refl
 typedef_more (enum_type it) ws = refl
 typedef_more (typedef_name it) ws = refl
 typedef_more (attribute attr) ws = refl
+typedef_more (typeof_value keyword opening e closing) ws = refl
+typedef_more (typeof_type word opening rest d closing) ws = refl
+typedef_more (align attr) ws = refl
+typedef_more (auto_word token) ws = refl

@@ -8,9 +8,9 @@ use Rattle.c_syntax.specs.declared.parts.PointerWord.{PointerWord}
 use Rattle.c_syntax.specs.declared.parts.PointerWord.TheVariants as pointer_words
 use Rattle.c_syntax.specs.declared.parts.ArrayWord.{ArrayWord}
 use Rattle.c_syntax.specs.declared.parts.ArrayWord.TheVariants as array_words
-use Rattle.c_tree.specs.Tree.{Dots, SpecWords, no_words, more_words, SpecWord, storage, thread, inline_word, noreturn, qualifier, basic, struct_type, enum_type, typedef_name, attribute, Declr, pointer, declr_name, declr_paren, array, params, abs_pointer, abs_paren, abs_array, abs_params, SomeDeclr, no_declr, some_declr, Params, no_params, more_params, InitDeclrs, no_init_declrs, more_init_declrs, Declaration, declaration, Decl, decl_declaration, decl_assert}
+use Rattle.c_tree.specs.Tree.{Dots, SpecWords, no_words, more_words, SpecWord, storage, thread, inline_word, noreturn, qualifier, basic, struct_type, enum_type, typedef_name, attribute, Declr, pointer, declr_name, declr_paren, array, params, abs_pointer, abs_paren, abs_array, abs_params, SomeDeclr, no_declr, some_declr, Params, no_params, more_params, InitDeclrs, no_init_declrs, more_init_declrs, Declaration, declaration, Decl, decl_declaration, decl_assert, typeof_value, typeof_type, align, auto_word, identifiers, base_name}
 use Rattle.c_tree.specs.Specifiers.{storage_words}
-use Rattle.c_tree.specs.Unit.{Item, function_item, decl_item, asm_item, semi_item, declares_function}
+use Rattle.c_tree.specs.Unit.{Item, function_item, decl_item, asm_item, semi_item, declares_function, old_function_item}
 
 -- the index words among qualifiers, by their tokens
 
@@ -49,6 +49,10 @@ in_spec_word (struct_type word attrs tag body) = []
 in_spec_word (enum_type it) = []
 in_spec_word (typedef_name it) = []
 in_spec_word (attribute attr) = []
+in_spec_word (typeof_value keyword opening e closing) = []
+in_spec_word (typeof_type word opening ws d closing) = []
+in_spec_word (align attr) = []
+in_spec_word (auto_word token) = []
 
 abbrev pub in_specs : SpecWords → List ℕ
 in_specs no_words = []
@@ -66,6 +70,8 @@ abbrev mutual
   in_declr (abs_paren opening attrs d closing) = in_declr d
   in_declr (abs_array d opening words size closing) = in_some_declr d ++ in_array_words words
   in_declr (abs_params d opening ps dots closing) = in_some_declr d ++ (in_params ps ++ in_dots dots)
+  in_declr (identifiers d opening names closing) = in_declr d
+  in_declr (base_name token) = []
 
   pub in_some_declr : SomeDeclr → List ℕ
   in_some_declr no_declr = []
@@ -109,6 +115,7 @@ in_decl (decl_assert it) = []
 
 abbrev pub in_item : Item → List ℕ
 in_item (function_item exts ws d attrs opening items closing) = []
+in_item (old_function_item exts ws d attrs ds opening items closing) = []
 in_item (decl_item d) = in_decl d
 in_item (asm_item keyword group semi) = []
 in_item (semi_item semi) = []
@@ -122,6 +129,7 @@ index_places (item ∷ items) = in_item item ++ index_places items
 abbrev pub bodies : List Item → List ℕ
 bodies [] = []
 bodies (function_item exts ws d attrs opening items closing ∷ others) = opening ∷ bodies others
+bodies (old_function_item exts ws d attrs ds opening items closing ∷ others) = opening ∷ bodies others
 bodies (decl_item d ∷ others) = bodies others
 bodies (asm_item keyword group semi ∷ others) = bodies others
 bodies (semi_item semi ∷ others) = bodies others

@@ -1,5 +1,5 @@
 -- Which bytes are a prelude, and why others are none.
-use Rattle.std.specs.Prelude.{◌≡◌, ◌≢◌, ℕ, List, [], ◌∷◌, length, nat_lt, Option, None, Some, IfSome, if◌then◌else◌}
+use Rattle.std.specs.Prelude.{◌≡◌, ◌≢◌, ℕ, List, [], ◌∷◌, length, nat_lt, Option, None, Some, IfSome, if◌then◌else◌, Bool}
 use Rattle.qual_base.specs.declared.places.Spot.{Spot}
 use Rattle.c_lexer.specs.Reading.{Meanings}
 use Rattle.c_lexer.specs.Refusals.{IsRefusal}
@@ -21,20 +21,21 @@ use Rattle.cq_prelude.specs.declared.fault.PreludeFault.{PreludeFault}
 use Rattle.cq_prelude.specs.declared.fault.PreludeFault.TheVariants.{BadIndex, HasBody, Lex, NoMemory, Parse, Shape}
 
 -- the bytes spell these tokens of unit 0, where the words mean what these meanings say
-pub record Lexes (words : Meanings) (bytes : List ℕ) (lexed : Lexed) : Type 0 where
+pub record Lexes (wide : Bool) (words : Meanings) (bytes : List ℕ) (lexed : Lexed) : Type 0 where
   pub unit : lexed.unit ≡ 0
+  pub dialect : lexed.wide ≡ wide
   pub bytes_are : lexed.bytes ≡ bytes
   pub marks : IsMarkedBy words lexed
 
 -- the tokens are those of this well-formed unit
-pub record Parses (words : Meanings) (bytes : List ℕ) (it : UnitRead) : Type 0 where
-  pub lexes : Lexes words bytes it.lexed
-  pub formed : IsWellFormed (lexemes_of it.lexed) it.items
+pub record Parses (wide : Bool) (words : Meanings) (bytes : List ℕ) (it : UnitRead) : Type 0 where
+  pub lexes : Lexes wide words bytes it.lexed
+  pub formed : IsWellFormed it.lexed.wide (lexemes_of it.lexed) it.items
 
 -- The bytes are a prelude: a well-formed unit without bodies of functions, whose index words are right, and whose names and types have
 -- no fault.
-pub record IsPrelude (words : Meanings) (bytes : List ℕ) (it : UnitRead) (marks : List IndexMark) : Type 0 where
-  pub parses : Parses words bytes it
+pub record IsPrelude (wide : Bool) (words : Meanings) (bytes : List ℕ) (it : UnitRead) (marks : List IndexMark) : Type 0 where
+  pub parses : Parses wide words bytes it
   pub rules : NoneFails it.lexed it.items
   pub marks_are : AreMarks it.lexed marks
   pub shaped : HasNoFault (sources_in (it ∷ []))
@@ -55,16 +56,16 @@ spot_of lexed token =
     else record { unit = lexed.unit; line = 1; column = 1; name_from = 0; name_to = 0 }
 
 -- Why the bytes are no prelude, in the order in which that is found out; want of memory may come anywhere.
-abbrev pub IsFaultOf : Meanings → List ℕ → PreludeFault → Type 0
-IsFaultOf words bytes (Lex fault) = IsRefusal 0 words bytes fault × (fault ≢ NoRoom)
-IsFaultOf words bytes (Parse fault spot) =
-    (lexed : Lexed) × Lexes words bytes lexed × (fault ≢ OutOfRoom) × IsUnitRefusal lexed fault
+abbrev pub IsFaultOf : Bool → Meanings → List ℕ → PreludeFault → Type 0
+IsFaultOf wide words bytes (Lex fault) = IsRefusal 0 wide words bytes fault × (fault ≢ NoRoom)
+IsFaultOf wide words bytes (Parse fault spot) =
+    (lexed : Lexed) × Lexes wide words bytes lexed × (fault ≢ OutOfRoom) × IsUnitRefusal lexed fault
     × IfSome (refused_at fault) (λ token. spot ≡ spot_of lexed token)
-IsFaultOf words bytes (HasBody spot) =
-    (it : UnitRead) × (token : ℕ) × Parses words bytes it × IsFirst it.lexed it.items has_body token × (spot ≡ spot_of it.lexed token)
-IsFaultOf words bytes (BadIndex spot) =
-    (it : UnitRead) × (token : ℕ) × Parses words bytes it × IsFirst it.lexed it.items bad_index token × (spot ≡ spot_of it.lexed token)
-IsFaultOf words bytes (Shape fault spot) =
-    (it : UnitRead) × Parses words bytes it × NoneFails it.lexed it.items × (fault ≢ OutOfNames)
+IsFaultOf wide words bytes (HasBody spot) =
+    (it : UnitRead) × (token : ℕ) × Parses wide words bytes it × IsFirst it.lexed it.items has_body token × (spot ≡ spot_of it.lexed token)
+IsFaultOf wide words bytes (BadIndex spot) =
+    (it : UnitRead) × (token : ℕ) × Parses wide words bytes it × IsFirst it.lexed it.items bad_index token × (spot ≡ spot_of it.lexed token)
+IsFaultOf wide words bytes (Shape fault spot) =
+    (it : UnitRead) × Parses wide words bytes it × NoneFails it.lexed it.items × (fault ≢ OutOfNames)
     × IsFirstUnlessMemory fault (faults_of (sources_in (it ∷ []))) × IfSome (fault_in fault) (λ (f : Fault). spot ≡ spot_of it.lexed f.at.1)
-IsFaultOf words bytes NoMemory = Unit {0}
+IsFaultOf wide words bytes NoMemory = Unit {0}

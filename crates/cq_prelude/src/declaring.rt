@@ -24,7 +24,11 @@ fn is_typedef(word: &SpecWord) -> bool
         | SpecWord::Struct(_)
         | SpecWord::Enum(_)
         | SpecWord::TypedefName(_)
-        | SpecWord::Attr(_) => false,
+        | SpecWord::Attr(_)
+        | SpecWord::Typeof { .. }
+        | SpecWord::TypeofType { .. }
+        | SpecWord::Align(_)
+        | SpecWord::Auto { .. } => false,
     }
 }
 
@@ -51,10 +55,12 @@ fn has_params(d: &Declr, is_above: bool) -> bool
         Declr::DeclParen { inner, .. } => has_params(inner, is_above),
         Declr::Params { inner, .. } => has_params(inner, true),
         Declr::Pointer { inner, .. } | Declr::Array { inner, .. } => has_params(inner, false),
-        Declr::AbsPointer { .. }
+        Declr::Identifiers { .. }
+        | Declr::AbsPointer { .. }
         | Declr::AbsParen { .. }
         | Declr::AbsArray { .. }
-        | Declr::AbsParams { .. } => false,
+        | Declr::AbsParams { .. }
+        | Declr::BaseName { .. } => false,
     }
 }
 

@@ -54,7 +54,8 @@ fn faulty_token(fault: &ShapeFault) -> Option<TokenId>
         | ShapeFault::ArgCount(_, token)
         | ShapeFault::NotPlace(_, token)
         | ShapeFault::DefinedTwice(_, token)
-        | ShapeFault::TypeTooLarge(_, token) => Some(*token),
+        | ShapeFault::TypeTooLarge(_, token)
+        | ShapeFault::NoType(_, token) => Some(*token),
         ShapeFault::NoMemory => None,
     }
 }

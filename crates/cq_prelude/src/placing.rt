@@ -122,7 +122,11 @@ fn add_word(word: &SpecWord, found: &mut Vec<TokenId>) -> Result<(), NoMemory>
         | SpecWord::Struct(_)
         | SpecWord::Enum(_)
         | SpecWord::TypedefName(_)
-        | SpecWord::Attr(_) => Ok(()),
+        | SpecWord::Attr(_)
+        | SpecWord::Typeof { .. }
+        | SpecWord::TypeofType { .. }
+        | SpecWord::Align(_)
+        | SpecWord::Auto { .. } => Ok(()),
     }
 }
 
@@ -150,7 +154,8 @@ fn declr<'a>(d: &'a Declr, left: &mut Left<'a>) -> Result<(), NoMemory>
     ensures { OnOk result (left.new ≡ in_declr (declr_of d.now) ++ left.old) }
 {
     match declarator_shape(d) {
-        DeclaratorShape::DeclName { .. } => Ok(()),
+        DeclaratorShape::DeclName { .. } | DeclaratorShape::BaseName { .. } => Ok(()),
+        DeclaratorShape::Identifiers { inner, .. } => left.declr(inner),
         DeclaratorShape::DeclParen { inner, .. } => left.declr(inner),
         DeclaratorShape::AbsParen { inner, .. } => left.declr(inner),
         DeclaratorShape::Pointer { words, inner, .. } => {
@@ -262,7 +267,8 @@ fn item<'a>(it: &'a Item, left: &mut Left<'a>) -> Result<(), NoMemory>
 {
     match it {
         Item::Decl(it) => decl(it, left),
-        Item::Function { .. } | Item::AsmDecl { .. } | Item::Semi(_) => Ok(()),
+        Item::Function { .. } | Item::OldFunction { .. } | Item::AsmDecl { .. } | Item::Semi(_) =>
+            Ok(()),
     }
 }
 
@@ -333,7 +339,9 @@ pub(crate) fn first_body(items: &[Item]) -> Option<TokenId>
     let mut best = None;
     for item in items {
         match item {
-            Item::Function { body, .. } => best = Some(lesser(best, body.open)),
+            Item::Function { body, .. } | Item::OldFunction { body, .. } => best = Some(lesser(
+                best, body.open,
+            )),
             Item::Decl(_) | Item::AsmDecl { .. } | Item::Semi(_) => {}
         }
     }

@@ -43,7 +43,7 @@ fn rule_broken(tokens: &Tokens, fault: RuleFault) -> PreludeFault
 
 /// Whether the names and types of a unit have no fault by themselves, and else the first.
 fn check_names(alloc: Global, source: &Source) -> Result<(), PreludeFault>
-    requires { IsWellFormed (lexemes_of source.now.tokens) (items_of source.now.unit) }
+    requires { IsWellFormed source.now.tokens.wide (lexemes_of source.now.tokens) (items_of source.now.unit) }
     ensures none { OnOk result (HasNoFault (sources_in (unit_of source.now ∷ []))) }
     ensures fault { IfErr result (IsShapeFaultIn (unit_of source.now)) }
 {
@@ -55,7 +55,7 @@ fn check_names(alloc: Global, source: &Source) -> Result<(), PreludeFault>
 
 /// The index words of a well-formed unit with their numbers, or why it is no prelude.
 fn prelude_of(alloc: Global, source: &Source) -> Result<Prelude, PreludeFault>
-    requires { IsWellFormed (lexemes_of source.now.tokens) (items_of source.now.unit) }
+    requires { IsWellFormed source.now.tokens.wide (lexemes_of source.now.tokens) (items_of source.now.unit) }
     ensures rules { IfOk result
         (λ _. NoneFails source.now.tokens (items_of source.now.unit)) }
     ensures marks { IfOk result (AreMarks source.now.tokens) }
@@ -74,38 +74,40 @@ fn prelude_of(alloc: Global, source: &Source) -> Result<Prelude, PreludeFault>
 /// The tokens of a unit 0 that bytes spell.
 fn tokens_of<'a>(
     alloc: Global,
+    wide: bool,
     bytes: &'a [u8],
     words: &QualWords,
 ) -> Result<Tokens<'a>, PreludeFault>
     requires { length bytes.now < 2 ^ 32 - 1 }
-    ensures lexes { IfOk result (λ tokens. Lexes words.now bytes.now tokens) }
-    ensures refused { IfErr result (IsFaultOf words.now bytes.now) }
-    ensures only { (lexed : Lexed) → Lexes words.now bytes.now lexed → IsOnlyTokens lexed result }
+    ensures lexes { IfOk result (λ tokens. Lexes wide words.now bytes.now tokens) }
+    ensures refused { IfErr result (IsFaultOf wide words.now bytes.now) }
+    ensures only { (lexed : Lexed) → Lexes wide words.now bytes.now lexed → IsOnlyTokens lexed result }
 {
-    match lex(alloc, UnitNo::new(0), bytes, words) {
+    match lex(alloc, UnitNo::new(0), wide, bytes, words) {
         Ok(tokens) => Ok(tokens),
         Err(fault) => Err(lex_refused(fault)),
     }
 }
 
-/// The prelude that bytes are, or why they are none.
+/// The prelude that bytes are, read as wider C or not, or why they are none.
 ///
 /// Time and memory are linear in the bytes, but for looking names up, for the types of the names, and for sorting the
 /// numbers of an index word. A fault of tokens comes before one of syntax, that before a body or an index word that is not
 /// right, the first of them in the text, and that before a fault of names and types.
 pub fn read_prelude<'a>(
     alloc: Global,
+    wide: bool,
     bytes: &'a [u8],
     words: &QualWords,
 ) -> Result<PreludeRead<'a>, PreludeFault>
     requires { length bytes.now < 2 ^ 32 - 1 }
     ensures reads { IfOk result
-        (λ it. IsPrelude words.now bytes.now (unit_of it.source) it.prelude) }
-    ensures refused { IfErr result (IsFaultOf words.now bytes.now) }
+        (λ it. IsPrelude wide words.now bytes.now (unit_of it.source) it.prelude) }
+    ensures refused { IfErr result (IsFaultOf wide words.now bytes.now) }
     ensures only { (it : UnitRead) (marks : List IndexMark) →
-        IsPrelude words.now bytes.now it marks → IsOnlyRead it result }
+        IsPrelude wide words.now bytes.now it marks → IsOnlyRead it result }
 {
-    let tokens = tokens_of(alloc, bytes, words)?;
+    let tokens = tokens_of(alloc, wide, bytes, words)?;
     match parse(alloc, &tokens) {
         Ok(unit) => {
             let source = Source { unit, tokens };

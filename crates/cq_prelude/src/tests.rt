@@ -74,14 +74,14 @@ fn fault_text(alloc: Global, fault: PreludeFault) -> Result<String, AllocError> 
     }
 }
 
-fn shown(rt: &impl Abort, alloc: Global, source: &str) -> Result<String, AllocError> {
+fn shown(rt: &impl Abort, alloc: Global, wide: bool, source: &str) -> Result<String, AllocError> {
     let bytes = source.as_bytes();
     assert!(rt; bytes.len() < 1000);
     let mut words = QualWords::new(alloc);
     words
         .push(b"$tainted", LatticeNo::new(0), Elem::new(1))
         .expect(rt, "memory");
-    match read_prelude(alloc, bytes, &words) {
+    match read_prelude(alloc, wide, bytes, &words) {
         Ok(read) => marks_text(alloc, &read),
         Err(fault) => fault_text(alloc, fault),
     }
@@ -145,6 +145,13 @@ static PRELUDES: [(&str, &str); 46] = [
     ("int x; $odd int y;", "tokens"),
 ];
 
+/// Preludes of wider C, and what they are where it is not asked for.
+static WIDE: [(&str, &str, &str); 3] = [
+    ("_Atomic(int) f($_1 int);", "6: 1;", "syntax 1:1"),
+    ("int f(typeof($_1 int) x);", "index 1:14", "syntax 1:7"),
+    ("int f(a) int a; { return a; }", "body 1:17", "syntax 1:7"),
+];
+
 #[test]
 fn index_words_say_their_numbers(rt: HostRuntime) -> Result<(), Fail> {
     let alloc = rt.alloc();
@@ -159,8 +166,20 @@ fn index_words_say_their_numbers(rt: HostRuntime) -> Result<(), Fail> {
 fn a_prelude_is_read_or_refused_at_its_first_fault(rt: HostRuntime) -> Result<(), Fail> {
     let alloc = rt.alloc();
     for (source, expected) in &PRELUDES {
-        let text = shown(&rt, alloc, *source)?;
+        let text = shown(&rt, alloc, false, *source)?;
         assert_eq!(rt; text.as_str(), *expected);
+    }
+    Ok(())
+}
+
+#[test]
+fn a_prelude_of_wider_c_is_read_where_that_is_asked(rt: HostRuntime) -> Result<(), Fail> {
+    let alloc = rt.alloc();
+    for (source, wide, other) in &WIDE {
+        let text = shown(&rt, alloc, true, *source)?;
+        assert_eq!(rt; text.as_str(), *wide);
+        let text = shown(&rt, alloc, false, *source)?;
+        assert_eq!(rt; text.as_str(), *other);
     }
     Ok(())
 }

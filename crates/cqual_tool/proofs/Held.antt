@@ -7,6 +7,7 @@ use Rattle.c_types.specs.Sources.{UnitRead, lexed_of, sources_in}
 use Rattle.key_laws.specs.Differing.{IsRead, UnitsDiffer}
 use Rattle.flow_graph.specs.System.{System, most_variables}
 use Rattle.type_rules.specs.Program.{names_of}
+use Rattle.row_rules.specs.Annotations.{has_access}
 use Rattle.row_rules.specs.Worlds.{numbered_from}
 use Rattle.constraint_rules.specs.Systems.{starts_of, system_of}
 use Rattle.constraint_gen.specs.Programs.{positions_in, program_in}
@@ -31,7 +32,7 @@ module _ (lattices : List LatticeView) (marks : List IndexMark) (units : List Un
   -- the external functions of the program
   pub held : ExternalsAreHeld → (texts : List UnitText) → externals_in texts (program_in lattices marks units) ≡ externals_held texts it
   held law texts =
-      law texts it.made.skeletons (numbered_from 0 (starts_of (sources_in units))) (functions_in (names_of (sources_in units)))
+      law texts it.made.skeletons (numbered_from 0 (starts_of (has_access lattices) (sources_in units))) (functions_in (names_of (sources_in units)))
       (let count = made.count in omega (arith, count, few)) made.skeletons.found
       ∙ ap (map (external_at texts it.made.skeletons)) (sym functions)
 
@@ -39,7 +40,7 @@ module _ (lattices : List LatticeView) (marks : List IndexMark) (units : List Un
       MaySign it
   may_sign read differ order apart law = record {
     units = λ named. subst (λ (lexed : List Lexed). AreApart (texts_of named lexed)) (sym are) (texts_apart named units differ);
-    skeletons = order it.made.skeletons (numbered_from 0 (starts_of (sources_in units))) made.skeletons.found;
+    skeletons = order it.made.skeletons (numbered_from 0 (starts_of (has_access lattices) (sources_in units))) made.skeletons.found;
     apart = λ texts.
         subst (λ (sys : System). AreOwnedApart sys (externals_held texts it)) (sym made.system)
         (subst (λ (es : List External). AreOwnedApart (system_of (program_in lattices marks units)) es) (held law texts) (apart texts (program_in lattices marks units) read differ));

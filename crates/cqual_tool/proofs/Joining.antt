@@ -128,11 +128,11 @@ prelude_alone it unit formed = record {
 }
 
 -- what is made of a source of a unit's number
-pub at_number : (lattices : List LatticeView) (number unit : ℕ) (file bytes : List ℕ) (before : List UnitRead) (marks : List IndexMark)
+pub at_number : (wide : Bool) (lattices : List LatticeView) (number unit : ℕ) (file bytes : List ℕ) (before : List UnitRead) (marks : List IndexMark)
     (earlier : Earlier) (it : Joined) → unit ≡ number → IsEarlier number before earlier
-    → (IsEarlier unit before earlier → IsOneMore lattices unit file bytes before marks it) → IsOneMore lattices number file bytes before marks it
-at_number lattices number unit file bytes before marks earlier it same may of =
-    subst (λ (n : ℕ). IsOneMore lattices n file bytes before marks it) same
+    → (IsEarlier unit before earlier → IsOneMore wide lattices unit file bytes before marks it) → IsOneMore wide lattices number file bytes before marks it
+at_number wide lattices number unit file bytes before marks earlier it same may of =
+    subst (λ (n : ℕ). IsOneMore wide lattices n file bytes before marks it) same
     (of (subst (λ (n : ℕ). IsEarlier n before earlier) (sym same) may))
 
 -- an answer that says a line which refuses something

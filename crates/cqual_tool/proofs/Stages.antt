@@ -125,7 +125,7 @@ module _ (old mid : Standing) (r : Reading) (read : ReadOn old mid (r ∷ [])) (
         reading.answers old mid r read named.lattice same (λ i. i.lattice) with_lattice (from_prelude named) (λ i b. refl) (λ i b. refl)
         (λ inputs. OfFiles named inputs) (FilesGo named) answer lattice_alone whole of
 
-    pub lattice_goes : (new : Standing) (lattices : List LatticeView) (whole : r.end ≡ Whole) → LatticesRead r.bytes lattices
+    pub lattice_goes : (new : Standing) (lattices : List LatticeView) (whole : r.end ≡ Whole) → LatticesRead named.wide r.bytes lattices
         → ((inputs : Inputs) (status : Status) (text : List ℕ) → inputs.lattice ≡ r.bytes → OfUnits named inputs lattices status text → OfFiles named inputs status text)
         → (result : Result Answer Stop) → UnitsAnswered mid new named lattices result → FilesAnswered old new named result
     lattice_goes new lattices whole reads of result more =
@@ -136,7 +136,7 @@ module _ (old mid : Standing) (r : Reading) (read : ReadOn old mid (r ∷ [])) (
         starting these starts =
             at_name (Starts named (λ inputs. ReadsAs ((named.lattice, inputs.lattice) ∷ from_prelude named inputs) (r ∷ these))) r named.lattice _ same
             (all_start named lattices _ (λ inputs. ReadsAs (from_prelude named inputs) these) _ (λ inputs given. given.2)
-            (λ inputs given. subst (λ (bytes : List ℕ). LatticesRead bytes lattices) (sym (whole_is r inputs.lattice whole given.1)) reads) starts)
+            (λ inputs given. subst (λ (bytes : List ℕ). LatticesRead named.wide bytes lattices) (sym (whole_is r inputs.lattice whole given.1)) reads) starts)
 
   -- a source, and those behind it
   module _ (file : List ℕ) (same : r.name ≡ file) (lattices : List LatticeView) (before : List UnitRead) (marks : List IndexMark) (number left : ℕ)
@@ -173,7 +173,7 @@ module _ (old mid : Standing) (r : Reading) (read : ReadOn old mid (r ∷ [])) (
 
     -- its bytes are no unit, or too many
     pub source_refused : (answer : Answer) (bytes : List ℕ) → r.end ≡ Whole → r.bytes ≡ bytes → length r.bytes ≤ limit_in left
-        → answer.status ≡ Malformed → SourceRefused lattices number file bytes answer.text.items
+        → answer.status ≡ Malformed → SourceRefused named.wide lattices number file bytes answer.text.items
         → SourcesAnswered old mid named lattices before marks number left (file ∷ names) (Ok answer)
     source_refused answer bytes whole same_bytes within status is =
         source_answers answer (whole_stands r whole) (λ inputs gives.
@@ -183,7 +183,7 @@ module _ (old mid : Standing) (r : Reading) (read : ReadOn old mid (r ∷ [])) (
         (NotParsed text
         (Refused number left (file, first_of inputs.sources) (files_with names (behind_first inputs.sources)) text
         (subst (λ (b : List ℕ). length b ≤ limit_in left) (sym content) within)
-        (subst (λ (b : List ℕ). SourceRefused lattices number file b text) (sym (content ∙ same_bytes)) is))))
+        (subst (λ (b : List ℕ). SourceRefused named.wide lattices number file b text) (sym (content ∙ same_bytes)) is))))
 
     pub source_too_large : (answer : Answer) → (r.end ≡ Going) × (limit_in left < length r.bytes) → Says Malformed (malformed_line file (codes "F2")) answer
         → SourcesAnswered old mid named lattices before marks number left (file ∷ names) (Ok answer)
@@ -196,7 +196,7 @@ module _ (old mid : Standing) (r : Reading) (read : ReadOn old mid (r ∷ [])) (
 
     -- it is the unit
     module _ (new : Standing) (unit : UnitRead) (whole : r.end ≡ Whole) (within : length r.bytes ≤ limit_in left)
-        (parses : SourceParses lattices number r.bytes unit) where
+        (parses : SourceParses named.wide lattices number r.bytes unit) where
       abbrev OfRest : Inputs → Status → List ℕ → Type 0
       OfRest inputs =
           OfSources named lattices (before ++ unit ∷ []) marks (IsEnd named inputs.saved) (number + 1) (left - length r.bytes)
@@ -262,12 +262,12 @@ module _ (old mid : Standing) (r : Reading) (read : ReadOn old mid (r ∷ [])) (
     -- the same, by what is made of its bytes
     pub source_joins : (new : Standing) (it : Earlier) (bytes : List ℕ) (rest_left : ℕ) → r.end ≡ Whole → r.bytes ≡ bytes
         → length r.bytes ≤ limit_in left → rest_left ≡ left - length bytes
-        → (is : (unit : UnitRead) × SourceParses lattices number bytes unit × IsEarlier (number + 1) (before ++ unit ∷ []) it × (it.prelude ≡ marks))
+        → (is : (unit : UnitRead) × SourceParses named.wide lattices number bytes unit × IsEarlier (number + 1) (before ++ unit ∷ []) it × (it.prelude ≡ marks))
         → (result : Result Answer Stop)
         → SourcesAnswered mid new named lattices (before ++ is.0 ∷ []) it.prelude (number + 1) rest_left names result
         → SourcesAnswered old new named lattices before marks number left (file ∷ names) result
     source_joins new it bytes rest_left whole same_bytes within less is result more =
-        source_goes new is.0 whole within (subst (λ (b : List ℕ). SourceParses lattices number b is.0) (sym same_bytes) is.1) result
+        source_goes new is.0 whole within (subst (λ (b : List ℕ). SourceParses named.wide lattices number b is.0) (sym same_bytes) is.1) result
         (subst (λ (n : ℕ). SourcesAnswered mid new named lattices (before ++ is.0 ∷ []) marks (number + 1) n names result)
         (less ∙ ap (λ (b : List ℕ). left - length b) (sym same_bytes))
         (at_marks mid new named lattices (before ++ is.0 ∷ []) it.prelude marks (number + 1) rest_left names result is.3 more))

@@ -1,5 +1,5 @@
 -- Which files are started, and what was read before them.
-use Rattle.std.proofs.Common.{◌≡◌, arith, ℕ, suc, ◌+◌, ◌-◌, ◌<◌, ◌≤◌, List, [], ◌∷◌, ◌++◌, length, take, refl, sym, ap, subst, append_assoc}
+use Rattle.std.proofs.Common.{◌≡◌, arith, ℕ, Bool, suc, ◌+◌, ◌-◌, ◌<◌, ◌≤◌, List, [], ◌∷◌, ◌++◌, length, take, refl, sym, ap, subst, append_assoc}
 use Rattle.outside.specs.Readings.{Reading}
 use Rattle.lattice_core.specs.View.{LatticeView}
 use Rattle.c_types.specs.Sources.{UnitRead}
@@ -26,12 +26,12 @@ rest_of inputs = record {
 
 -- one more source in front
 
-pub one_more : (lattices : List LatticeView) (number left : ℕ) (file bytes content : List ℕ) (more : List (List ℕ × List ℕ)) (unit : UnitRead)
-    (units : List UnitRead) → content ≡ bytes → length bytes ≤ limit_in left → SourceParses lattices number bytes unit
-    → SourcesParse lattices (number + 1) (left - length bytes) more units
-    → SourcesParse lattices number left ((file, content) ∷ more) (unit ∷ units)
-one_more lattices number left file bytes content more unit units same within parses rest =
-    subst (λ (b : List ℕ). SourcesParse lattices number left ((file, b) ∷ more) (unit ∷ units)) (sym same)
+pub one_more : (wide : Bool) (lattices : List LatticeView) (number left : ℕ) (file bytes content : List ℕ) (more : List (List ℕ × List ℕ)) (unit : UnitRead)
+    (units : List UnitRead) → content ≡ bytes → length bytes ≤ limit_in left → SourceParses wide lattices number bytes unit
+    → SourcesParse wide lattices (number + 1) (left - length bytes) more units
+    → SourcesParse wide lattices number left ((file, content) ∷ more) (unit ∷ units)
+one_more wide lattices number left file bytes content more unit units same within parses rest =
+    subst (λ (b : List ℕ). SourcesParse wide lattices number left ((file, b) ∷ more) (unit ∷ units)) (sym same)
     (OneSource number left (file, bytes) more unit units within parses rest)
 
 behind_one : (before : List UnitRead) (unit : UnitRead) (units : List UnitRead) (P : List UnitRead → Type 0) → P ((before ++ unit ∷ []) ++ units)
@@ -48,7 +48,7 @@ module _ (named : FileNames) (lattices : List LatticeView) where
 
   -- a source that is the unit, and what is behind it
   module _ (before : List UnitRead) (marks : List IndexMark) (number left : ℕ) (file bytes : List ℕ) (unit : UnitRead)
-      (within : length bytes ≤ limit_in left) (parses : SourceParses lattices number bytes unit) where
+      (within : length bytes ≤ limit_in left) (parses : SourceParses named.wide lattices number bytes unit) where
     pub one_starts : (names : List (List ℕ)) (Given Rest : Inputs → Type 0) (started : List (List ℕ))
         → ((inputs : Inputs) → Given inputs → (first_of inputs.sources ≡ bytes) × Rest (rest_of inputs))
         → SourcesStart named lattices (before ++ unit ∷ []) marks (number + 1) (left - length bytes) names Rest started
@@ -57,12 +57,12 @@ module _ (named : FileNames) (lattices : List LatticeView) where
     one_starts names Given Rest _ is (SomeStart count lt parsed) =
         SomeStart (suc count) (omega (arith, lt)) (λ inputs given.
         let all = is inputs given in let rest = parsed (rest_of inputs) all.1 in
-        (unit ∷ rest.0, one_more lattices number left file bytes (first_of inputs.sources) _ unit rest.0 all.0 within parses rest.1))
+        (unit ∷ rest.0, one_more named.wide lattices number left file bytes (first_of inputs.sources) _ unit rest.0 all.0 within parses rest.1))
     one_starts names Given Rest _ is (SavedBehind report asked read) =
         SavedBehind report asked (λ inputs given.
         let all = is inputs given in let rest = read (rest_of inputs) all.1 in (
           unit ∷ rest.0,
-          one_more lattices number left file bytes (first_of inputs.sources) _ unit rest.0 all.0 within parses rest.1,
+          one_more named.wide lattices number left file bytes (first_of inputs.sources) _ unit rest.0 all.0 within parses rest.1,
           behind_one before unit rest.0 (AreCounted named lattices marks) rest.2,
         ))
 
@@ -106,7 +106,7 @@ module _ (named : FileNames) (lattices : List LatticeView) where
 
   -- all files behind the lattice file
   pub all_start : (Given Units : Inputs → Type 0) (names : List (List ℕ)) → ((inputs : Inputs) → Given inputs → Units inputs)
-      → ((inputs : Inputs) → Given inputs → LatticesRead inputs.lattice lattices) → UnitsStart named lattices Units names
+      → ((inputs : Inputs) → Given inputs → LatticesRead named.wide inputs.lattice lattices) → UnitsStart named lattices Units names
       → Starts named Given (named.lattice ∷ names)
   all_start Given Units _ units read NoUnit = LatticeAlone
   all_start Given Units _ units read (PreludeAlone file is) =

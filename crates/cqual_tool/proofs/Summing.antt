@@ -1,5 +1,5 @@
 -- The sum of what is found in a source that the tool makes itself.
-use Rattle.std.proofs.Common.{◌≡◌, ◌<◌, ◌≤◌, ◌+◌, ◌-◌, ℕ, List, [], ◌∷◌, length, codes, refl, sym, ◌∙◌, ap, subst}
+use Rattle.std.proofs.Common.{◌≡◌, ◌<◌, ◌≤◌, ◌+◌, ◌-◌, ℕ, false, List, [], ◌∷◌, length, codes, refl, sym, ◌∙◌, ap, subst}
 use Rattle.lattice_core.specs.View.{LatticeView, orders_of}
 use Rattle.c_types.specs.Sources.{UnitRead}
 use Rattle.index_words.specs.Marks.{IndexMark}
@@ -56,14 +56,14 @@ module _ (number : ℕ) (lattices : List LatticeView) (bytes : List ℕ) where
       (NotParsed _ (TooLarge 1 total_limit (codes "generated.c", bytes) [] large))
 
   module _ (within : length bytes ≤ source_limit) where
-    pub made_unread : (answer : Answer) → answer.status ≡ Malformed → SourceRefused lattices 1 (codes "generated.c") bytes answer.text.items
+    pub made_unread : (answer : Answer) → answer.status ≡ Malformed → SourceRefused false lattices 1 (codes "generated.c") bytes answer.text.items
         → OfSource answer.status answer.text.items
     made_unread answer status is =
         at_equal OfSource answer.status Malformed answer.text.items answer.text.items status refl
         (NotParsed answer.text.items (Refused 1 total_limit (codes "generated.c", bytes) [] answer.text.items within is))
 
-    module _ (unit : UnitRead) (parses : SourceParses lattices 1 bytes unit) where
-      made_parse : SourcesParse lattices 1 total_limit (files_with made_names.sources (bytes ∷ [])) (unit ∷ [])
+    module _ (unit : UnitRead) (parses : SourceParses false lattices 1 bytes unit) where
+      made_parse : SourcesParse false lattices 1 total_limit (files_with made_names.sources (bytes ∷ [])) (unit ∷ [])
       made_parse =
           OneSource 1 total_limit (codes "generated.c", bytes) [] unit [] within parses (NoSource (1 + 1) (total_limit - length bytes))
 
@@ -87,6 +87,6 @@ module _ (number : ℕ) (lattices : List LatticeView) (bytes : List ℕ) where
       made_summed ready status text is sum = SourcesRead (unit ∷ []) status text made_parse is.counted sum
 
 pub of_its_bytes : (number : ℕ) (lattices : List LatticeView) (bytes : List ℕ) (status : Status) (text : List ℕ) → bytes ≡ generated_text number
-    → LatticesRead lattice_text lattices → OfSource number lattices bytes status text → OfMade number status text
+    → LatticesRead false lattice_text lattices → OfSource number lattices bytes status text → OfMade number status text
 of_its_bytes number lattices bytes status text same read is =
     MadeRead lattices status text read (subst (λ (b : List ℕ). OfSource number lattices b status text) same is)

@@ -1,5 +1,5 @@
 -- What the tool answers and writes, for the words and the bytes of the files.
-use Rattle.std.specs.Prelude.{◌≡◌, ◌≢◌, ℕ, zero, suc, ◌+◌, ◌-◌, nat_le, true, false, ◌<◌, ◌≤◌, List, [], ◌∷◌, ◌++◌, length, slice_get, take, Some, None, codes, Option, if◌then◌else◌}
+use Rattle.std.specs.Prelude.{◌≡◌, ◌≢◌, ℕ, zero, suc, ◌+◌, ◌-◌, nat_le, Bool, true, false, ◌<◌, ◌≤◌, List, [], ◌∷◌, ◌++◌, length, slice_get, take, Some, None, codes, Option, if◌then◌else◌}
 use Rattle.std.specs.List.{flat_map}
 use Rattle.outside.specs.Readings.{Reading, ReadsAs, names_read}
 use Rattle.qual_base.specs.Words.{MeansTheSame}
@@ -75,60 +75,61 @@ abbrev pub saved_limit : ℕ
 saved_limit = 268435456
 
 -- the bytes are within the limit and read as these lattices
-pub record LatticesRead (bytes : List ℕ) (lattices : List LatticeView) : Type 0 where
+pub record LatticesRead (wide : Bool) (bytes : List ℕ) (lattices : List LatticeView) : Type 0 where
   pub within : length bytes ≤ lattice_limit
-  pub read : Reads bytes lattices
+  pub read : Reads wide bytes lattices
 
 -- the bytes are within the limit and have this fault
-pub record LatticesFail (bytes : List ℕ) (fault : LatticeFileFault) : Type 0 where
+pub record LatticesFail (wide : Bool) (bytes : List ℕ) (fault : LatticeFileFault) : Type 0 where
   pub within : length bytes ≤ lattice_limit
-  pub refused : IsFileFault bytes fault
+  pub refused : IsFileFault wide bytes fault
   pub reason : fault ≢ OutOfMemory
 
 -- the bytes are within the limit, and are this prelude where words mean what the names of the lattices do
-pub record PreludeReads (lattices : List LatticeView) (bytes : List ℕ) (unit : UnitRead) (marks : List IndexMark) : Type 0 where
+pub record PreludeReads (wide : Bool) (lattices : List LatticeView) (bytes : List ℕ) (unit : UnitRead) (marks : List IndexMark) : Type 0 where
   pub within : length bytes ≤ source_limit
   pub words : Meanings
   pub mean : MeansTheSame words (words_of lattices)
-  pub is : IsPrelude words bytes unit marks
+  pub is : IsPrelude wide words bytes unit marks
 
 -- the bytes are within the limit, and are no prelude for this reason
-pub record PreludeFails (lattices : List LatticeView) (bytes : List ℕ) (fault : PreludeFault) : Type 0 where
+pub record PreludeFails (wide : Bool) (lattices : List LatticeView) (bytes : List ℕ) (fault : PreludeFault) : Type 0 where
   pub within : length bytes ≤ source_limit
   pub words : Meanings
   pub mean : MeansTheSame words (words_of lattices)
-  pub refused : IsFaultOf words bytes fault
+  pub refused : IsFaultOf wide words bytes fault
   pub reason : fault ≢ OutOfSpace
 
 -- the units before the sources, and what their index words say: those of the prelude that is named, if one is
 pub data AreBefore (named : FileNames) (inputs : Inputs) (lattices : List LatticeView) : List UnitRead → List IndexMark → Type 0 where
   NoPrelude : named.prelude ≡ None → AreBefore named inputs lattices [] []
   OnePrelude : (file : List ℕ) (unit : UnitRead) (marks : List IndexMark) → named.prelude ≡ Some file →
-      PreludeReads lattices inputs.prelude unit marks → AreBefore named inputs lattices (unit ∷ []) marks
+      PreludeReads named.wide lattices inputs.prelude unit marks → AreBefore named inputs lattices (unit ∷ []) marks
 
 -- the bytes of the unit of this number spell these tokens where words mean what the names of the lattices do
-pub record SourceLexes (lattices : List LatticeView) (number : ℕ) (bytes : List ℕ) (lexed : Lexed) : Type 0 where
+pub record SourceLexes (wide : Bool) (lattices : List LatticeView) (number : ℕ) (bytes : List ℕ) (lexed : Lexed) : Type 0 where
   pub unit : lexed.unit ≡ number
+  pub dialect : lexed.wide ≡ wide
   pub bytes_are : lexed.bytes ≡ bytes
   pub marks : IsMarkedBy (words_of lattices) lexed
 
 -- the bytes stop to spell tokens at the place of this fault
-pub record SourceFails (lattices : List LatticeView) (number : ℕ) (bytes : List ℕ) (fault : LexFault) : Type 0 where
+pub record SourceFails (wide : Bool) (lattices : List LatticeView) (number : ℕ) (bytes : List ℕ) (fault : LexFault) : Type 0 where
   pub words : Meanings
   pub mean : MeansTheSame words (words_of lattices)
-  pub refused : IsRefusal number words bytes fault
+  pub refused : IsRefusal number wide words bytes fault
   pub reason : fault ≢ NoRoom
 
 -- the tokens are those of this well-formed unit
-pub record SourceParses (lattices : List LatticeView) (number : ℕ) (bytes : List ℕ) (it : UnitRead) : Type 0 where
-  pub lexes : SourceLexes lattices number bytes it.lexed
-  pub formed : IsWellFormed (lexemes_of it.lexed) it.items
+pub record SourceParses (wide : Bool) (lattices : List LatticeView) (number : ℕ) (bytes : List ℕ) (it : UnitRead) : Type 0 where
+  pub lexes : SourceLexes wide lattices number bytes it.lexed
+  pub formed : IsWellFormed it.lexed.wide (lexemes_of it.lexed) it.items
 
 -- the whole line for the bytes of a file that are no tokens, or whose tokens are those of no well-formed unit
-pub data SourceRefused (lattices : List LatticeView) (number : ℕ) (file bytes : List ℕ) : List ℕ → Type 0 where
-  Unspelled : (fault : LexFault) → SourceFails lattices number bytes fault → SourceRefused lattices number file bytes (lex_line file bytes fault)
-  Unparsed : (lexed : Lexed) (fault : ParseFault) → SourceLexes lattices number bytes lexed → fault ≢ OutOfRoom → IsUnitRefusal lexed fault →
-      SourceRefused lattices number file bytes (syntax_line file lexed fault)
+pub data SourceRefused (wide : Bool) (lattices : List LatticeView) (number : ℕ) (file bytes : List ℕ) : List ℕ → Type 0 where
+  Unspelled : (fault : LexFault) → SourceFails wide lattices number bytes fault → SourceRefused wide lattices number file bytes (lex_line file bytes fault)
+  Unparsed : (lexed : Lexed) (fault : ParseFault) → SourceLexes wide lattices number bytes lexed → fault ≢ OutOfRoom → IsUnitRefusal lexed fault →
+      SourceRefused wide lattices number file bytes (syntax_line file lexed fault)
 
 -- the most bytes of a source, where so many are left for it and those behind it
 abbrev pub limit_in : ℕ → ℕ
@@ -136,22 +137,22 @@ limit_in left = if nat_le left source_limit then left else source_limit
 
 -- Sources, each its name and its bytes, are these units: the first has this number, and each other the next one. So many bytes are left
 -- for all of them together.
-pub data SourcesParse (lattices : List LatticeView) : ℕ → ℕ → List (List ℕ × List ℕ) → List UnitRead → Type 0 where
-  NoSource : (number left : ℕ) → SourcesParse lattices number left [] []
+pub data SourcesParse (wide : Bool) (lattices : List LatticeView) : ℕ → ℕ → List (List ℕ × List ℕ) → List UnitRead → Type 0 where
+  NoSource : (number left : ℕ) → SourcesParse wide lattices number left [] []
   OneSource : (number left : ℕ) (source : List ℕ × List ℕ) (more : List (List ℕ × List ℕ)) (unit : UnitRead) (units : List UnitRead) →
-      length source.1 ≤ limit_in left → SourceParses lattices number source.1 unit →
-      SourcesParse lattices (number + 1) (left - length source.1) more units →
-      SourcesParse lattices number left (source ∷ more) (unit ∷ units)
+      length source.1 ≤ limit_in left → SourceParses wide lattices number source.1 unit →
+      SourcesParse wide lattices (number + 1) (left - length source.1) more units →
+      SourcesParse wide lattices number left (source ∷ more) (unit ∷ units)
 
 -- The whole line for sources of which one has too many bytes or is no well-formed unit: for the first of these.
-pub data SourcesFail (lattices : List LatticeView) : ℕ → ℕ → List (List ℕ × List ℕ) → List ℕ → Type 0 where
+pub data SourcesFail (wide : Bool) (lattices : List LatticeView) : ℕ → ℕ → List (List ℕ × List ℕ) → List ℕ → Type 0 where
   TooLarge : (number left : ℕ) (source : List ℕ × List ℕ) (more : List (List ℕ × List ℕ)) → limit_in left < length source.1 →
-      SourcesFail lattices number left (source ∷ more) (malformed_line source.0 (codes "F2"))
+      SourcesFail wide lattices number left (source ∷ more) (malformed_line source.0 (codes "F2"))
   Refused : (number left : ℕ) (source : List ℕ × List ℕ) (more : List (List ℕ × List ℕ)) (text : List ℕ) → length source.1 ≤ limit_in left →
-      SourceRefused lattices number source.0 source.1 text → SourcesFail lattices number left (source ∷ more) text
+      SourceRefused wide lattices number source.0 source.1 text → SourcesFail wide lattices number left (source ∷ more) text
   Later : (number left : ℕ) (source : List ℕ × List ℕ) (more : List (List ℕ × List ℕ)) (unit : UnitRead) (text : List ℕ) →
-      length source.1 ≤ limit_in left → SourceParses lattices number source.1 unit →
-      SourcesFail lattices (number + 1) (left - length source.1) more text → SourcesFail lattices number left (source ∷ more) text
+      length source.1 ≤ limit_in left → SourceParses wide lattices number source.1 unit →
+      SourcesFail wide lattices (number + 1) (left - length source.1) more text → SourcesFail wide lattices number left (source ∷ more) text
 
 -- The whole line for well-formed units, the prelude's too, whose names and types have a fault, or whose variables, counted first, or
 -- constraints are too many.
@@ -262,11 +263,11 @@ pub data IsEnd (named : FileNames) (saved : List ℕ) (it : Judging) : Status �
 -- number, and so many bytes are left for all of them. `Ends` is what comes of their program.
 pub data OfSources (named : FileNames) (lattices : List LatticeView) (before : List UnitRead) (marks : List IndexMark)
     (Ends : Judging → Status → List ℕ → Type 0) (number left : ℕ) (sources : List (List ℕ × List ℕ)) : Status → List ℕ → Type 0 where
-  NotParsed : (text : List ℕ) → SourcesFail lattices number left sources text →
+  NotParsed : (text : List ℕ) → SourcesFail named.wide lattices number left sources text →
       OfSources named lattices before marks Ends number left sources Malformed text
-  NotCounted : (units : List UnitRead) (text : List ℕ) → SourcesParse lattices number left sources units →
+  NotCounted : (units : List UnitRead) (text : List ℕ) → SourcesParse named.wide lattices number left sources units →
       UnitsRefused named lattices marks (before ++ units) text → OfSources named lattices before marks Ends number left sources Malformed text
-  SourcesRead : (units : List UnitRead) (status : Status) (text : List ℕ) → SourcesParse lattices number left sources units →
+  SourcesRead : (units : List UnitRead) (status : Status) (text : List ℕ) → SourcesParse named.wide lattices number left sources units →
       AreCounted named lattices marks (before ++ units) → Ends (judging_of named lattices marks (before ++ units)) status text →
       OfSources named lattices before marks Ends number left sources status text
 
@@ -278,7 +279,7 @@ sources_of named inputs = files_with named.sources inputs.sources
 pub data OfUnits (named : FileNames) (inputs : Inputs) (lattices : List LatticeView) : Status → List ℕ → Type 0 where
   PreludeTooLarge : (file : List ℕ) → named.prelude ≡ Some file → source_limit < length inputs.prelude →
       OfUnits named inputs lattices Malformed (malformed_line file (codes "F2"))
-  PreludeRefused : (file : List ℕ) (fault : PreludeFault) → named.prelude ≡ Some file → PreludeFails lattices inputs.prelude fault →
+  PreludeRefused : (file : List ℕ) (fault : PreludeFault) → named.prelude ≡ Some file → PreludeFails named.wide lattices inputs.prelude fault →
       OfUnits named inputs lattices Malformed (prelude_line file inputs.prelude fault)
   PreludeRead : (before : List UnitRead) (marks : List IndexMark) (status : Status) (text : List ℕ) → AreBefore named inputs lattices before marks →
       OfSources named lattices before marks (IsEnd named inputs.saved) 1 total_limit (sources_of named inputs) status text →
@@ -287,13 +288,13 @@ pub data OfUnits (named : FileNames) (inputs : Inputs) (lattices : List LatticeV
 -- The status and the whole text for files that are named, by the bytes of each.
 pub data OfFiles (named : FileNames) (inputs : Inputs) : Status → List ℕ → Type 0 where
   LatticeTooLarge : lattice_limit < length inputs.lattice → OfFiles named inputs Malformed (malformed_line named.lattice (codes "F2"))
-  LatticeRefused : (fault : LatticeFileFault) → LatticesFail inputs.lattice fault → OfFiles named inputs Malformed (lattice_line named.lattice fault)
-  LatticeRead : (lattices : List LatticeView) (status : Status) (text : List ℕ) → LatticesRead inputs.lattice lattices →
+  LatticeRefused : (fault : LatticeFileFault) → LatticesFail named.wide inputs.lattice fault → OfFiles named inputs Malformed (lattice_line named.lattice fault)
+  LatticeRead : (lattices : List LatticeView) (status : Status) (text : List ℕ) → LatticesRead named.wide inputs.lattice lattices →
       OfUnits named inputs lattices status text → OfFiles named inputs status text
 
 -- the names of the files that the tool makes itself
 abbrev pub made_names : FileNames
-made_names = record { lattice = codes "generated.q"; prelude = None; asked = Infer; sources = codes "generated.c" ∷ [] }
+made_names = record { lattice = codes "generated.q"; prelude = None; asked = Infer; sources = codes "generated.c" ∷ []; wide = false }
 
 abbrev pub sum_status : ℕ → Status
 sum_status zero = Accepted
@@ -314,9 +315,9 @@ pub data IsSummed (number : ℕ) (it : Judging) : Status → List ℕ → Type 0
 
 -- The status and the whole text for the source of a number that the tool makes itself, over a lattice file of its own.
 pub data OfMade (number : ℕ) : Status → List ℕ → Type 0 where
-  MadeLatticesRefused : (fault : LatticeFileFault) → LatticesFail lattice_text fault →
+  MadeLatticesRefused : (fault : LatticeFileFault) → LatticesFail false lattice_text fault →
       OfMade number Malformed (lattice_line made_names.lattice fault)
-  MadeRead : (lattices : List LatticeView) (status : Status) (text : List ℕ) → LatticesRead lattice_text lattices →
+  MadeRead : (lattices : List LatticeView) (status : Status) (text : List ℕ) → LatticesRead false lattice_text lattices →
       OfSources made_names lattices [] [] (IsSummed number) 1 total_limit (files_with made_names.sources (generated_text number ∷ [])) status text →
       OfMade number status text
 
@@ -379,25 +380,25 @@ named_one (Some name) = name ∷ []
 
 pub record LatticesAreRead (named : FileNames) (inputs : Inputs) : Type 0 where
   pub lattices : List LatticeView
-  pub read : LatticesRead inputs.lattice lattices
+  pub read : LatticesRead named.wide inputs.lattice lattices
 
 pub record SourcesAreRead (named : FileNames) (inputs : Inputs) (count : ℕ) : Type 0 where
   pub lattices : List LatticeView
-  pub read : LatticesRead inputs.lattice lattices
+  pub read : LatticesRead named.wide inputs.lattice lattices
   pub before : List UnitRead
   pub marks : List IndexMark
   pub are : AreBefore named inputs lattices before marks
   pub units : List UnitRead
-  pub parse : SourcesParse lattices 1 total_limit (take count (sources_of named inputs)) units
+  pub parse : SourcesParse named.wide lattices 1 total_limit (take count (sources_of named inputs)) units
 
 pub record ProgramIsRead (named : FileNames) (inputs : Inputs) : Type 0 where
   pub lattices : List LatticeView
-  pub read : LatticesRead inputs.lattice lattices
+  pub read : LatticesRead named.wide inputs.lattice lattices
   pub before : List UnitRead
   pub marks : List IndexMark
   pub are : AreBefore named inputs lattices before marks
   pub units : List UnitRead
-  pub parse : SourcesParse lattices 1 total_limit (sources_of named inputs) units
+  pub parse : SourcesParse named.wide lattices 1 total_limit (sources_of named inputs) units
   pub counted : AreCounted named lattices marks (before ++ units)
 
 -- The files that are started, in order, by their names: the lattice file, the prelude, the sources and the saved file, each only where

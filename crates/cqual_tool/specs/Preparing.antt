@@ -1,5 +1,5 @@
 -- What is made of sources: a line that refuses them, or a program with its constraints.
-use Rattle.std.specs.Prelude.{◌≡◌, ◌<◌, ◌≤◌, ◌+◌, ℕ, suc, false, All, List, [], ◌∷◌, ◌++◌, length, take, Some}
+use Rattle.std.specs.Prelude.{◌≡◌, ◌<◌, ◌≤◌, ◌+◌, ℕ, suc, false, All, List, [], ◌∷◌, ◌++◌, length, take, Some, Bool}
 use Rattle.lattice_core.specs.View.{LatticeView, orders_of}
 use Rattle.c_lexer.specs.Tokens.{Lexed}
 use Rattle.unit_types.specs.declared.program.UnitTape.{UnitTape}
@@ -30,7 +30,7 @@ use Rattle.cqual_tool.specs.Outcome.{AreBefore, AreCounted, SourceParses, Source
 
 -- its items are well formed of its own tokens
 abbrev pub IsFormed : UnitRead → Type 0
-IsFormed it = IsWellFormed (lexemes_of it.lexed) it.items
+IsFormed it = IsWellFormed it.lexed.wide (lexemes_of it.lexed) it.items
 
 -- units that may stand before a source of this number: each is well formed, no two have one number, and each has a lower one
 pub record AreEarlier (number : ℕ) (units : List UnitRead) : Type 0 where
@@ -50,11 +50,11 @@ pub record AreJoined (units : List UnitRead) (tokens : List Lexed) (tapes : List
   pub differ : UnitsDiffer (sources_in units)
 
 -- what is made of the bytes of a source of this number behind other units: a line that refuses it, or these units with it behind them
-abbrev pub IsOneMore : List LatticeView → ℕ → List ℕ → List ℕ → List UnitRead → List IndexMark → Joined → Type 0
-IsOneMore lattices number file bytes before marks (joined.Refused answer) =
-    (answer.status ≡ Malformed) × SourceRefused lattices number file bytes answer.text.items
-IsOneMore lattices number file bytes before marks (joined.Units it) =
-    (unit : UnitRead) × SourceParses lattices number bytes unit × IsEarlier (number + 1) (before ++ unit ∷ []) it × (it.prelude ≡ marks)
+abbrev pub IsOneMore : Bool → List LatticeView → ℕ → List ℕ → List ℕ → List UnitRead → List IndexMark → Joined → Type 0
+IsOneMore wide lattices number file bytes before marks (joined.Refused answer) =
+    (answer.status ≡ Malformed) × SourceRefused wide lattices number file bytes answer.text.items
+IsOneMore wide lattices number file bytes before marks (joined.Units it) =
+    (unit : UnitRead) × SourceParses wide lattices number bytes unit × IsEarlier (number + 1) (before ++ unit ∷ []) it × (it.prelude ≡ marks)
 
 -- A program of units, within the limits, with its constraints and its external functions: no flow leaves a function but by a call, and
 -- each constant and bound names a lattice and an element of it.
@@ -81,19 +81,19 @@ pub data EndStarts (named : FileNames) : List (List ℕ) → Type 0 where
   OneSaved : (file : List ℕ) → saved_in named ≡ Some file → EndStarts named (file ∷ [])
 
 -- what was read of some sources, and of all of them and of the units before them
-abbrev pub AreParsed : List LatticeView → ℕ → ℕ → List (List ℕ × List ℕ) → Type 0
-AreParsed lattices number left sources = (units : List UnitRead) × SourcesParse lattices number left sources units
+abbrev pub AreParsed : Bool → List LatticeView → ℕ → ℕ → List (List ℕ × List ℕ) → Type 0
+AreParsed wide lattices number left sources = (units : List UnitRead) × SourcesParse wide lattices number left sources units
 
 abbrev pub AreRead : FileNames → List LatticeView → List UnitRead → List IndexMark → ℕ → ℕ → List (List ℕ × List ℕ) → Type 0
 AreRead named lattices before marks number left sources =
-    (units : List UnitRead) × SourcesParse lattices number left sources units × AreCounted named lattices marks (before ++ units)
+    (units : List UnitRead) × SourcesParse named.wide lattices number left sources units × AreCounted named lattices marks (before ++ units)
 
 -- From some sources on, the first of which has this number: the files that are started, by their names.
 pub data SourcesStart (named : FileNames) (lattices : List LatticeView) (before : List UnitRead) (marks : List IndexMark) (number left : ℕ)
     (names : List (List ℕ)) (Given : Inputs → Type 0) : List (List ℕ) → Type 0 where
   NoneLeft : names ≡ [] → SourcesStart named lattices before marks number left names Given []
   SomeStart : (count : ℕ) → count < length names →
-      ((inputs : Inputs) → Given inputs → AreParsed lattices number left (take count (files_with names inputs.sources))) →
+      ((inputs : Inputs) → Given inputs → AreParsed named.wide lattices number left (take count (files_with names inputs.sources))) →
       SourcesStart named lattices before marks number left names Given (take (suc count) names)
   SavedBehind : (file : List ℕ) → saved_in named ≡ Some file →
       ((inputs : Inputs) → Given inputs → AreRead named lattices before marks number left (files_with names inputs.sources)) →
@@ -104,7 +104,7 @@ pub record FirstAreRead (named : FileNames) (lattices : List LatticeView) (input
   pub before : List UnitRead
   pub marks : List IndexMark
   pub are : AreBefore named inputs lattices before marks
-  pub parsed : AreParsed lattices 1 total_limit (take count (sources_of named inputs))
+  pub parsed : AreParsed named.wide lattices 1 total_limit (take count (sources_of named inputs))
 
 pub record AllAreRead (named : FileNames) (lattices : List LatticeView) (inputs : Inputs) : Type 0 where
   pub before : List UnitRead

@@ -2,7 +2,7 @@
 use Rattle.std.specs.Prelude.{ℕ, List, [], Option, None, Some, codes}
 use Rattle.annotate.specs.Texts.{UnitText, unit_in}
 use Rattle.unit_types.specs.declared.fault.ShapeFault.{ShapeFault}
-use Rattle.unit_types.specs.declared.fault.ShapeFault.TheVariants.{Undeclared, NotPointer, NotFunction, NoMember, ArgCount, NotPlace, DefinedTwice, TypeTooLarge, NoMemory}
+use Rattle.unit_types.specs.declared.fault.ShapeFault.TheVariants.{Undeclared, NotPointer, NotFunction, NoMember, ArgCount, NotPlace, DefinedTwice, TypeTooLarge, NoType, NoMemory}
 use Rattle.cqual_tool.specs.Syntax.{token_line}
 use Rattle.cqual_tool.specs.Texts.{malformed_line}
 
@@ -16,6 +16,7 @@ shape_code (ArgCount unit token) = codes "H5"
 shape_code (NotPlace unit token) = codes "H6"
 shape_code (DefinedTwice unit token) = codes "H7"
 shape_code (TypeTooLarge unit token) = codes "H8"
+shape_code (NoType unit token) = codes "H9"
 shape_code NoMemory = []
 
 -- a fault at a token of a unit, or of the whole source where there is no such unit
@@ -36,4 +37,5 @@ shape_line file units (ArgCount unit token) = unit_line file units unit token (c
 shape_line file units (NotPlace unit token) = unit_line file units unit token (codes "H6")
 shape_line file units (DefinedTwice unit token) = unit_line file units unit token (codes "H7")
 shape_line file units (TypeTooLarge unit token) = unit_line file units unit token (codes "H8")
+shape_line file units (NoType unit token) = unit_line file units unit token (codes "H9")
 shape_line file units NoMemory = []

@@ -1,17 +1,18 @@
 -- The files that a task names, and what is to be written of their program.
-use Rattle.std.specs.Prelude.{ℕ, List, map, Option, Some, None}
+use Rattle.std.specs.Prelude.{ℕ, Bool, List, map, Option, Some, None}
 use Rattle.std.specs.Option.{option_map}
 use Rattle.cqual_words.specs.Words as words
 use Rattle.cqual_words.specs.Words.{Question}
 use Rattle.cqual_words.specs.Asked.{question_in}
 use Rattle.cqual_tool.specs.declared.words.Named.{Named}
 
--- The files that are named, the sources in their order, and what is asked of their program.
+-- The files that are named, the sources in their order, what is asked of their program, and whether they are read as wider C.
 pub record FileNames : Type 0 where
   pub lattice : List ℕ
   pub prelude : Option (List ℕ)
   pub asked : Question
   pub sources : List (List ℕ)
+  pub wide : Bool
 
 -- the file of a report or a certificate that is to be checked
 abbrev pub saved_of : Question → Option (List ℕ)
@@ -33,6 +34,7 @@ names_in named = record {
   prelude = option_map (λ name. name.now) named.prelude;
   asked = question_in named.asked;
   sources = map (λ name. name.now) named.sources.now;
+  wide = named.wide;
 }
 
 abbrev pub of_files : words.FileNames → Question → FileNames
@@ -41,6 +43,7 @@ of_files files asked = record {
   prelude = files.prelude;
   asked = asked;
   sources = files.sources;
+  wide = files.wide;
 }
 
 -- the files of a task; none where the tool makes the source itself

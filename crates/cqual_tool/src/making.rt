@@ -1,6 +1,6 @@
 //! The source that the tool makes itself, and the sum of what is found in it.
 
-ghost use Rattle.std.specs.Prelude.{◌≡◌, ◌≤◌, ℕ, [], ◌∷◌, List, IfOk, length};
+ghost use Rattle.std.specs.Prelude.{false, ◌≡◌, ◌≤◌, ℕ, [], ◌∷◌, List, IfOk, length};
 ghost use Rattle.c_types.specs.Sources.{UnitRead};
 ghost use Rattle.flow_graph.specs.System.{IsWellOwned};
 ghost use Rattle.annotate.specs.Scenes.{Shows};
@@ -48,6 +48,7 @@ fn made_names() -> Named<'static>
         prelude: None,
         asked: Question::Infer,
         sources: SOURCES,
+        wide: false,
     }
 }
 
@@ -125,7 +126,7 @@ fn of_units(
     requires before { (count : ℕ) × (units : List UnitRead) × IsEarlier count units earlier }
     ensures outcome { (count : ℕ) (unit : UnitRead) → IsEarlier count (unit ∷ []) earlier.entry →
         earlier.entry.prelude ≡ [] → (bytes : List ℕ) → length bytes ≤ limit_in total_limit →
-        SourceParses lattices.now 1 bytes unit → IfOk result
+        SourceParses false lattices.now 1 bytes unit → IfOk result
         (λ answer. OfSources rules.made_names lattices.now [] [] (IsSummed number) 1 total_limit
         (files_with rules.made_names.sources (bytes ∷ [])) answer.status answer.text.items) }
     ensures decided { IfOk result (λ answer. IsDecided answer.status) }
@@ -144,7 +145,7 @@ fn of_source(
     bytes: &[u8],
 ) -> Result<Answer, NoMemory>
     requires { bytes.now ≡ generated_text number }
-    ensures outcome { LatticesRead lattice_text lattices.now → IfOk result
+    ensures outcome { LatticesRead false lattice_text lattices.now → IfOk result
         (λ answer. OfMade number answer.status answer.text.items) }
     ensures decided { IfOk result (λ answer. IsDecided answer.status) }
 {
@@ -153,7 +154,15 @@ fn of_source(
     }
     let words = lattices.words(alloc)?;
     let unit = UnitNo::new(1);
-    match read_source(alloc, SOURCE, &words, unit, nothing_before(alloc), bytes)? {
+    match read_source(
+        alloc,
+        SOURCE,
+        false,
+        &words,
+        unit,
+        nothing_before(alloc),
+        bytes,
+    )? {
         Joined::Refused(answer) => Ok(answer),
         Joined::Units(earlier) => of_units(alloc, number, lattices, earlier),
     }
@@ -166,7 +175,7 @@ pub fn made_answer(alloc: Global, number: u32) -> Result<Answer, NoMemory>
     ensures decided { IfOk result (λ answer. IsDecided answer.status) }
 {
     let source = generated_source(alloc, number)?;
-    match read_lattices(alloc, lattice_bytes()) {
+    match read_lattices(alloc, false, lattice_bytes()) {
         Ok(lattices) => of_source(alloc, number, &lattices, &source),
         Err(fault) => lattice_refused(alloc, LATTICE, &fault),
     }

@@ -1,6 +1,6 @@
 //! From the bytes of sources to a program with its constraints.
 
-ghost use Rattle.std.specs.Prelude.{◌≡◌, ◌≢◌, ◌≤◌, [], ℕ, List, IfOk, length};
+ghost use Rattle.std.specs.Prelude.{◌≡◌, ◌≢◌, ◌≤◌, [], ℕ, Bool, List, IfOk, length};
 ghost use Rattle.lattice_core.specs.View.{LatticeView};
 ghost use Rattle.qual_base.specs.Words.{MeansTheSame};
 ghost use Rattle.lattice_core.specs.Names.{words_of};
@@ -215,11 +215,11 @@ fn added<'a>(
     tokens: Tokens<'a>,
     ops: Vec<Op>,
 ) -> Result<Joined<'a>, NoMemory>
-    ensures { (lattices : List LatticeView) (number : ℕ) (file bytes : List ℕ)
+    ensures { (wide : Bool) (lattices : List LatticeView) (number : ℕ) (file bytes : List ℕ)
         (before : List UnitRead) (unit : UnitRead) →
         IsEarlier number before earlier.entry → IsTaped unit tokens.entry ops.items →
-        SourceParses lattices number bytes unit → IfOk result
-        (IsOneMore lattices number file bytes before earlier.entry.prelude) }
+        SourceParses wide lattices number bytes unit → IfOk result
+        (IsOneMore wide lattices number file bytes before earlier.entry.prelude) }
 {
     let Earlier { mut units, prelude } = earlier;
     units.push(alloc, tokens, ops)?;
@@ -233,10 +233,10 @@ fn parsed<'a>(
     earlier: Earlier<'a>,
     tokens: Tokens<'a>,
 ) -> Result<Joined<'a>, NoMemory>
-    ensures { (lattices : List LatticeView) (number : ℕ) (bytes : List ℕ)
+    ensures { (wide : Bool) (lattices : List LatticeView) (number : ℕ) (bytes : List ℕ)
         (before : List UnitRead) → IsEarlier number before earlier.entry →
-        SourceLexes lattices number bytes tokens.entry → IfOk result
-        (IsOneMore lattices number file.now bytes before earlier.entry.prelude) }
+        SourceLexes wide lattices number bytes tokens.entry → IfOk result
+        (IsOneMore wide lattices number file.now bytes before earlier.entry.prelude) }
 {
     match parse_tape(alloc, &tokens) {
         Ok(ops) => added(alloc, earlier, tokens, ops),
@@ -249,6 +249,7 @@ fn parsed<'a>(
 pub fn read_source<'a>(
     alloc: Global,
     file: &str,
+    wide: bool,
     words: &QualWords,
     unit: UnitNo,
     earlier: Earlier<'a>,
@@ -258,9 +259,9 @@ pub fn read_source<'a>(
     ensures { (lattices : List LatticeView) (before : List UnitRead) →
         MeansTheSame words.now (words_of lattices) → IsEarlier unit before earlier.entry →
         IfOk result
-        (IsOneMore lattices unit file.now bytes.now before earlier.entry.prelude) }
+        (IsOneMore wide lattices unit file.now bytes.now before earlier.entry.prelude) }
 {
-    match lex(alloc, unit, bytes, words) {
+    match lex(alloc, unit, wide, bytes, words) {
         Ok(tokens) => parsed(alloc, file, earlier, tokens),
         Err(fault) => Ok(Joined::Refused(source_refused(alloc, file, bytes, &fault)?)),
     }

@@ -89,7 +89,7 @@ fn take_sources<F: Files>(
         Some(file) => match taken(alloc, files, file, left.min(SOURCE_LIMIT))? {
             Some(bytes) => {
                 let unit = UnitNo::new(index + 1);
-                match read_source(alloc, file, words, unit, earlier, &bytes)? {
+                match read_source(alloc, file, named.wide, words, unit, earlier, &bytes)? {
                     Joined::Refused(answer) => Ok(answer),
                     Joined::Units(earlier) => take_sources(
                         alloc,
@@ -128,7 +128,7 @@ fn take_prelude<F: Files>(
     ensures decided { IfOk result (λ answer. IsDecided answer.status) }
 {
     match taken(alloc, files, file, SOURCE_LIMIT)? {
-        Some(bytes) => match read_prelude(alloc, &bytes, words) {
+        Some(bytes) => match read_prelude(alloc, named.wide, &bytes, words) {
             Ok(read) => {
                 let earlier = prelude_before(alloc, read)?;
                 take_sources(
@@ -190,7 +190,7 @@ pub fn answer<F: Files>(alloc: Global, named: &Named<'_>, files: &mut F) -> Resu
     ensures decided { IfOk result (λ answer. IsDecided answer.status) }
 {
     match taken(alloc, files, named.lattice, LATTICE_LIMIT)? {
-        Some(bytes) => match read_lattices(alloc, &bytes) {
+        Some(bytes) => match read_lattices(alloc, named.wide, &bytes) {
             Ok(lattices) => take_units(alloc, named, &lattices, files),
             Err(fault) => Ok(lattice_refused(alloc, named.lattice, &fault)?),
         },

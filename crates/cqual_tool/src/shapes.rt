@@ -27,6 +27,7 @@ pub fn code_of(fault: &ShapeFault) -> &'static [u8]
         ShapeFault::NotPlace(_, _) => b"H6",
         ShapeFault::DefinedTwice(_, _) => b"H7",
         ShapeFault::TypeTooLarge(_, _) => b"H8",
+        ShapeFault::NoType(_, _) => b"H9",
         ShapeFault::NoMemory => b"",
     }
 }
@@ -69,6 +70,7 @@ pub fn names_refused(
         ShapeFault::NotPlace(unit, token) => at_fault(alloc, file, units, unit, token, b"H6"),
         ShapeFault::DefinedTwice(unit, token) => at_fault(alloc, file, units, unit, token, b"H7"),
         ShapeFault::TypeTooLarge(unit, token) => at_fault(alloc, file, units, unit, token, b"H8"),
+        ShapeFault::NoType(unit, token) => at_fault(alloc, file, units, unit, token, b"H9"),
         ShapeFault::NoMemory => Err(NoMemory),
     }
 }

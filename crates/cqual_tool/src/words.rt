@@ -16,6 +16,8 @@ pub struct Named<'a> {
     pub asked: Question<'a>,
     /// In their order.
     pub sources: &'a [&'a str],
+    /// Whether they are read as wider C.
+    pub wide: bool,
 }
 
 impl<'a> Named<'a> {
@@ -52,5 +54,6 @@ pub fn of_files<'a>(files: &'a FileWords<'a>, asked: Question<'a>) -> Named<'a>
         prelude: files.prelude,
         asked,
         sources: files.sources.as_slice(),
+        wide: files.wide,
     }
 }

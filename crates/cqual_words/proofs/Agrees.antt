@@ -11,7 +11,7 @@ use Rattle.clap.specs.declared.error.Error.{Error}
 use Rattle.clap.specs.declared.error.kind.ErrorKind.TheVariants as kind
 use Rattle.clap.specs.declared.parser.matches.Found.{Found}
 use Rattle.clap.proofs.WalkLemmas.{first_value-rows, one_text-rows, raw_values-rows}
-use Rattle.cqual_words.specs.Words.{Flag, Text, flag_name, meaning_of}
+use Rattle.cqual_words.specs.Words.{Flag, Text, asked_behind, flag_name}
 use Rattle.cqual_words.specs.Tool.{HasFlags, asked_by, raw_of, tool}
 use Rattle.cqual_words.proofs.Rules.{shape}
 use Rattle.cqual_words.proofs.States.{Free}
@@ -28,19 +28,19 @@ no_entered_fault None = refl
 no_entered_fault (Some p) = refl
 
 -- with no fault the matches ask what the words mean, and with a fault they mean nothing
-pub agrees : (words : List Text) → Judged (fault_of tool words) (matches_of tool words) (meaning_of words)
+pub agrees : (words : List Text) → Judged (fault_of tool words) (matches_of tool words) (asked_behind words)
 agrees words =
     let stop = (Rattle.clap.specs.Walk.walk shape.rules [] nothing_held words).stopped in
     let same : fault_of tool words ≡ level_fault shape [] nothing_held words false [] =
     ap₂ (λ b ks. level_fault shape [] nothing_held words b ks) (no_entered stop) (no_entered_fault stop) in
-    subst (λ ks. Judged ks (matches_of tool words) (meaning_of words)) (sym same) (walks words [] Free (λ a other. refl))
+    subst (λ ks. Judged ks (matches_of tool words) (asked_behind words)) (sym same) (walks words [] Free (λ a other. refl))
 
 pub matches_right : (words : List Text) (f : Found) → fault_of tool words ≡ [] → rows_of f ≡ matches_of tool words
     → (stands : Flag → Bool) × HasFlags f stands
-    × (asked_by stands (λ id. first_value f id) (raw_of f (codes "source")) ≡ meaning_of words)
+    × (asked_by stands (λ id. first_value f id) (raw_of f (codes "source")) ≡ asked_behind words)
 matches_right words f fine rows =
-    let judged : Judged [] (rows_of f) (meaning_of words) =
-    subst (λ rs. Judged [] rs (meaning_of words)) (sym rows) (subst (λ ks. Judged ks (matches_of tool words) (meaning_of words)) fine
+    let judged : Judged [] (rows_of f) (asked_behind words) =
+    subst (λ rs. Judged [] rs (asked_behind words)) (sym rows) (subst (λ ks. Judged ks (matches_of tool words) (asked_behind words)) fine
     (agrees words)) in (
       judged.0,
       (λ flag. one_text-rows f (flag_name flag) ∙ judged.1 flag),
@@ -49,10 +49,10 @@ matches_right words f fine rows =
     )
 
 pub refusal_right : (words : List Text) (e : Error) → HasKind (fault_of tool words) e → kind_of e ≢ kind.OutOfMemory
-    → None ≡ meaning_of words
+    → None ≡ asked_behind words
 refusal_right words e has other = go (fault_of tool words) (agrees words) has
   where
-    go : (ks : Kinds) → Judged ks (matches_of tool words) (meaning_of words) → HasKind ks e → None ≡ meaning_of words
+    go : (ks : Kinds) → Judged ks (matches_of tool words) (asked_behind words) → HasKind ks e → None ≡ asked_behind words
     go [] judged (inl out) = absurd (other out)
     go [] judged (inr among) = absurd among
     go (k ∷ ks) judged has_ = sym judged

@@ -1,5 +1,5 @@
 -- What some lists of words mean, worked out by hand from the rules.
-use Rattle.std.proofs.Common.{refl, ◌≡◌, ℕ, zero, suc, List, [], ◌∷◌, Some, None}
+use Rattle.std.proofs.Common.{refl, ◌≡◌, ℕ, zero, suc, List, [], ◌∷◌, Some, None, true}
 use Rattle.std.specs.Prelude.{codes}
 use Rattle.cqual_words.specs.Words.{Text, Annotate, Ask, Certify, Check, Generate, Infer, Sign, Verify, Who, files_of, meaning_of}
 use Rattle.cqual_words.specs.Words.{pieces_from}
@@ -239,3 +239,29 @@ certify_value = refl
 certify_again : meaning_of (codes "--lattice=l.q" ∷ codes "--certify" ∷ codes "s.c" ∷ codes "--certify" ∷ []) ≡ None
 unfolding pieces_from
 certify_again = refl
+
+-- wider C: the first word says so, once, and no other word does
+first_wide : meaning_of (codes "--wide" ∷ codes "--lattice=l.q" ∷ codes "s.c" ∷ [])
+    ≡ Some (Ask Infer (record (files_of (codes "l.q") None (codes "s.c" ∷ [])) { wide = true }))
+unfolding pieces_from
+first_wide = refl
+
+wide_again : meaning_of (codes "--wide" ∷ codes "--wide" ∷ codes "--lattice=l.q" ∷ codes "s.c" ∷ []) ≡ None
+unfolding pieces_from
+wide_again = refl
+
+wide_behind : meaning_of (codes "--lattice=l.q" ∷ codes "--wide" ∷ codes "s.c" ∷ []) ≡ None
+unfolding pieces_from
+wide_behind = refl
+
+wide_as_a_value : meaning_of (codes "--lattice" ∷ codes "--wide" ∷ codes "s.c" ∷ []) ≡ None
+unfolding pieces_from
+wide_as_a_value = refl
+
+wide_with_a_value : meaning_of (codes "--wide=1" ∷ codes "--lattice=l.q" ∷ codes "s.c" ∷ []) ≡ None
+unfolding pieces_from
+wide_with_a_value = refl
+
+wide_and_made : meaning_of (codes "--wide" ∷ codes "--generate=7" ∷ []) ≡ Some (Generate 7)
+unfolding pieces_from
+wide_and_made = refl

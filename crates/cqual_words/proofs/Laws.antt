@@ -3,8 +3,8 @@ use Rattle.std.proofs.Common.{refl, subst, ◌≡◌, ℕ, Bool, true, false, co
 use Rattle.std.specs.Prelude.{⊤, ◌&&◌}
 use Rattle.std.specs.List.{list_all}
 use Rattle.cqual_words.specs.Words.{FileNames, Piece, Question, Task, Text, Ask, Generate, Infer, Annotate, Check, Certify, Verify, Who, Sign}
-use Rattle.cqual_words.specs.Words.{Lattice, Number, Prelude, Source, are_fit, asked_of, files_of, fits, goes_with, made_of, meaning_of, number_of}
-use Rattle.cqual_words.specs.Words.{parts, pieces_of, stands_among, task_of_parts, task_with, texts_of, value_among}
+use Rattle.cqual_words.specs.Words.{Lattice, Number, Prelude, Source, are_fit, asked_behind, asked_of, behind_wide, files_of, fits, goes_with, made_of, meaning_of, number_of}
+use Rattle.cqual_words.specs.Words.{parts, pieces_of, stands_among, task_of_parts, task_with, texts_of, value_among, widened}
 
 -- a task's question has as many sources as it may have
 abbrev HasFit : Task → Type 0
@@ -46,8 +46,8 @@ task_has (Some l) p (Some n) question sources = tt
 task_has None p (Some n) question sources = made_has n p question sources
 task_has None p None question sources = tt
 
-words_have : (words : List Text) → AllFit (meaning_of words)
-words_have words = go (list_all (λ part. are_fit part (texts_of part pieces)) parts)
+behind_has : (words : List Text) → AllFit (asked_behind words)
+behind_has words = go (list_all (λ part. are_fit part (texts_of part pieces)) parts)
   where
     pieces : List Piece
     pieces = pieces_of words
@@ -55,6 +55,14 @@ words_have words = go (list_all (λ part. are_fit part (texts_of part pieces)) p
     go : (b : Bool) → AllFit (cond b (task_of_parts (value_among pieces) (stands_among pieces) (texts_of Source pieces)) None)
     go true = task_has (value_among pieces Lattice) (value_among pieces Prelude) (value_among pieces Number) _ (texts_of Source pieces)
     go false = tt
+
+widened_has : (wide : Bool) (task : Option Task) → AllFit task → AllFit (option_map (widened wide) task)
+widened_has wide None fit = tt
+widened_has wide (Some (Ask question files)) fit = fit
+widened_has wide (Some (Generate number)) fit = tt
+
+words_have : (words : List Text) → AllFit (meaning_of words)
+words_have words = widened_has (behind_wide words).0 (asked_behind (behind_wide words).1) (behind_has (behind_wide words).1)
 
 -- a question that words ask has as many sources as it may have
 pub asked_fits : (words : List Text) (question : Question) (files : FileNames) → meaning_of words ≡ Some (Ask question files)

@@ -14,6 +14,7 @@ names_in files = record {
   lattice = files.lattice.now;
   prelude = option_map (λ name. name.now) files.prelude;
   sources = map (λ name. name.now) files.sources.items;
+  wide = files.wide;
 }
 
 -- what is asked of a program

@@ -9,11 +9,12 @@ use Rattle.std.specs.Str.Parse.{digits_value}
 abbrev pub Text : Type 0
 Text = List ℕ
 
--- the files that are named: 1 to 256 sources, in their order
+-- the files that are named: 1 to 256 sources, in their order, and whether they are read as wider C
 pub record FileNames : Type 0 where
   pub lattice : Text
   pub prelude : Option Text
   pub sources : List Text
+  pub wide : Bool
 
 -- What is asked of a program: its report, its report with the annotated source behind it, what the report of a file comes to, its
 -- certificate, what the certificate of a file comes to, what reaches the declared names of one spelling and what they reach, or its
@@ -210,7 +211,7 @@ abbrev pub IsMade : ℕ → Type 0
 IsMade number = (1 ≤ number) × (number ≤ 1000)
 
 abbrev pub files_of : Text → Option Text → List Text → FileNames
-files_of lattice prelude sources = record { lattice = lattice; prelude = prelude; sources = sources }
+files_of lattice prelude sources = record { lattice = lattice; prelude = prelude; sources = sources; wide = false }
 
 -- as many sources as words may name
 abbrev pub IsSourceCount : ℕ → Type 0
@@ -284,6 +285,24 @@ abbrev pub task_in : List Piece → Option Task
 task_in pieces = if list_all (λ part. are_fit part (texts_of part pieces)) parts
     then task_of_parts (value_among pieces) (stands_among pieces) (texts_of Source pieces) else None
 
+-- what the words behind `--wide` ask
+abbrev pub asked_behind : List Text → Option Task
+asked_behind words = task_in (pieces_of words)
+
+-- `--wide`, which stands before all other words, once
+abbrev pub is_wide : Text → Bool
+is_wide word = bytes_eq (codes "--wide") word
+
+-- whether the first word is `--wide`, with the words behind it
+abbrev pub behind_wide : List Text → Bool × List Text
+behind_wide [] = (false, [])
+behind_wide (word ∷ words) = if is_wide word then (true, words) else (false, word ∷ words)
+
+-- what is asked, of sources that are read as wider C or not
+abbrev pub widened : Bool → Task → Task
+widened wide (Ask question files) = Ask question (record files { wide = wide })
+widened wide (Generate number) = Generate number
+
 -- what the words behind the program's name ask, or nothing where they have no meaning
 abbrev pub meaning_of : List Text → Option Task
-meaning_of words = task_in (pieces_of words)
+meaning_of words = option_map (widened (behind_wide words).0) (asked_behind (behind_wide words).1)

@@ -6,6 +6,8 @@ pub struct FileWords<'a> {
     pub lattice: &'a str,
     pub prelude: Option<&'a str>,
     pub sources: Vec<&'a str>,
+    /// Whether they are read as wider C.
+    pub wide: bool,
 }
 
 /// What is asked of a program.

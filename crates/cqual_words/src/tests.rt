@@ -7,7 +7,8 @@ use std::test::Fail;
 
 fn files_text(alloc: Global, files: &FileWords<'_>) -> Result<String, AllocError> {
     let prelude = files.prelude.unwrap_or("none");
-    let mut text = format!(in alloc; "{} {prelude}", files.lattice)?;
+    let dialect = if files.wide { "wide " } else { "" };
+    let mut text = format!(in alloc; "{dialect}{} {prelude}", files.lattice)?;
     for source in &files.sources {
         text.push_str(" ")?;
         text.push_str(*source)?;
@@ -40,7 +41,17 @@ fn asked_text(alloc: Global, asked: Option<Asked<'_>>) -> Result<String, AllocEr
 }
 
 /// Words with a bar between two, and what they ask: the question, the lattice, the prelude or none, and the sources.
-static LISTS: [(&str, &str); 101] = [
+static LISTS: [(&str, &str); 108] = [
+    ("--wide|--lattice|l.q|s.c", "infer: wide l.q none s.c"),
+    (
+        "--wide|s.c|--prelude|p.h|--certify|--lattice=l.q|t.c",
+        "certify: wide l.q p.h s.c t.c",
+    ),
+    ("--wide|--generate|1", "generate 1"),
+    ("--wide", "nothing"),
+    ("--wide|--wide|--lattice|l.q|s.c", "nothing"),
+    ("--lattice|l.q|s.c|--wide", "nothing"),
+    ("--lattice|--wide|s.c", "nothing"),
     ("--lattice|l.q|s.c", "infer: l.q none s.c"),
     ("--lattice=l.q|s.c", "infer: l.q none s.c"),
     ("s.c|--lattice|l.q", "infer: l.q none s.c"),

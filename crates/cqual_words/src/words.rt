@@ -194,6 +194,7 @@ fn of_parts<'a>(matches: &ArgMatches<'a>, sources: Vec<&'a str>) -> Option<Asked
                 lattice,
                 prelude,
                 sources,
+                wide: false,
             };
             of_files(files, question)
         }
@@ -226,7 +227,62 @@ fn matches<'a>(alloc: Global, words: &'a [String]) -> Result<ArgMatches<'a>, Err
     command.try_get_matches_from(words)
 }
 
-/// What the words behind the program's name ask, or nothing where they have no meaning. Each option stands at most once, as
+/// Whether the first word says that sources are read as wider C, and the words behind it.
+fn behind_wide(words: &[String]) -> (bool, &[String])
+    ensures wide { result.0 ≡ (rules.behind_wide (map string_bytes words.now)).0 }
+    ensures rest { map string_bytes result.1.now
+        ≡ (rules.behind_wide (map string_bytes words.now)).1 }
+{
+    match words {
+        [first, rest @ ..] if first.as_str() == "--wide" => (true, rest),
+        _ => (false, words),
+    }
+}
+
+/// What is asked, of sources that are read as wider C or not.
+fn widened(wide: bool, asked: Asked<'_>) -> Asked<'_>
+    ensures task { task_of result ≡ rules.widened wide (task_of asked.entry) }
+    ensures made { AsksMade asked.entry → AsksMade result }
+    ensures sources { NamesSources asked.entry → NamesSources result }
+{
+    match asked {
+        Asked::Ask(question, files) => {
+            let FileWords {
+                lattice,
+                prelude,
+                sources,
+                wide: _wide,
+            } = files;
+            let files = FileWords {
+                lattice,
+                prelude,
+                sources,
+                wide,
+            };
+            Asked::Ask(question, files)
+        }
+        Asked::Generate(number) => Asked::Generate(number),
+    }
+}
+
+/// What the words behind `--wide` ask.
+fn meaning_behind<'a>(alloc: Global, words: &'a [String]) -> Result<Option<Asked<'a>>, AllocError>
+    ensures meaning { IfOk result (λ found. option_map task_of found
+        ≡ rules.asked_behind (map string_bytes words.entry.now)) }
+    ensures made { IfOk result (λ found. IfSome found AsksMade) }
+    ensures sources { IfOk result (λ found. IfSome found NamesSources) }
+{
+    match matches(alloc, words) {
+        Ok(matches) => of_matches(alloc, &matches),
+        Err(error) => match error.kind() {
+            ErrorKind::OutOfMemory => Err(AllocError),
+            _ => Ok(None),
+        },
+    }
+}
+
+/// What the words behind the program's name ask, or nothing where they have no meaning. `--wide` may stand before all others, once:
+/// then sources are read as wider C. Each option stands at most once, as
 /// `--name VALUE` or `--name=VALUE`, with 1 to 256 sources before, between and behind them; behind `--` there are no options.
 ///
 /// Its time is in proportion to the words and their bytes. Memory is taken for the options, for the places of the words, for the
@@ -241,11 +297,9 @@ pub fn meaning<'a>(alloc: Global, words: &'a [String]) -> Result<Option<Asked<'a
     ensures made { IfOk result (λ found. IfSome found AsksMade) }
     ensures sources { IfOk result (λ found. IfSome found NamesSources) }
 {
-    match matches(alloc, words) {
-        Ok(matches) => of_matches(alloc, &matches),
-        Err(error) => match error.kind() {
-            ErrorKind::OutOfMemory => Err(AllocError),
-            _ => Ok(None),
-        },
+    let (wide, rest) = behind_wide(words);
+    match meaning_behind(alloc, rest)? {
+        Some(asked) => Ok(Some(widened(wide, asked))),
+        None => Ok(None),
     }
 }

@@ -7,8 +7,9 @@ ghost use Rattle.decl_forms.specs.Listed.{ReadsDeclaration, ReadsListing, declrs
 ghost use Rattle.decl_forms.specs.Listed.{declaration_on, sized_item};
 ghost use Rattle.reader_base.specs.Lent.{Lends, sized_specs};
 
+use crate::autos::auto_behind;
 use crate::declarators::{init_declr, more_declrs, one_declr};
-use crate::kinds::declared_kind;
+use crate::kinds::{declared_kind, has_auto};
 use c_nodes::{SizedDeclaration, SizedInitDeclr, SizedInitDeclrs, SizedSpecs};
 use c_reading::Role;
 use qual_base::TokenId;
@@ -68,7 +69,7 @@ where
     Ok(decl_nodes::declaration(place.alloc, exts, words, declrs, semi)?)
 }
 
-/// `[InitDeclr (, Attr* InitDeclr)*] ;`, behind the words.
+/// `[InitDeclr (, Attr* InitDeclr)*] ;`, or `AutoDeclr ;`, behind the words.
 #[tactic(auto, unfolding(c_reading::specs::Stating::declaration_behind, c_reading::specs::Stating::bare_declaration, c_reading::specs::Stating::declrs_with, c_reading::specs::Reading::fits, c_reading::specs::Reading::and_then), using(crate::proofs::Pushed::items_are))]
 pub fn declaration_behind<'a, F>(
     lent: &F,
@@ -84,6 +85,9 @@ where
     ensures { ReadsDeclaration place.old place.new result
         (declaration_behind (knot depth) exts.items (sized_specs words) room) }
 {
+    if has_auto(words.words.as_slice()) {
+        return auto_behind(lent, exts, words, room, place, depth);
+    }
     if is_semicolon(kind_at(place.rest)) {
         room_above(words.height, room, place)?;
         let semi = take_one(place)?;
@@ -112,7 +116,7 @@ where
     ensures { ReadsDeclaration place.old place.new result
         (declaration_with (knot depth) exts.items room) }
 {
-    let words = specs_here(lent, room, place, depth)?;
+    let words = specs_here(lent, Role::Declaring, room, place, depth)?;
     declaration_behind(lent, exts, words, room, place, depth)
 }
 

@@ -9,11 +9,12 @@ ghost use Rattle.c_tree.specs.Unit.{spec_words_from};
 ghost use Rattle.c_tree.specs.View.{declaration_of, decl_of, block_item_of};
 ghost use Rattle.decl_nodes.specs.Made.{stmt};
 
+use crate::making;
 use c_nodes::{
     PresentDeclr, SizedBlockItem, SizedDeclaration, SizedInitDeclr, SizedInitDeclrs, SizedSomeInit,
     SizedSpecs, SizedStmt, above_both, greater, of_attrs, of_label,
 };
-use c_syntax::{AsmLabel, Assert, Attr, BlockItem, Decl, Declaration, Specs};
+use c_syntax::{AsmLabel, Assert, Attr, BlockItem, Decl, Declaration, Identifier, Specs};
 use qual_base::{NoMemory, TokenId};
 use std::alloc::Global;
 
@@ -115,5 +116,15 @@ pub fn block_stmt(s: SizedStmt) -> SizedBlockItem
     SizedBlockItem {
         item: BlockItem::Stmt(s.tree),
         height: s.height,
+    }
+}
+
+/// `LabelDecl = __label__ Name (, Name)* ;`.
+pub fn block_labels(keyword: TokenId, names: Vec<Identifier>, semi: TokenId) -> SizedBlockItem
+    ensures { block_item_of result.item ≡ trees.block_labels keyword names.items semi }
+{
+    SizedBlockItem {
+        item: making::labels(keyword, names, semi),
+        height: 1,
     }
 }

@@ -97,6 +97,39 @@ pub fn index_desig(opening: TokenId, index: SizedExpr, closing: TokenId) -> Size
     }
 }
 
+/// `Desig = [ cond ... cond ]`.
+pub fn range_desig(
+    opening: TokenId,
+    first: SizedExpr,
+    dots: TokenId,
+    last: SizedExpr,
+    closing: TokenId,
+) -> SizedDesig
+    ensures { desig_of result.desig
+        ≡ trees.range_desig opening (expr first) dots (expr last) closing }
+{
+    SizedDesig {
+        desig: Desig::Range {
+            open: opening,
+            first: first.tree,
+            dots,
+            last: last.tree,
+            close: closing,
+        },
+        height: above_both(first.height, last.height),
+    }
+}
+
+/// `OldDesig = Name :`.
+pub fn old_desig(name: Identifier, colon: TokenId) -> SizedDesig
+    ensures { desig_of result.desig ≡ trees.old_desig name colon }
+{
+    SizedDesig {
+        desig: Desig::Old { name, colon },
+        height: 1,
+    }
+}
+
 /// No initialiser.
 pub fn no_init() -> SizedSomeInit
     ensures { result.init ≡ None }

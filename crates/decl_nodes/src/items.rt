@@ -2,14 +2,14 @@
 //!
 //! Each takes constant time. No height is kept of them: nothing stands above an item but the unit.
 
-ghost use Rattle.std.specs.Prelude.{◌≡◌, ◌++◌, [], ◌∷◌, IfOk, OnOk};
+ghost use Rattle.std.specs.Prelude.{◌≡◌, ◌++◌, [], ◌∷◌, map, IfOk, OnOk};
 ghost use Rattle.c_tree.specs.Tree.{decl_declaration, decl_assert};
 ghost use Rattle.c_tree.specs.Unit as units;
 ghost use Rattle.c_tree.specs.View.{declr_of, declaration_of};
 
 use crate::declarations::boxed_decl;
 use c_nodes::{PresentDeclr, SizedBlock, SizedDeclaration, SizedSpecs};
-use c_syntax::{Assert, Attr, Block, Decl, Group, Item, Semi, Specs};
+use c_syntax::{Assert, Attr, Block, Decl, Declaration, Group, Item, Semi, Specs};
 use qual_base::{NoMemory, TokenId};
 use std::alloc::Global;
 
@@ -36,6 +36,46 @@ pub fn function_item(
             close: body.closing,
         },
     }
+}
+
+/// `Function = ext* Specs declr Attr* Declaration* Block`, behind a list of identifiers.
+pub fn old_function_item(
+    extensions: Vec<TokenId>,
+    specs: SizedSpecs,
+    declr: PresentDeclr,
+    attrs: Vec<Attr>,
+    declarations: Vec<Declaration>,
+    body: SizedBlock,
+) -> Item
+    ensures { units.item_of result ≡ units.old_function_item extensions.items
+        (units.spec_words_from specs.words.items) (declr_of declr.declr.value) attrs.items
+        (map declaration_of declarations.items)
+        body.opening (units.block_items_from body.items.items) body.closing }
+{
+    Item::OldFunction {
+        extensions,
+        specs: Specs { words: specs.words },
+        declr: declr.declr,
+        attrs,
+        declarations,
+        body: Block {
+            open: body.opening,
+            items: body.items,
+            close: body.closing,
+        },
+    }
+}
+
+/// Puts a declaration behind others.
+pub fn push_declaration(
+    declarations: &mut Vec<Declaration>,
+    next: SizedDeclaration,
+) -> Result<(), NoMemory>
+    ensures { OnOk result
+        (declarations.new.items ≡ declarations.old.items ++ next.tree.value ∷ []) }
+{
+    declarations.push(Box::into_inner(next.tree))?;
+    Ok(())
 }
 
 /// A declaration.

@@ -1,13 +1,15 @@
-//! Statements whose parts are lists or may be missing, made so that their trees are known by those
-//! of the parts.
+//! Statements, and words of specifiers, whose parts are lists or may be missing, made so that their trees are known
+//! by those of the parts.
 
 ghost use Rattle.std.specs.Prelude.{◌≡◌};
-ghost use Rattle.c_tree.specs.Lists.{some_expr_from, some_else_from};
+ghost use Rattle.c_tree.specs.Lists.{some_declr_from, some_expr_from, some_else_from};
 ghost use Rattle.c_tree.specs.Tree as trees;
-ghost use Rattle.c_tree.specs.Unit.{block_items_from};
-ghost use Rattle.c_tree.specs.View.{expr_of, stmt_of, for_start_of};
+ghost use Rattle.c_tree.specs.Unit.{block_items_from, spec_words_from};
+ghost use Rattle.c_tree.specs.View.{expr_of, spec_word_of, block_item_of, stmt_of, for_start_of};
 
-use c_syntax::{Block, Expr, ForStart, Marked, Stmt};
+use c_syntax::{
+    Block, BlockItem, Expr, ForStart, Identifier, Marked, SpecWord, Stmt, TypeName, Word,
+};
 use qual_base::TokenId;
 
 pub(crate) fn block(block: Block) -> Stmt
@@ -81,6 +83,35 @@ pub(crate) fn return_stmt(keyword: TokenId, value: Option<Box<Expr>>, semi: Toke
     Stmt::Return {
         keyword,
         value,
+        semi,
+    }
+}
+
+/// `TypeofType = typeof ( TypeName )` and `AtomicType = _Atomic ( TypeName )`.
+pub(crate) fn typeof_type(
+    keyword: Word,
+    open: TokenId,
+    type_name: TypeName,
+    close: TokenId,
+) -> SpecWord
+    ensures { spec_word_of result ≡ trees.typeof_type keyword «open»
+        (spec_words_from type_name.specs.words.items) (some_declr_from type_name.declr) close }
+{
+    SpecWord::TypeofType {
+        keyword,
+        open,
+        type_name,
+        close,
+    }
+}
+
+/// `LabelDecl = __label__ Name (, Name)* ;`.
+pub(crate) fn labels(keyword: TokenId, names: Vec<Identifier>, semi: TokenId) -> BlockItem
+    ensures { block_item_of result ≡ trees.block_labels keyword names.items semi }
+{
+    BlockItem::Labels {
+        keyword,
+        names,
         semi,
     }
 }

@@ -5,19 +5,20 @@
 ghost use Rattle.std.specs.Prelude.{◌≡◌, None, map, IfOk};
 ghost use Rattle.c_nodes.specs.Sized.{expr};
 ghost use Rattle.c_syntax.specs.declared.specifier.SpecWord.TheVariants as rust_words;
-ghost use Rattle.c_tree.specs.Lists.{some_body_from, struct_items_from, mem_declrs_from, some_value_from, some_enum_body_from, enumerators_from};
+ghost use Rattle.c_tree.specs.Lists.{some_declr_from, some_body_from, struct_items_from, mem_declrs_from, some_value_from, some_enum_body_from, enumerators_from};
 ghost use Rattle.c_tree.specs.Tree as trees;
 ghost use Rattle.c_tree.specs.Unit.{spec_words_from};
 ghost use Rattle.c_tree.specs.View.{spec_word_of, struct_item_of, mem_declr_of, declr_of};
 
+use crate::making;
 use c_nodes::{
     PresentDeclr, SizedBody, SizedEnumBody, SizedEnumerator, SizedEnumerators, SizedExpr,
     SizedMemDeclr, SizedMember, SizedMembers, SizedSpecs, SizedStructItem, SizedStructItems,
-    SizedValue, SizedWord, above_both, greater, of_attrs,
+    SizedTypeName, SizedValue, SizedWord, above, above_both, greater, of_attrs,
 };
 use c_syntax::{
     Assert, Attr, Braced, BracedList, Identifier, Marked, MemDeclr, Qual, Semi, SpecWord, Specs,
-    StructItem, TypedefName, Word,
+    StructItem, TypeName, TypedefName, Word,
 };
 use qual_base::{NameId, NoMemory, TokenId};
 use std::alloc::Global;
@@ -99,6 +100,69 @@ pub fn attribute(attr: Attr) -> SizedWord
 {
     SizedWord {
         word: SpecWord::Attr(attr),
+        height: 1,
+    }
+}
+
+/// `Typeof = typeof ( expr )`.
+pub fn typeof_value(
+    keyword: TokenId,
+    opening: TokenId,
+    operand: SizedExpr,
+    closing: TokenId,
+) -> SizedWord
+    ensures { spec_word_of result.word
+        ≡ trees.typeof_value keyword opening (expr operand) closing }
+{
+    SizedWord {
+        word: SpecWord::Typeof {
+            keyword,
+            open: opening,
+            operand: operand.tree,
+            close: closing,
+        },
+        height: above(operand.height),
+    }
+}
+
+/// `TypeofType = typeof ( TypeName )` and `AtomicType = _Atomic ( TypeName )`.
+pub fn typeof_type(
+    keyword: Word,
+    opening: TokenId,
+    of: SizedTypeName,
+    closing: TokenId,
+) -> SizedWord
+    ensures { spec_word_of result.word
+        ≡ trees.typeof_type keyword opening (spec_words_from of.words.items)
+        (some_declr_from of.declr) closing }
+{
+    let height = above(of.height);
+    let type_name = TypeName {
+        specs: Specs { words: of.words },
+        declr: of.declr,
+    };
+    SizedWord {
+        word: making::typeof_type(keyword, opening, type_name, closing),
+        height,
+    }
+}
+
+/// `Align = _Alignas bal`.
+pub fn align(attr: Attr) -> SizedWord
+    ensures { spec_word_of result.word ≡ trees.align attr }
+{
+    SizedWord {
+        word: SpecWord::Align(attr),
+        height: 1,
+    }
+}
+
+/// `__auto_type`.
+pub fn auto_word(token: TokenId) -> SizedWord
+    ensures { spec_word_of result.word ≡ trees.auto_word token }
+{
+    SizedWord {
+        word: SpecWord::Auto { token },
         height: 1,
     }
 }

@@ -118,6 +118,53 @@ pub fn case_stmt(
     Ok(SizedStmt { tree, height })
 }
 
+/// `Case = case cond ... cond : stmt`.
+pub fn case_range(
+    alloc: Global,
+    keyword: TokenId,
+    first: SizedExpr,
+    dots: TokenId,
+    last: SizedExpr,
+    colon: TokenId,
+    body: SizedStmt,
+) -> Result<SizedStmt, NoMemory>
+    ensures { MakesStmt result
+        (trees.case_range keyword (expr first) dots (expr last) colon (stmt body)) }
+{
+    let height = above_both(greater(first.height, last.height), body.height);
+    let node = Stmt::CaseRange {
+        keyword,
+        first: first.tree,
+        dots,
+        last: last.tree,
+        colon,
+        body: body.tree,
+    };
+    let tree = boxed(alloc, node)?;
+    Ok(SizedStmt { tree, height })
+}
+
+/// `GotoValue = goto * expr ;`.
+pub fn goto_value(
+    alloc: Global,
+    keyword: TokenId,
+    star: TokenId,
+    value: SizedExpr,
+    semi: TokenId,
+) -> Result<SizedStmt, NoMemory>
+    ensures { MakesStmt result (trees.goto_value keyword star (expr value) semi) }
+{
+    let height = above(value.height);
+    let node = Stmt::GotoValue {
+        keyword,
+        star,
+        value: value.tree,
+        semi,
+    };
+    let tree = boxed(alloc, node)?;
+    Ok(SizedStmt { tree, height })
+}
+
 /// `Default = default : stmt`.
 pub fn default_stmt(
     alloc: Global,

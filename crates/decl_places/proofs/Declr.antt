@@ -8,10 +8,11 @@ use Rattle.c_words.specs.declared.kinds.Punct.TheVariants as puncts
 use Rattle.c_tree.specs.declared.lexeme.Lexeme.{Lexeme}
 use Rattle.c_syntax.specs.declared.parts.Attr.{Attr}
 use Rattle.c_syntax.specs.declared.parts.PointerWord.{PointerWord}
-use Rattle.c_tree.specs.Tree.{Declr, declr_name, SomeDeclr, no_declr, some_declr}
+use Rattle.c_tree.specs.Tree.{Declr, declr_name, base_name, SomeDeclr, no_declr, some_declr}
 use Rattle.c_tree.specs.Height.{some_declr_height}
 use Rattle.typedef_scope.specs.declared.kind.Kind.{Kind}
-use Rattle.c_units.specs.HeldScopes.{HeldScopes, HeldScope, innermost, leave}
+use Rattle.typedef_scope.specs.declared.kind.Kind.TheVariants.{Typedef}
+use Rattle.c_units.specs.HeldScopes.{HeldScopes, HeldScope, is_wide, innermost, leave}
 use Rattle.c_units.specs.Scoping.{at_name}
 use Rattle.c_units.specs.Units.{numbered_from}
 use Rattle.c_reading.specs.declared.kinds.Fault.{Fault}
@@ -19,10 +20,10 @@ use Rattle.c_reading.specs.declared.kinds.Fault.TheVariants.{Unexpected, TooDeep
 use Rattle.c_reading.specs.declared.kinds.Mode.{Mode}
 use Rattle.c_reading.specs.declared.kinds.Mode.TheVariants.{Named, Abstract, Either}
 use Rattle.c_reading.specs.Reading.{Found, Read, Reader, ends, refuses, fits, kind_at, take_one, token_at, run, and_then}
-use Rattle.c_reading.specs.Tokens.{is_open_paren, is_close_paren, is_open_bracket, is_star, is_attribute, spelled_name, begins_pointer_word, pointer_words_at, attrs_at}
+use Rattle.c_reading.specs.Tokens.{is_end, is_open_paren, is_close_paren, is_open_bracket, is_star, is_attribute, spelled_name, begins_pointer_word, pointer_words_at, attrs_at}
 use Rattle.c_reading.specs.Parts.{Inner, Declared}
 use Rattle.c_reading.specs.Specifying.{begins_specs, present}
-use Rattle.c_reading.specs.Declaring.{takes_name, least_pointer, with_pointer, with_paren, is_bare, room_at, are_none, opens_params, opens_declr, absent, name_held, array_with, params_behind, prototype_with, suffix_turn, paren_with, named_paren, opened_by, opened_with, some_paren, core_with, direct_with, pointer_with, declr_with}
+use Rattle.c_reading.specs.Declaring.{takes_name, least_pointer, with_pointer, with_paren, is_bare, room_at, are_none, opens_params, opens_declr, absent, name_held, names_base, base_named, array_with, params_behind, prototype_with, suffix_turn, paren_with, named_paren, opened_by, opened_with, some_paren, core_with, direct_with, pointer_with, declr_with}
 use Rattle.c_reading.proofs.Binding.{found, done, bind_ok, bind_is, fits_ok, fits_is, take_falls, token_falls, if_ok}
 use Rattle.c_reading.proofs.Forms.{Shrinks}
 use Rattle.c_reading.proofs.KnotLaws.{none_tokens}
@@ -72,11 +73,13 @@ declr_star mode kind h = refl
 type_word : (kind : TokenKind) → stops_type kind ≡ true → begins_pointer_word kind ≡ false
 type_word (kinds.Punct puncts.CloseParen) h = refl
 type_word (kinds.Punct puncts.Comma) h = refl
+type_word (kinds.Punct puncts.Colon) h = refl
 type_word kind h = absurd cc
 
 type_name_none : (kind : TokenKind) → stops_type kind ≡ true → spelled_name kind ≡ None
 type_name_none (kinds.Punct puncts.CloseParen) h = refl
 type_name_none (kinds.Punct puncts.Comma) h = refl
+type_name_none (kinds.Punct puncts.Colon) h = refl
 type_name_none kind h = absurd cc
 
 type_open_paren : (kind : TokenKind) → stops_type kind ≡ true → is_open_paren kind ≡ false
@@ -101,6 +104,24 @@ star_specs s kind h = absurd cc
 star_close : (kind : TokenKind) → is_star kind ≡ true → is_close_paren kind ≡ false
 star_close (kinds.Punct puncts.Star) h = refl
 star_close kind h = absurd cc
+
+-- a name is no base word, and the end is none
+name_no_base : (s : HeldScopes) (mode : Mode) (wanted : Option Kind) (name : ℕ) → names_base s mode wanted (kinds.Name name) ≡ false
+name_no_base s Named (Some Typedef) name = by_wide (is_wide s)
+  where
+    by_wide : (b : Bool) → (b && false) ≡ false
+    by_wide true = refl
+    by_wide false = refl
+name_no_base s mode wanted name = refl
+
+base_end : (s : HeldScopes) (mode : Mode) (wanted : Option Kind) (kind : TokenKind) → names_base s mode wanted kind ≡ true → is_end kind ≡ false
+base_end s Named (Some Typedef) kinds.End h = absurd (by_wide (is_wide s) h)
+  where
+    by_wide : (b : Bool) → (b && false) ≡ true → ⊥
+    by_wide true h = absurd cc
+    by_wide false h = absurd cc
+base_end s mode wanted kinds.End h = absurd cc
+base_end s mode wanted kind h = refl
 
 -- what a declarator of a mode begins with where it is completed from nothing
 abbrev front_of : Mode → TokenKind → Bool
@@ -141,7 +162,7 @@ module _ (n : ℕ) (inner : Inner) (places : InnerLaws n inner) (laws : Laws [] 
   bracket_read flag room d kind s ts = fits (suc (some_declr_height d.declr)) (room_at flag room d kind) ts (array_with inner d (room_at flag room d kind) s ts)
 
   abbrev paren_read : Bool → ℕ → Declared → TokenKind → Reader Declared
-  paren_read flag room d kind s ts = fits (suc (some_declr_height d.declr)) (room_at flag room d kind) ts (params_behind inner d (room_at flag room d kind) s ts)
+  paren_read flag room d kind s ts = fits (suc (some_declr_height d.declr)) (room_at flag room d kind) ts (params_behind inner flag d (room_at flag room d kind) s ts)
 
   suffix_law : (flag : Bool) (room : ℕ) → number_of flag room < suc n → (mode : Mode) (d : Declared) → Law true (run (suffix_turn inner flag room) d) (stops_declr mode) (stops_declr mode)
   suffix_law flag room less mode d = record {
@@ -171,9 +192,9 @@ module _ (n : ℕ) (inner : Inner) (places : InnerLaws n inner) (laws : Laws [] 
               inr (
                 paren_read flag room d (kind_at ts),
                 (λ k h. rw (kind_same k ts h, off, is) refl),
-                fits_good true (suc (some_declr_height d.declr)) (room_at flag room d (kind_at ts)) (params_behind inner d (room_at flag room d (kind_at ts))) (stops_declr mode) s ts
-                    (λ fit. good_before true (params_behind inner d (room_at flag room d (kind_at ts))) any (stops_declr mode) s ts (λ kind h. refl)
-                    (params_behind_good n inner places laws d (room_at flag room d (kind_at ts)) (room_below flag room n d (kind_at ts) less) (omega (arith, fit)) s ts is)),
+                fits_good true (suc (some_declr_height d.declr)) (room_at flag room d (kind_at ts)) (params_behind inner flag d (room_at flag room d (kind_at ts))) (stops_declr mode) s ts
+                    (λ fit. good_before true (params_behind inner flag d (room_at flag room d (kind_at ts))) any (stops_declr mode) s ts (λ kind h. refl)
+                    (params_behind_good n inner places laws flag d (room_at flag room d (kind_at ts)) (room_below flag room n d (kind_at ts) less) (omega (arith, fit)) s ts is)),
               )
 
           by_bracket : (b : Bool) → is_open_bracket (kind_at ts) ≡ b → GoodTurn true (suffix_turn inner flag room) (stops_declr mode) d s ts
@@ -391,15 +412,25 @@ module _ (n : ℕ) (inner : Inner) (places : InnerLaws n inner) (laws : Laws [] 
     absent_is Abstract h s k = refl
     absent_is Either h s k = refl
 
+    -- where no name need stand a base word is none
+    no_base : (mode : Mode) → may_be_absent mode ≡ true → (s : HeldScopes) (kind : TokenKind) → names_base s mode wanted kind ≡ false
+    no_base Named h s kind = absurd cc
+    no_base Abstract h s kind = refl
+    no_base Either h s kind = refl
+
     -- before what may follow an absent declarator there is none
     none_read : (mode : Mode) → may_be_absent mode ≡ true → (s : HeldScopes) (k : List Lexeme) → stops_type (kind_at k) ≡ true → core_with inner mode wanted flag room s k ≡ ends nothing_yet s k
     unfolding core_with
-    none_read mode h s k stop = rw (type_open_paren (kind_at k) stop, type_name_none (kind_at k) stop) (absent_is mode h s k)
+    none_read mode h s k stop = rw (type_open_paren (kind_at k) stop, no_base mode h s (kind_at k), type_name_none (kind_at k) stop) (absent_is mode h s k)
 
     named_good : (mode : Mode) (name : ℕ) (s : HeldScopes) (t : Lexeme) (ts : List Lexeme) → spelled_name t.kind ≡ Some name → takes_name mode ≡ true → Good kept (core_with inner mode wanted flag room) (stops_declr mode) s (t ∷ ts)
     unfolding core_with and_then
     named_good mode name s t ts is takes = by_held (at_name wanted name s) refl
       where
+        plain : (kind : TokenKind) → spelled_name kind ≡ Some name → names_base s mode wanted kind ≡ false
+        plain (kinds.Name other) e = name_no_base s mode wanted other
+        plain kind e = absurd cc
+
         no_paren : (kind : TokenKind) → spelled_name kind ≡ Some name → is_open_paren kind ≡ false
         no_paren (kinds.Punct puncts.OpenParen) e = absurd cc
         no_paren kind e = refl
@@ -408,7 +439,7 @@ module _ (n : ℕ) (inner : Inner) (places : InnerLaws n inner) (laws : Laws [] 
         kind_is u us e = cc
 
         to_name : (u : Lexeme) (us : List Lexeme) → first_kind (u ∷ us) ≡ Some t.kind → core_with inner mode wanted flag room s (u ∷ us) ≡ name_held name room (at_name wanted name s) s (u ∷ us)
-        to_name u us e = rw (kind_is u us e, no_paren t.kind is, is, takes) refl
+        to_name u us e = rw (kind_is u us e, no_paren t.kind is, plain t.kind is, is, takes) refl
 
         refused : (f : Fault) → ((u : Lexeme) (us : List Lexeme) → name_held name room (at_name wanted name s) s (u ∷ us) ≡ refuses f (u ∷ us)) →
             Good kept (core_with inner mode wanted flag room) (stops_declr mode) s (t ∷ ts)
@@ -435,24 +466,42 @@ module _ (n : ℕ) (inner : Inner) (places : InnerLaws n inner) (laws : Laws [] 
     unnamed_good Abstract s ts off same = none_good kept (core_with inner Abstract wanted flag room) stops_type s ts nothing_yet (λ k e. same k e) (λ k h. none_read Abstract refl s k h)
     unnamed_good Either s ts off same = none_good kept (core_with inner Either wanted flag room) stops_type s ts nothing_yet (λ k e. same k e) (λ k h. none_read Either refl s k h)
 
+    -- a base word, which names a typedef
+    base_good : (s : HeldScopes) (ts : List Lexeme) → is_end (kind_at ts) ≡ false → Good kept (base_named room) any s ts
+    base_good s ts known =
+        node_good kept 1 room (λ token. ends (record { declr = some_declr (base_name token); closed = None })) any
+        (λ fit token. ends_law kept (record { declr = some_declr (base_name token); closed = None }) any any (λ kind h. h)) s ts known
+
+    base_shrinks : Shrinks (base_named room)
+    base_shrinks s ts x e =
+        let a = bind_ok (fits_ok 1 room ts e).1 in
+        omega (arith, take_falls _ _ _ a.1, left_is a.2)
+
     core_good : (mode : Mode) (s : HeldScopes) (ts : List Lexeme) → Good kept (core_with inner mode wanted flag room) (stops_declr mode) s ts
     unfolding core_with
     core_good mode s ts = by_paren (is_open_paren (kind_at ts)) refl
       where
-        by_name : is_open_paren (kind_at ts) ≡ false → (o : Option ℕ) → spelled_name (kind_at ts) ≡ o → Good kept (core_with inner mode wanted flag room) (stops_declr mode) s ts
-        by_name off None is = unnamed_good mode s ts off (λ k e. rw (kind_same k ts e, off, is) refl)
-        by_name off (Some name) is = by_takes ts off is (takes_name mode) refl
+        by_name : is_open_paren (kind_at ts) ≡ false → names_base s mode wanted (kind_at ts) ≡ false → (o : Option ℕ) → spelled_name (kind_at ts) ≡ o → Good kept (core_with inner mode wanted flag room) (stops_declr mode) s ts
+        by_name off plain None is = unnamed_good mode s ts off (λ k e. rw (kind_same k ts e, off, plain, is) refl)
+        by_name off plain (Some name) is = by_takes ts off plain is (takes_name mode) refl
           where
-            by_takes : (ts : List Lexeme) → is_open_paren (kind_at ts) ≡ false → spelled_name (kind_at ts) ≡ Some name → (b : Bool) → takes_name mode ≡ b → Good kept (core_with inner mode wanted flag room) (stops_declr mode) s ts
-            by_takes [] off is b takes = absurd cc
-            by_takes (t ∷ ts) off is true takes = named_good mode name s t ts is takes
-            by_takes (t ∷ ts) off is false takes = unnamed_good mode s (t ∷ ts) off (λ k e. rw (kind_same k (t ∷ ts) e, off, is, takes) refl)
+            by_takes : (ts : List Lexeme) → is_open_paren (kind_at ts) ≡ false → names_base s mode wanted (kind_at ts) ≡ false → spelled_name (kind_at ts) ≡ Some name → (b : Bool) → takes_name mode ≡ b →
+                Good kept (core_with inner mode wanted flag room) (stops_declr mode) s ts
+            by_takes [] off plain is b takes = absurd cc
+            by_takes (t ∷ ts) off plain is true takes = named_good mode name s t ts is takes
+            by_takes (t ∷ ts) off plain is false takes = unnamed_good mode s (t ∷ ts) off (λ k e. rw (kind_same k (t ∷ ts) e, off, plain, is, takes) refl)
+
+        by_base : is_open_paren (kind_at ts) ≡ false → (b : Bool) → names_base s mode wanted (kind_at ts) ≡ b → Good kept (core_with inner mode wanted flag room) (stops_declr mode) s ts
+        by_base off true is =
+            good_as kept (base_named room) (core_with inner mode wanted flag room) (stops_declr mode) s ts (λ k e. rw (kind_same k ts e, off, is) refl) (inl (λ x e. base_shrinks s ts x e))
+            (good_before kept (base_named room) any (stops_declr mode) s ts (λ kind h. refl) (base_good s ts (base_end s mode wanted (kind_at ts) is)))
+        by_base off false plain = by_name off plain (spelled_name (kind_at ts)) refl
 
         by_paren : (b : Bool) → is_open_paren (kind_at ts) ≡ b → Good kept (core_with inner mode wanted flag room) (stops_declr mode) s ts
         by_paren true is =
             good_as kept (some_paren inner mode wanted flag room) (core_with inner mode wanted flag room) (stops_declr mode) s ts (λ k e. rw (kind_same k ts e, is) refl) (inl (λ x e. some_paren_shrinks mode s ts x e))
             (good_before kept (some_paren inner mode wanted flag room) any (stops_declr mode) s ts (λ kind h. refl) (some_paren_good mode s ts is))
-        by_paren false off = by_name off (spelled_name (kind_at ts)) refl
+        by_paren false off = by_base off (names_base s mode wanted (kind_at ts)) refl
 
     -- a fresh name
     core_ready : 1 ≤ room → (s : HeldScopes) (at : ℕ) → Ready kept (core_with inner Named wanted flag room) is_name_kind stops_named s at
@@ -465,7 +514,7 @@ module _ (n : ℕ) (inner : Inner) (places : InnerLaws n inner) (laws : Laws [] 
           scopes = held.0;
           keeps = at_name_kept wanted (fresh s) s held.0 held.1;
           begins = λ k h. refl;
-          reads = λ k h. rw held.1 (fits_is 1 room (record { kind = kinds.Name (fresh s); at = at } ∷ k) _ one);
+          reads = λ k h. rw (name_no_base s Named wanted (fresh s), held.1) (fits_is 1 room (record { kind = kinds.Name (fresh s); at = at } ∷ k) _ one);
         }
 
     direct_good : (mode : Mode) (s : HeldScopes) (ts : List Lexeme) → Good kept (direct_with inner mode wanted flag room) (stops_declr mode) s ts

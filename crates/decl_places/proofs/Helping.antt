@@ -11,7 +11,7 @@ use Rattle.c_reading.proofs.Forms.{Falls, Shrinks}
 use Rattle.c_reading.proofs.Rows.{row_turn_shrinks}
 use Rattle.c_words.specs.declared.kinds.TokenKind.TheVariants as kinds
 use Rattle.c_syntax.specs.declared.parts.Identifier.{Identifier}
-use Rattle.std.specs.Prelude.{nat_le}
+use Rattle.std.specs.Prelude.{nat_le, ◌&&◌}
 use Rattle.c_reading.specs.declared.kinds.Fault.TheVariants.{TooDeep}
 use Rattle.c_reading.specs.Reading.{Read, refuses}
 use Rattle.c_reading.specs.Tokens.{spelled_name, identifier_of, tag_at}
@@ -169,3 +169,33 @@ put_before front at (kind ∷ more) t h is = let some = longer (suc at) more in 
     longer : (at : ℕ) (more : List TokenKind) → 1 ≤ length (numbered_from at more ++ t ∷ [])
     longer at [] = omega arith
     longer at (kind ∷ more) = let some = longer (suc at) more in omega (arith, some)
+
+-- Lists of tokens, of which one is behind another.
+length_behind : (b k : List Lexeme) → length (b ++ k) ≡ length b + length k
+length_behind [] k = omega arith
+length_behind (t ∷ b) k = let same = length_behind b k in omega (arith, same)
+
+pub none_before : (b k : List Lexeme) → b ++ k ≡ k → b ≡ []
+none_before [] k h = refl
+none_before (t ∷ b) k h = let one = ap length h in let two = length_behind b k in absurd (omega (arith, one, two))
+
+pub append_same : (b c k : List Lexeme) → b ++ k ≡ c ++ k → b ≡ c
+append_same [] c k h = sym (none_before c k (sym h))
+append_same (t ∷ b) [] k h = none_before (t ∷ b) k h
+append_same (t ∷ b) (u ∷ c) k h =
+    let first : t ≡ u = cc in
+    let later : b ++ k ≡ c ++ k = cc in
+    let same = append_same b c k later in
+    rw (first, same) refl
+
+pub fewer_tokens : (b c p rest k : List Lexeme) (m : ℕ) → b ≡ c → rest ≡ p ++ k → length rest < length (c ++ k) → length b < suc m → length p < m
+fewer_tokens b c p rest k m same parts fewer less =
+    let one = ap length same in
+    let two = ap length parts in
+    let three = length_behind p k in
+    let four = length_behind c k in
+    omega (arith, one, two, three, four, fewer, less)
+
+pub and_none : (b : Bool) → (b && false) ≡ false
+and_none true = refl
+and_none false = refl

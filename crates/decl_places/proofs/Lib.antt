@@ -4,6 +4,7 @@
 pub mod Helping
 pub mod Mixes
 pub mod Members
+pub mod Identifiers
 pub mod Bodies
 pub mod Specs
 pub mod Params

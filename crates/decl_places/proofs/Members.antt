@@ -13,12 +13,13 @@ use Rattle.c_units.specs.HeldScopes.{HeldScopes}
 use Rattle.c_reading.specs.declared.kinds.Fault.TheVariants.{Unexpected}
 use Rattle.c_reading.specs.declared.kinds.Reach.{Reach}
 use Rattle.c_reading.specs.declared.kinds.Reach.TheVariants.{Conditional}
-use Rattle.c_reading.specs.declared.kinds.Role.TheVariants.{Declaring}
+use Rattle.c_reading.specs.declared.kinds.Role.{Role}
+use Rattle.c_reading.specs.declared.kinds.Role.TheVariants.{Declaring, Typed, Naming}
 use Rattle.c_reading.specs.declared.kinds.Mode.TheVariants.{Named}
 use Rattle.c_reading.specs.Reading.{Found, Reader, ends, refuses, fits, kind_at, take_one, token_at, repeated, listed, one_more, is_comma}
 use Rattle.c_reading.specs.Tokens.{is_end, is_semicolon, is_colon, is_attribute, is_extension, is_open_brace, is_close_brace, is_static_assert, extensions_at, attrs_at, assert_at}
 use Rattle.c_reading.specs.Parts.{Inner, nothing, Declared, struct_items_from, mem_declrs_from}
-use Rattle.c_reading.specs.Specifying.{begins_specs, present, specs_here, value_with, named_declr, width_with, field_with, mem_declr_with, first_member, next_member, mem_declrs_with, member_with, struct_item_with, members_with}
+use Rattle.c_reading.specs.Specifying.{begins_role, present, specs_here, value_with, named_declr, width_with, field_with, mem_declr_with, first_member, next_member, mem_declrs_with, member_with, struct_item_with, members_with}
 use Rattle.c_reading.proofs.Binding.{found, done, bind_ok, fits_ok, if_ok, take_falls, token_falls}
 use Rattle.c_reading.proofs.Forms.{Shrinks}
 use Rattle.c_reading.proofs.Rows.{repeated_falls}
@@ -64,9 +65,11 @@ semi_comma : (kind : TokenKind) → is_semicolon kind ≡ true → is_comma kind
 semi_comma (kinds.Punct puncts.Semicolon) h = refl
 semi_comma kind h = absurd cc
 
-int_begins : (s : HeldScopes) (kind : TokenKind) → is_int kind ≡ true → begins_specs s kind ≡ true
-int_begins s (kinds.Keyword keywords.Int) h = refl
-int_begins s kind h = absurd cc
+int_begins : (role : Role) (s : HeldScopes) (kind : TokenKind) → is_int kind ≡ true → begins_role role s kind ≡ true
+int_begins Declaring s (kinds.Keyword keywords.Int) h = refl
+int_begins Typed s (kinds.Keyword keywords.Int) h = refl
+int_begins Naming s (kinds.Keyword keywords.Int) h = refl
+int_begins role s kind h = absurd cc
 
 int_extension : (kind : TokenKind) → is_int kind ≡ true → is_extension kind ≡ false
 int_extension (kinds.Keyword keywords.Int) h = refl
@@ -102,20 +105,20 @@ module _ (n : ℕ) (inner : Inner) (places : InnerLaws n inner) (laws : Laws [] 
       law_before true (inner.expr reach nothing room) is_number front (stops_expr reach) stops h f
       (record { good = λ s ts. places.exprs.good reach nothing room less s ts; ready = λ s at. places.exprs.ready reach nothing room less (omega (arith, one)) s at })
 
-  pub specs_here_good : (room : ℕ) → room < suc n → (s : HeldScopes) (ts : List Lexeme) → Good true (specs_here inner room) stops_specs s ts
+  pub specs_here_good : (role : Role) (room : ℕ) → room < suc n → (s : HeldScopes) (ts : List Lexeme) → Good true (specs_here inner role room) stops_specs s ts
   unfolding specs_here
-  specs_here_good room less s ts =
-      if_good true begins_specs (λ s ts. fits 2 room ts (inner.specs Declaring no_words (room - 1) s ts)) (λ s ts. refuses Unexpected ts) stops_specs s ts
-      (λ is. fits_good true 2 room (inner.specs Declaring no_words (room - 1)) stops_specs s ts (λ fit. places.words.good Declaring no_words (room - 1) (omega (arith, less, fit)) s ts))
+  specs_here_good role room less s ts =
+      if_good true (begins_role role) (λ s ts. fits 2 room ts (inner.specs role no_words (room - 1) s ts)) (λ s ts. refuses Unexpected ts) stops_specs s ts
+      (λ is. fits_good true 2 room (inner.specs role no_words (room - 1)) stops_specs s ts (λ fit. places.words.good role no_words (room - 1) (omega (arith, less, fit)) s ts))
       (λ is. refused_here true (λ s ts. refuses Unexpected ts) stops_specs s ts Unexpected (λ k e. refl))
-      (λ is. inl (λ x e. laws.words.shrinks Declaring (room - 1) s ts x (fits_ok 2 room ts e).1))
+      (λ is. inl (λ x e. laws.words.shrinks role (room - 1) s ts x (fits_ok 2 room ts e).1))
       (λ is. inl (λ x e. absurd cc))
 
-  pub specs_here_ready : (room : ℕ) → room < suc n → 2 ≤ room → (s : HeldScopes) (at : ℕ) → Ready true (specs_here inner room) is_int stops_specs s at
+  pub specs_here_ready : (role : Role) (room : ℕ) → room < suc n → 2 ≤ room → (s : HeldScopes) (at : ℕ) → Ready true (specs_here inner role room) is_int stops_specs s at
   unfolding specs_here
-  specs_here_ready room less two s at =
-      ready_as true (λ s ts. fits 2 room ts (inner.specs Declaring no_words (room - 1) s ts)) (specs_here inner room) is_int stops_specs s at (λ k h. rw (int_begins s (kind_at k) h) refl)
-      (ready_fits true 2 room (inner.specs Declaring no_words (room - 1)) is_int stops_specs s at two (places.words.begins Declaring (room - 1) (omega (arith, less, two)) (omega (arith, two)) s at))
+  specs_here_ready role room less two s at =
+      ready_as true (λ s ts. fits 2 room ts (inner.specs role no_words (room - 1) s ts)) (specs_here inner role room) is_int stops_specs s at (λ k h. rw (int_begins role s (kind_at k) h) refl)
+      (ready_fits true 2 room (inner.specs role no_words (room - 1)) is_int stops_specs s at two (places.words.begins role (room - 1) (omega (arith, less, two)) (omega (arith, two)) s at))
 
   -- [sign cond]
   pub value_law : (test : TokenKind → Bool) (room : ℕ) → room < suc n → ((kind : TokenKind) → test kind ≡ true → is_end kind ≡ false) → (front stops : TokenKind → Bool) →
@@ -287,20 +290,20 @@ module _ (n : ℕ) (inner : Inner) (places : InnerLaws n inner) (laws : Laws [] 
       omega (arith, mem_declrs_falls [] none_tokens n inner laws (room - 1) s ts a.0 a.1, token_falls is_semicolon _ _ _ b.1, left_is b.2)
 
   -- specifiers that were read had room for two levels
-  pub specs_here_room : (room : ℕ) (s : HeldScopes) (ts : List Lexeme) (x : Found SpecWords) → specs_here inner room s ts ≡ done x → 2 ≤ room
+  pub specs_here_room : (role : Role) (room : ℕ) (s : HeldScopes) (ts : List Lexeme) (x : Found SpecWords) → specs_here inner role room s ts ≡ done x → 2 ≤ room
   unfolding specs_here
-  specs_here_room room s ts x e = if_ok (begins_specs s (kind_at ts)) e (λ is e. (fits_ok 2 room ts e).0) (λ is e. absurd cc)
+  specs_here_room role room s ts x e = if_ok (begins_role role s (kind_at ts)) e (λ is e. (fits_ok 2 room ts e).0) (λ is e. absurd cc)
 
-  behind_exts_good : (exts : List ℕ) (room : ℕ) → room < suc n → (s : HeldScopes) (ts : List Lexeme) → Good true (behind (specs_here inner room) (member_rest exts room)) any s ts
+  behind_exts_good : (exts : List ℕ) (room : ℕ) → room < suc n → (s : HeldScopes) (ts : List Lexeme) → Good true (behind (specs_here inner Typed room) (member_rest exts room)) any s ts
   behind_exts_good exts room less s ts = by_room (nat_le 2 room) refl
     where
-      by_room : (b : Bool) → nat_le 2 room ≡ b → Good true (behind (specs_here inner room) (member_rest exts room)) any s ts
+      by_room : (b : Bool) → nat_le 2 room ≡ b → Good true (behind (specs_here inner Typed room) (member_rest exts room)) any s ts
       by_room true is =
-          behind_good true (specs_here inner room) (member_rest exts room) stops_specs any s ts (specs_here_good room less s ts) (member_rest_law exts room less (leb-true 2 room is))
+          behind_good true (specs_here inner Typed room) (member_rest exts room) stops_specs any s ts (specs_here_good Typed room less s ts) (member_rest_law exts room less (leb-true 2 room is))
           (inl (λ words s ts y e. member_rest_shrinks exts room words s ts y e))
       by_room false is =
-          never_behind true (specs_here inner room) (member_rest exts room) stops_specs any (kinds.Punct puncts.Semicolon) refl s ts
-          (λ k x e. let two = specs_here_room room s k x e in let none = leb-false 2 room is in absurd (omega (arith, two, none))) (specs_here_good room less s ts)
+          never_behind true (specs_here inner Typed room) (member_rest exts room) stops_specs any (kinds.Punct puncts.Semicolon) refl s ts
+          (λ k x e. let two = specs_here_room Typed room s k x e in let none = leb-false 2 room is in absurd (omega (arith, two, none))) (specs_here_good Typed room less s ts)
 
   pub exts_room : (room : ℕ) (s : HeldScopes) (ts : List Lexeme) (x : Found (List ℕ)) → extensions_at room s ts ≡ done x → length x.rest < length ts → 2 ≤ room
   unfolding extensions_at
@@ -309,15 +312,15 @@ module _ (n : ℕ) (inner : Inner) (places : InnerLaws n inner) (laws : Laws [] 
   member_good : (room : ℕ) → room < suc n → (s : HeldScopes) (ts : List Lexeme) → Good true (member_with inner room) any s ts
   unfolding member_with
   member_good room less s ts =
-      bind_good true (extensions_at room) (λ exts. behind (specs_here inner room) (member_rest exts room)) is_int any s ts
+      bind_good true (extensions_at room) (λ exts. behind (specs_here inner Typed room) (member_rest exts room)) is_int any s ts
       (λ exts scopes gives at.
       let h = gives.reads (record { kind = kinds.Keyword keywords.Int; at = 0 } ∷ []) refl in
       let two = exts_room room s h.0 (found exts scopes (record { kind = kinds.Keyword keywords.Int; at = 0 } ∷ [])) h.1 h.2 in
-      ready_bind true (specs_here inner room) (member_rest exts room) is_int stops_specs any scopes at (specs_here_ready room less two scopes at) (λ words scopes gives at. (member_rest_law exts room less two words).ready scopes at))
+      ready_bind true (specs_here inner Typed room) (member_rest exts room) is_int stops_specs any scopes at (specs_here_ready Typed room less two scopes at) (λ words scopes gives at. (member_rest_law exts room less two words).ready scopes at))
       ((extensions_law true room is_int is_int ((λ kind h. h), int_extension)).good s ts)
       (λ x e. behind_exts_good x.tree room less x.scopes x.rest)
       (inl (λ x y is e. let a = bind_ok e in
-      let one : length a.0.rest < length x.rest = specs_here_shrinks [] n inner laws room x.scopes x.rest a.0 a.1 in
+      let one : length a.0.rest < length x.rest = specs_here_shrinks [] n inner laws Typed room x.scopes x.rest a.0 a.1 in
       let rest : length y.rest < length a.0.rest = member_rest_shrinks x.tree room a.0.tree a.0.scopes a.0.rest y a.2 in
       omega (arith, one, rest)))
 

@@ -1,10 +1,11 @@
 -- Words that are a whole type with one more word, and what is known of the height of words that are none yet.
 use Rattle.std.proofs.Common.{◌≡◌, ℕ, ◌+◌, ◌≤◌, Bool, true, false, if◌then◌else◌, Option, Some, None, ◌⊎◌, inl, inr, refl, sym, ◌∙◌, ap, subst, arith}
-use Rattle.std.specs.Prelude.{is_some}
+use Rattle.std.specs.Prelude.{is_some, ◌||◌}
 use Rattle.c_words.specs.declared.kinds.Keyword.{Keyword}
 use Rattle.c_words.specs.declared.kinds.Keyword.TheVariants as keywords
-use Rattle.c_tree.specs.Tree.{SpecWords, no_words, more_words, SpecWord, storage, thread, inline_word, noreturn, qualifier, basic, struct_type, enum_type, typedef_name, attribute}
+use Rattle.c_tree.specs.Tree.{SpecWords, no_words, more_words, SpecWord, storage, thread, inline_word, noreturn, qualifier, basic, struct_type, enum_type, typedef_name, attribute, typeof_value, typeof_type, align, auto_word}
 use Rattle.c_tree.specs.Height.{specs_height, spec_word_height}
+use Rattle.c_tree.specs.WellFormed.{is_auto, has_auto}
 use Rattle.c_specs.specs.declared.basic.Base.{Base}
 use Rattle.c_specs.specs.declared.basic.Base.TheVariants as bases
 use Rattle.c_specs.specs.declared.basic.Mark.{Mark}
@@ -65,10 +66,14 @@ free_types (inline_word token) mix m e h = same_types mix m h
 free_types (noreturn token) mix m e h = same_types mix m h
 free_types (qualifier q) mix m e h = same_types mix m h
 free_types (attribute a) mix m e h = same_types mix m h
+free_types (align a) mix m e h = same_types mix m h
 free_types (basic word) mix m e h = absurd cc
 free_types (struct_type a b c d) mix m e h = absurd cc
 free_types (enum_type a) mix m e h = absurd cc
 free_types (typedef_name a) mix m e h = absurd cc
+free_types (typeof_value a b c d) mix m e h = absurd cc
+free_types (typeof_type a b c d f) mix m e h = absurd cc
+free_types (auto_word a) mix m e h = absurd cc
 
 none_from : (ws : SpecWords) → mix_from None ws ≡ None
 none_from no_words = refl
@@ -146,3 +151,67 @@ pub words_are_completed : WordsAreCompleted
 words_are_completed ws begins none =
     let made = made_whole ws begins none in
     (made.keyword, (λ token. ap whole_in (mix_of_pushed ws (basic (word_of made.keyword token))) ∙ made.whole))
+
+-- Behind a word that names a type no base word goes on.
+abbrev IsNamedMix : Option Mix → Type 0
+IsNamedMix None = Unit {0}
+IsNamedMix (Some mix) = mix.types ≡ Named
+
+named_then : (mix : Mix) (class : Class) → mix.types ≡ Named → IsNamedMix (then_class (Some mix) class)
+named_then mix (classes.Stores keyword) h = by_storage (stored mix.storage (storing keyword))
+  where
+    by_storage : (o : Option Storage) → IsNamedMix (storage_put mix o)
+    by_storage None = tt
+    by_storage (Some after) = h
+named_then mix (classes.Spells keyword) h = rw h tt
+named_then mix classes.Named h = rw h tt
+named_then mix classes.Free h = h
+
+named_from : (ws : SpecWords) (mix : Option Mix) → IsNamedMix mix → IsNamedMix (mix_from mix ws)
+named_from no_words mix h = h
+named_from (more_words w ws) None h = named_from ws None tt
+named_from (more_words w ws) (Some mix) h = named_from ws (then_class (Some mix) (class_of w)) (named_then mix (class_of w) h)
+
+named_class : (mix : Option Mix) → IsNamedMix (then_class mix classes.Named)
+named_class None = tt
+named_class (Some mix) = by_types mix.types
+  where
+    by_types : (types : Types) → IsNamedMix (with_types mix (with_named types))
+    by_types (Words bases.Nothing marks.Unmarked) = refl
+    by_types types = tt
+
+auto_class : (w : SpecWord) → is_auto w ≡ true → class_of w ≡ classes.Named
+auto_class (auto_word token) h = refl
+auto_class w h = absurd cc
+
+auto_mix : (ws : SpecWords) (mix : Option Mix) → has_auto ws ≡ true → IsNamedMix (mix_from mix ws)
+auto_mix no_words mix h = absurd cc
+auto_mix (more_words w ws) mix h = by_word (is_auto w) refl h (auto_mix ws (then_class mix (class_of w)))
+  where
+    by_word : (b : Bool) → is_auto w ≡ b → b || has_auto ws ≡ true → (has_auto ws ≡ true → IsNamedMix (mix_from (then_class mix (class_of w)) ws)) → IsNamedMix (mix_from (then_class mix (class_of w)) ws)
+    by_word true is h later = named_from ws (then_class mix (class_of w)) (subst (λ (class : Class). IsNamedMix (then_class mix class)) (sym (auto_class w is)) (named_class mix))
+    by_word false is h later = later h
+
+pub auto_base : (ws : SpecWords) → has_auto ws ≡ true → goes_on ws (classes.Spells keywords.BaseWord) ≡ false
+auto_base ws h = by_mix (mix_of ws) (auto_mix ws (Some no_mix) h)
+  where
+    by_mix : (mix : Option Mix) → IsNamedMix mix → is_some (then_class mix (classes.Spells keywords.BaseWord)) ≡ false
+    by_mix None h = refl
+    by_mix (Some mix) h = rw h refl
+
+-- `__auto_type` among words is one of the first, or the last
+pub pushed_auto : (ws : SpecWords) (w : SpecWord) → has_auto (pushed ws w) ≡ true → (has_auto ws ≡ true) ⊎ (is_auto w ≡ true)
+pushed_auto no_words w h = by_word (is_auto w) refl h
+  where
+    by_word : (b : Bool) → is_auto w ≡ b → b || false ≡ true → (false ≡ true) ⊎ (is_auto w ≡ true)
+    by_word true is h = inr is
+    by_word false is h = absurd cc
+pushed_auto (more_words x ws) w h = by_word (is_auto x) refl h (pushed_auto ws w)
+  where
+    by_word : (b : Bool) → is_auto x ≡ b → b || has_auto (pushed ws w) ≡ true → (has_auto (pushed ws w) ≡ true → (has_auto ws ≡ true) ⊎ (is_auto w ≡ true)) → (b || has_auto ws ≡ true) ⊎ (is_auto w ≡ true)
+    by_word true is h later = inl refl
+    by_word false is h later = later h
+
+pub auto_named : (w : SpecWord) → is_auto w ≡ true → (class_of w ≡ classes.Named) × (spec_word_height w ≡ 1)
+auto_named (auto_word token) h = (refl, refl)
+auto_named w h = absurd cc

@@ -7,37 +7,40 @@ use Rattle.c_words.specs.declared.kinds.TokenKind.TheVariants as kinds
 use Rattle.c_words.specs.declared.kinds.Punct.TheVariants as puncts
 use Rattle.c_tree.specs.declared.lexeme.Lexeme.{Lexeme}
 use Rattle.c_syntax.specs.declared.parts.Attr.{Attr}
+use Rattle.c_syntax.specs.declared.parts.Identifier.{Identifier}
 use Rattle.c_syntax.specs.declared.parts.Qual.{Qual}
 use Rattle.c_syntax.specs.declared.parts.ArrayWord.{ArrayWord}
-use Rattle.c_tree.specs.Tree.{SpecWords, no_words, more_words, SomeDeclr, some_declr, SomeSize, no_size, some_size, size_value, size_star, Dots}
+use Rattle.c_tree.specs.Tree.{SpecWords, no_words, more_words, Declr, identifiers, SomeDeclr, no_declr, some_declr, SomeSize, no_size, some_size, size_value, size_star, Dots}
 use Rattle.typedef_scope.specs.declared.kind.Kind.TheVariants.{Value}
-use Rattle.c_units.specs.HeldScopes.{HeldScopes, no_scope, enter, leave, innermost, release}
+use Rattle.c_units.specs.HeldScopes.{HeldScopes, is_wide, new_scope, enter, leave, innermost, release}
 use Rattle.c_reading.specs.declared.kinds.Reach.TheVariants.{Assigned}
-use Rattle.c_reading.specs.declared.kinds.Role.TheVariants.{Declaring}
+use Rattle.c_reading.specs.declared.kinds.Role.TheVariants.{Typed}
 use Rattle.c_reading.specs.declared.kinds.Mode.TheVariants.{Either}
 use Rattle.c_reading.specs.Reading.{Found, Read, Reader, ends, fits, kind_at, take_one, token_at, repeated, repeated_turn, run, listed, Next, one_more, list_end, CommaList, and_then, is_comma}
-use Rattle.c_reading.specs.Tokens.{is_made, qual_of, array_word_of, is_open_bracket, is_close_bracket, is_open_paren, is_close_paren, is_star, is_dots, is_attribute, quals_at, array_words_at, attr_at, attrs_at}
+use Rattle.c_reading.specs.Tokens.{is_made, word_qual_of, array_word_of, is_open_bracket, is_close_bracket, is_open_paren, is_close_paren, is_star, is_dots, is_attribute, quals_at, array_words_at, attr_at, attrs_at}
 use Rattle.c_reading.specs.Parts.{Inner, nothing, star, Declared, ParamItem, params_from}
 use Rattle.c_reading.specs.Specifying.{specs_here}
-use Rattle.c_reading.specs.Declaring.{are_none, takes_attrs, with_array, with_params, closed_by, words_of_quals, words_of_attrs, star_size, size_with, array_with, param_attrs, param_with, next_param, params_with, prototype_with, params_behind}
+use Rattle.c_reading.specs.Declaring.{is_identifier, begins_identifiers, identifier_at, names_list, identifiers_of, identifiers_with, list_behind, is_bare, are_none, takes_attrs, with_array, with_params, closed_by, words_of_quals, words_of_attrs, star_size, size_with, array_with, param_attrs, param_with, next_param, params_with, prototype_with, params_behind}
 use Rattle.c_reading.proofs.Binding.{found, done, ok_is, bind_ok, bind_is, fits_ok, take_falls, token_falls, if_ok}
 use Rattle.c_reading.proofs.Loops.{after, run_is, run_ends}
 use Rattle.c_reading.proofs.Forms.{Falls, Shrinks}
 use Rattle.c_reading.proofs.Rows.{row_turn_shrinks}
 use Rattle.c_reading.proofs.Commas.{listed_shrinks}
 use Rattle.c_reading.proofs.KnotLaws.{none_tokens}
-use Rattle.c_reading.proofs.DeclrFalls.{param_shrinks, next_param_falls}
+use Rattle.c_reading.proofs.DeclrFalls.{identifier_shrinks, names_shrink, prototype_shrinks, param_shrinks, next_param_falls}
 use Rattle.c_reading.proofs.Aims.{Laws}
 use Rattle.reading_steps.specs.Steps.{any, Good, Law}
 use Rattle.reading_steps.specs.Stops.{stops_operand, stops_type, stops_specs}
 use Rattle.reading_steps.specs.InnerLaws.{InnerLaws}
 use Rattle.reading_steps.proofs.Keeping.{kept_refl, release_kept}
-use Rattle.reading_steps.proofs.Steps.{behind, in_scope, own_good, ends_good, good_as, if_good, ready_ends, ready_as, bind_law, take_behind, ends_law, token_law, good_before, ready_before, good_weaker, ready_weaker, good_from, ready_from}
+use Rattle.reading_steps.proofs.Steps.{behind, kind_same, in_scope, own_good, ends_good, good_as, if_good, ready_ends, ready_as, bind_law, take_behind, ends_law, token_law, good_before, ready_before, good_weaker, ready_weaker, good_from, ready_from}
 use Rattle.reading_steps.proofs.Lists.{listed_good}
 use Rattle.token_places.proofs.Single.{open_paren_end, open_bracket_end, close_bracket_end, close_paren_end, dots_end, star_end, mapped_good, mapped_law}
 use Rattle.token_places.proofs.Rows.{attrs_law, quals_law, array_words_law}
+use Rattle.token_places.proofs.Names.{names_law}
 use Rattle.decl_places.proofs.Helping.{left_is, token_then_shrinks, repeated_room, behind_good, never_behind}
 use Rattle.decl_places.proofs.Members.{specs_here_good, specs_here_room}
+use Rattle.decl_places.proofs.Identifiers.{identifier_law}
 
 bracket_operand : (kind : TokenKind) → is_close_bracket kind ≡ true → stops_operand kind ≡ true
 bracket_operand (kinds.Punct puncts.CloseBracket) h = refl
@@ -67,7 +70,7 @@ paren_dots : (kind : TokenKind) → is_close_paren kind ≡ true → is_dots kin
 paren_dots (kinds.Punct puncts.CloseParen) h = refl
 paren_dots kind h = absurd cc
 
-dots_qual : (kind : TokenKind) → is_dots kind ≡ true → is_made (qual_of kind) ≡ false
+dots_qual : (kind : TokenKind) → is_dots kind ≡ true → is_made (word_qual_of kind) ≡ false
 dots_qual (kinds.Punct puncts.Ellipsis) h = refl
 dots_qual kind h = absurd cc
 
@@ -81,7 +84,7 @@ paren_or : (kind : TokenKind) → is_close_paren kind ≡ true → dots_or_paren
 paren_or (kinds.Punct puncts.CloseParen) h = refl
 paren_or kind h = absurd cc
 
-or_qual : (kind : TokenKind) → dots_or_paren kind ≡ true → is_made (qual_of kind) ≡ false
+or_qual : (kind : TokenKind) → dots_or_paren kind ≡ true → is_made (word_qual_of kind) ≡ false
 or_qual (kinds.Punct puncts.Ellipsis) h = refl
 or_qual (kinds.Punct puncts.CloseParen) h = refl
 or_qual kind h = absurd cc
@@ -247,29 +250,30 @@ module _ (n : ℕ) (inner : Inner) (places : InnerLaws n inner) (laws : Laws [] 
       type_specs : (kind : TokenKind) → stops_type kind ≡ true → stops_specs kind ≡ true
       type_specs (kinds.Punct puncts.CloseParen) h = refl
       type_specs (kinds.Punct puncts.Comma) h = refl
+      type_specs (kinds.Punct puncts.Colon) h = refl
       type_specs kind h = absurd cc
 
   param_good : (known : SpecWords) (room : ℕ) → room < suc n → 1 ≤ room → (s : HeldScopes) (ts : List Lexeme) → Good false (param_with inner known room) is_close_paren s ts
   unfolding param_with
   param_good no_words room less one s ts =
-      behind_good false (specs_here inner room) (param_rest room) stops_specs is_close_paren s ts (good_weaker false (specs_here inner room) stops_specs s ts (specs_here_good n inner places laws room less s ts))
+      behind_good false (specs_here inner Typed room) (param_rest room) stops_specs is_close_paren s ts (good_weaker false (specs_here inner Typed room) stops_specs s ts (specs_here_good n inner places laws Typed room less s ts))
       (param_rest_law room less one) (inr paren_specs)
   param_good (more_words w ws) room less one s ts =
-      behind_good false (inner.specs Declaring (more_words w ws) (room - 1)) (param_rest room) stops_specs is_close_paren s ts
-      (good_weaker false (inner.specs Declaring (more_words w ws) (room - 1)) stops_specs s ts (places.words.good Declaring (more_words w ws) (room - 1) (omega (arith, less, one)) s ts))
+      behind_good false (inner.specs Typed (more_words w ws) (room - 1)) (param_rest room) stops_specs is_close_paren s ts
+      (good_weaker false (inner.specs Typed (more_words w ws) (room - 1)) stops_specs s ts (places.words.good Typed (more_words w ws) (room - 1) (omega (arith, less, one)) s ts))
       (param_rest_law room less one) (inr paren_specs)
 
   -- without room for words no parameter is read
   param_never : (room : ℕ) → room < 1 → (s : HeldScopes) (ts : List Lexeme) (x : Found ParamItem) → param_with inner no_words room s ts ≡ done x → ⊥
   unfolding param_with
-  param_never room none s ts x e = let a = bind_ok e in let two = specs_here_room n inner places laws room s ts a.0 a.1 in omega (arith, none, two)
+  param_never room none s ts x e = let a = bind_ok e in let two = specs_here_room n inner places laws Typed room s ts a.0 a.1 in omega (arith, none, two)
 
   param_refused : (room : ℕ) → room < suc n → room < 1 → (s : HeldScopes) (ts : List Lexeme) → Good false (param_with inner no_words room) is_close_paren s ts
   unfolding param_with
   param_refused room less none s ts =
-      never_behind false (specs_here inner room) (param_rest room) stops_specs is_close_paren (kinds.Punct puncts.CloseParen) refl s ts
-      (λ k x e. let two = specs_here_room n inner places laws room s k x e in absurd (omega (arith, none, two)))
-      (good_weaker false (specs_here inner room) stops_specs s ts (specs_here_good n inner places laws room less s ts))
+      never_behind false (specs_here inner Typed room) (param_rest room) stops_specs is_close_paren (kinds.Punct puncts.CloseParen) refl s ts
+      (λ k x e. let two = specs_here_room n inner places laws Typed room s k x e in absurd (omega (arith, none, two)))
+      (good_weaker false (specs_here inner Typed room) stops_specs s ts (specs_here_good n inner places laws Typed room less s ts))
 
   abbrev quals_rest : ℕ → ℕ → List Qual → Reader (Next ParamItem Dots)
   quals_rest room comma quals s ts =
@@ -353,7 +357,7 @@ module _ (n : ℕ) (inner : Inner) (places : InnerLaws n inner) (laws : Laws [] 
   abbrev closed_list : CommaList ParamItem Dots → ℕ → Closed
   closed_list ps closing = record { list = ps; closing = closing }
 
-  prototype_is : (d : Declared) (opening : ℕ) (lead : List Attr) (room : ℕ) (s : HeldScopes) (k : List Lexeme) → prototype_with inner d opening lead room s k ≡ in_scope (λ s. no_scope) (inside lead (room - 1)) (declared_of d opening) s k
+  prototype_is : (d : Declared) (opening : ℕ) (lead : List Attr) (room : ℕ) (s : HeldScopes) (k : List Lexeme) → prototype_with inner d opening lead room s k ≡ in_scope (λ s. new_scope (is_wide s)) (inside lead (room - 1)) (declared_of d opening) s k
   unfolding prototype_with and_then
   prototype_is d opening lead room s k = by_params (params_with inner lead (room - 1) (enter s) k)
     where
@@ -372,27 +376,98 @@ module _ (n : ℕ) (inner : Inner) (places : InnerLaws n inner) (laws : Laws [] 
 
   pub prototype_good : (d : Declared) (opening : ℕ) (lead : List Attr) (room : ℕ) → room < suc n → 1 ≤ room → LeadFits lead (room - 1) → (s : HeldScopes) (ts : List Lexeme) → Good true (prototype_with inner d opening lead room) any s ts
   prototype_good d opening lead room less one fit s ts =
-      good_as true (in_scope (λ s. no_scope) (inside lead (room - 1)) (declared_of d opening)) (prototype_with inner d opening lead room) any s ts (λ k e. prototype_is d opening lead room s k) (inr (λ k e. prototype_is d opening lead room s k))
-      (own_good (λ s. no_scope) (inside lead (room - 1)) (declared_of d opening) any s ts (inside_good lead (room - 1) (omega (arith, less, one)) fit (no_scope ∷ s) ts))
+      good_as true (in_scope (λ s. new_scope (is_wide s)) (inside lead (room - 1)) (declared_of d opening)) (prototype_with inner d opening lead room) any s ts (λ k e. prototype_is d opening lead room s k) (inr (λ k e. prototype_is d opening lead room s k))
+      (own_good (λ s. new_scope (is_wide s)) (inside lead (room - 1)) (declared_of d opening) any s ts (inside_good lead (room - 1) (omega (arith, less, one)) fit (new_scope (is_wide s) ∷ s) ts))
 
   -- no parameters
   pub empty_read : (d : Declared) (opening room : ℕ) (s : HeldScopes) (at : ℕ) →
       (made : Declared) × ((k : List Lexeme) → prototype_with inner d opening [] room s (record { kind = kinds.Punct puncts.CloseParen; at = at } ∷ k) ≡ ends made s k)
   unfolding prototype_with params_with and_then
-  empty_read d opening room s at = (record { declr = some_declr (with_params d.declr opening (params_from []) None at); closed = closed_by d.declr no_scope d.closed }, (λ k. refl))
+  empty_read d opening room s at = (record { declr = some_declr (with_params d.declr opening (params_from []) None at); closed = closed_by d.declr (new_scope (is_wide s)) d.closed }, (λ k. refl))
 
-  pub params_behind_good : (d : Declared) (room : ℕ) → room < suc n → 1 ≤ room → (s : HeldScopes) (ts : List Lexeme) → is_open_paren (kind_at ts) ≡ true → Good true (params_behind inner d room) any s ts
-  params_behind_good d room less one s ts is =
-      take_behind true (λ opening. prototype_with inner d opening [] room) any
+  -- A list of identifiers, in the parentheses behind a declarator of a function.
+
+  abbrev identifiers_made : Bool → Declr → ℕ → List Identifier → ℕ → Declared
+  identifiers_made wide d opening names closing = record { declr = some_declr (identifiers d opening names closing); closed = Some (new_scope wide) }
+
+  abbrev identifiers_part : Bool → Declr → ℕ → Reader Declared
+  identifiers_part wide d opening = behind (names_list identifier_at) (λ names. behind (token_at is_close_paren) (λ closing. ends (identifiers_made wide d opening names closing)))
+
+  identifiers_good : (d : Declr) (opening : ℕ) (s : HeldScopes) (ts : List Lexeme) → Good true (identifiers_with inner d opening) any s ts
+  unfolding identifiers_with
+  identifiers_good d opening s ts =
+      good_as true (identifiers_part (is_wide s) d opening) (identifiers_with inner d opening) any s ts (λ k e. refl) (inr (λ k e. refl))
+      ((bind_law true (names_list identifier_at) (λ names. behind (token_at is_close_paren) (λ closing. ends (identifiers_made (is_wide s) d opening names closing))) any is_close_paren any
+      (names_law true identifier_at identifier_shrinks any is_close_paren paren_comma (identifier_law true any (λ name. refl)))
+      (λ names. bind_law true (token_at is_close_paren) (λ closing. ends (identifiers_made (is_wide s) d opening names closing)) is_close_paren any any
+      (token_law true is_close_paren (kinds.Punct puncts.CloseParen) is_close_paren close_paren_end refl refl)
+      (λ closing. ends_law true (identifiers_made (is_wide s) d opening names closing) any any (λ kind h. h)) (inr (λ kind h. h)))
+      (inl (λ names t us y e. token_then_shrinks is_close_paren (λ closing. identifiers_made (is_wide s) d opening names closing) t us y e))).good s ts)
+
+  -- identifiers where a test of the token and the scopes says so, else parameters
+  abbrev identified : Bool → Declared → HeldScopes → TokenKind → Bool
+  identified flag d s kind = flag && is_bare d.declr && begins_identifiers s kind
+
+  abbrev list_part : Bool → Declared → ℕ → ℕ → Reader Declared
+  list_part flag d opening room s ts = list_behind inner (identified flag d s (kind_at ts)) d opening room s ts
+
+  identifiers_shrinks : (d : Declr) (opening : ℕ) → Shrinks (identifiers_with inner d opening)
+  unfolding identifiers_with
+  identifiers_shrinks d opening s ts x e =
+      let a = bind_ok e in
+      let b = bind_ok a.2 in
+      let less : length a.0.rest < length ts = names_shrink [] none_tokens n inner laws s ts a.0 a.1 in
+      omega (arith, less, token_falls is_close_paren _ _ _ b.1, left_is b.2)
+
+  either_shrinks : (b : Bool) (d : Declared) (opening room : ℕ) → Shrinks (list_behind inner b d opening room)
+  either_shrinks false d opening room s ts x e = prototype_shrinks [] none_tokens n inner laws d opening [] room s ts x e
+  either_shrinks true d opening room s ts x e = by_declr d.declr e
+    where
+      by_declr : (inside : SomeDeclr) → identifiers_of inside (λ inside. identifiers_with inner inside opening s ts) (prototype_with inner d opening [] room s ts) ≡ done x → length x.rest < length ts
+      by_declr no_declr e = prototype_shrinks [] none_tokens n inner laws d opening [] room s ts x e
+      by_declr (some_declr inside) e = identifiers_shrinks inside opening s ts x e
+
+  list_part_shrinks : (flag : Bool) (d : Declared) (opening room : ℕ) → Shrinks (list_part flag d opening room)
+  list_part_shrinks flag d opening room s ts x e = either_shrinks (identified flag d s (kind_at ts)) d opening room s ts x e
+
+  list_part_good : (flag : Bool) (d : Declared) (opening room : ℕ) → room < suc n → 1 ≤ room → (s : HeldScopes) (ts : List Lexeme) → Good true (list_part flag d opening room) any s ts
+  list_part_good flag d opening room less one s ts = by_test (identified flag d s (kind_at ts)) refl
+    where
+      prototypes : Good true (prototype_with inner d opening [] room) any s ts
+      prototypes = prototype_good d opening [] room less one (inl refl) s ts
+
+      by_declr : (inside : SomeDeclr) → Good true (λ s ts. identifiers_of inside (λ inside. identifiers_with inner inside opening s ts) (prototype_with inner d opening [] room s ts)) any s ts
+      by_declr no_declr = prototypes
+      by_declr (some_declr inside) = identifiers_good inside opening s ts
+
+      by_test : (b : Bool) → identified flag d s (kind_at ts) ≡ b → Good true (list_part flag d opening room) any s ts
+      by_test true is =
+          good_as true (λ s ts. identifiers_of d.declr (λ inside. identifiers_with inner inside opening s ts) (prototype_with inner d opening [] room s ts)) (list_part flag d opening room) any s ts
+          (λ k e. rw (kind_same k ts e, is) refl) (inl (λ x e. list_part_shrinks flag d opening room s ts x (rw is e))) (by_declr d.declr)
+      by_test false is =
+          good_as true (prototype_with inner d opening [] room) (list_part flag d opening room) any s ts (λ k e. rw (kind_same k ts e, is) refl)
+          (inl (λ x e. list_part_shrinks flag d opening room s ts x (rw is e))) prototypes
+
+  pub params_behind_good : (flag : Bool) (d : Declared) (room : ℕ) → room < suc n → 1 ≤ room → (s : HeldScopes) (ts : List Lexeme) → is_open_paren (kind_at ts) ≡ true → Good true (params_behind inner flag d room) any s ts
+  params_behind_good flag d room less one s ts is =
+      take_behind true (λ opening. list_part flag d opening room) any
       (λ opening. record {
-        good = λ s ts. prototype_good d opening [] room less one (inl refl) s ts;
+        good = λ s ts. list_part_good flag d opening room less one s ts;
         ready = λ s at. record {
           more = kinds.Punct puncts.CloseParen ∷ [];
           tree = (empty_read d opening room s at).0;
           scopes = s;
           keeps = kept_refl true s;
           begins = λ k h. refl;
-          reads = λ k h. (empty_read d opening room s at).1 k;
+          reads = λ k h.
+              ap (λ (b : Bool). list_behind inner b d opening room s (record { kind = kinds.Punct puncts.CloseParen; at = at } ∷ k)) (never flag (is_bare d.declr) (is_wide s))
+              ∙ (empty_read d opening room s at).1 k;
         };
       })
       s ts (open_paren_end (kind_at ts) is)
+    where
+      never : (a b c : Bool) → ((a && b) && (c && false)) ≡ false
+      never true true true = refl
+      never true true false = refl
+      never true false c = refl
+      never false b c = refl

@@ -17,7 +17,7 @@ use Rattle.c_reading.specs.declared.kinds.Mode.TheVariants.{Named, Abstract, Eit
 use Rattle.c_reading.specs.Reading.{Found, ends, fits, kind_at}
 use Rattle.c_reading.specs.Tokens.{is_open_paren, is_open_bracket, is_star, spelled_name}
 use Rattle.c_reading.specs.Parts.{Inner, Declared, TypeName}
-use Rattle.c_reading.specs.Declaring.{least_pointer, takes_name, room_at, opens_params, opens_declr, absent, name_held, array_with, prototype_with, params_behind, suffix_turn, paren_with, named_paren, opened_by, opened_with, some_paren, name_or_none, core_with, direct_with, pointer_with, declr_with, type_name_with}
+use Rattle.c_reading.specs.Declaring.{is_bare, begins_identifiers, identifiers_of, identifiers_with, list_behind, names_base, base_named, least_pointer, takes_name, room_at, opens_params, opens_declr, absent, name_held, array_with, prototype_with, params_behind, suffix_turn, paren_with, named_paren, opened_by, opened_with, some_paren, name_or_none, core_with, direct_with, pointer_with, declr_with, type_name_with}
 use Rattle.c_reading.proofs.Binding.{done, ok_is, bind_ok, fits_ok, if_ok}
 use Rattle.c_reading.proofs.Loops.{run-keep}
 use Rattle.c_reading.proofs.Aims.{Laws}
@@ -32,6 +32,7 @@ use Rattle.decl_places.proofs.Declr.{declr_good, declr_named, declr_absent, decl
 type_specs : (kind : TokenKind) → stops_type kind ≡ true → stops_specs kind ≡ true
 type_specs (kinds.Punct puncts.CloseParen) h = refl
 type_specs (kinds.Punct puncts.Comma) h = refl
+type_specs (kinds.Punct puncts.Colon) h = refl
 type_specs kind h = absurd cc
 
 some_is : {A : Type 0} {x y : A} → Some x ≡ Some y → x ≡ y
@@ -61,6 +62,21 @@ module _ (n : ℕ) (inner : Inner) (places : InnerLaws n inner) (laws : Laws [] 
       let a = bind_ok e in
       let b = bind_ok a.2 in
       subst (λ (x : Found Declared). There x.tree.declr) (ok_is b.2) (_, refl)
+
+  identifiers_there : (inside : Declr) (opening : ℕ) (s : HeldScopes) (ts : List Lexeme) (x : Found Declared) → identifiers_with inner inside opening s ts ≡ done x → There x.tree.declr
+  unfolding identifiers_with
+  identifiers_there inside opening s ts x e =
+      let a = bind_ok e in
+      let b = bind_ok a.2 in
+      subst (λ (x : Found Declared). There x.tree.declr) (ok_is b.2) (_, refl)
+
+  list_there : (b : Bool) (d : Declared) (opening room : ℕ) (s : HeldScopes) (ts : List Lexeme) (x : Found Declared) → list_behind inner b d opening room s ts ≡ done x → There x.tree.declr
+  list_there false d opening room s ts x e = prototype_there d opening [] room s ts x e
+  list_there true d opening room s ts x e = by_declr d.declr e
+    where
+      by_declr : (inside : SomeDeclr) → identifiers_of inside (λ inside. identifiers_with inner inside opening s ts) (prototype_with inner d opening [] room s ts) ≡ done x → There x.tree.declr
+      by_declr no_declr e = prototype_there d opening [] room s ts x e
+      by_declr (some_declr inside) e = identifiers_there inside opening s ts x e
 
   paren_there : (mode : Mode) (wanted : Option Kind) (flag : Bool) (opening : ℕ) (attrs : List Attr) (room : ℕ) (s : HeldScopes) (ts : List Lexeme) (x : Found Declared) →
       paren_with inner mode wanted flag opening attrs room s ts ≡ done x → There x.tree.declr
@@ -120,10 +136,17 @@ module _ (n : ℕ) (inner : Inner) (places : InnerLaws n inner) (laws : Laws [] 
   name_read mode wanted (Some name) room s ts x e =
       if_ok (takes_name mode) e (λ is e. held_read name room (at_name wanted name s) s ts x e) (λ is e. absent_read mode room s ts x e)
 
+  base_read : (room : ℕ) (s : HeldScopes) (ts : List Lexeme) (x : Found Declared) → base_named room s ts ≡ done x → Read room ts x.tree x.rest
+  base_read room s ts x e =
+      let r = fits_ok 1 room ts e in
+      let a = bind_ok r.1 in
+      inr (r.0, subst (λ (x : Found Declared). There x.tree.declr) (ok_is a.2) (_, refl))
+
   core_read : (mode : Mode) (wanted : Option Kind) (flag : Bool) (room : ℕ) (s : HeldScopes) (ts : List Lexeme) (x : Found Declared) → core_with inner mode wanted flag room s ts ≡ done x → Read room ts x.tree x.rest
   unfolding core_with
   core_read mode wanted flag room s ts x e =
-      if_ok (is_open_paren (kind_at ts)) e (λ is e. inr (paren_read mode wanted flag room s ts x e)) (λ is e. name_read mode wanted (spelled_name (kind_at ts)) room s ts x e)
+      if_ok (is_open_paren (kind_at ts)) e (λ is e. inr (paren_read mode wanted flag room s ts x e)) (λ is e.
+      if_ok (names_base s mode wanted (kind_at ts)) e (λ base e. base_read room s ts x e) (λ plain e. name_read mode wanted (spelled_name (kind_at ts)) room s ts x e))
 
   room_behind : (flag : Bool) (room : ℕ) (d : Declared) (kind : TokenKind) → d ≡ nothing_yet → room_at flag room d kind ≡ room
   room_behind flag room d kind e = ap (λ (d : Declared). room_at flag room d kind) e ∙ by_flag flag (is_open_paren kind)
@@ -143,15 +166,15 @@ module _ (n : ℕ) (inner : Inner) (places : InnerLaws n inner) (laws : Laws [] 
           by_read (inl none) = let same = room_behind flag room d (kind_at k) none.1 in omega (arith, fit, same)
           by_read (inr some) = some.0
 
-      by_paren : (b : Bool) → (if b then Some (fits (suc (some_declr_height d.declr)) (room_at flag room d (kind_at k)) k (params_behind inner d (room_at flag room d (kind_at k)) s k)) else None) ≡ Some (done x) → (1 ≤ room) × There x.tree.declr
+      by_paren : (b : Bool) → (if b then Some (fits (suc (some_declr_height d.declr)) (room_at flag room d (kind_at k)) k (params_behind inner flag d (room_at flag room d (kind_at k)) s k)) else None) ≡ Some (done x) → (1 ≤ room) × There x.tree.declr
       by_paren false e = absurd cc
       by_paren true e =
           let r = fits_ok (suc (some_declr_height d.declr)) (room_at flag room d (kind_at k)) k (some_is e) in
           let a = bind_ok r.1 in
-          (one (some_declr_height d.declr) r.0, prototype_there d a.0.tree [] (room_at flag room d (kind_at k)) a.0.scopes a.0.rest x a.2)
+          (one (some_declr_height d.declr) r.0, list_there (flag && is_bare d.declr && begins_identifiers a.0.scopes (kind_at a.0.rest)) d a.0.tree (room_at flag room d (kind_at k)) a.0.scopes a.0.rest x a.2)
 
       by_bracket : (b : Bool) → (if b then Some (fits (suc (some_declr_height d.declr)) (room_at flag room d (kind_at k)) k (array_with inner d (room_at flag room d (kind_at k)) s k))
-          else if is_open_paren (kind_at k) then Some (fits (suc (some_declr_height d.declr)) (room_at flag room d (kind_at k)) k (params_behind inner d (room_at flag room d (kind_at k)) s k)) else None) ≡ Some (done x) →
+          else if is_open_paren (kind_at k) then Some (fits (suc (some_declr_height d.declr)) (room_at flag room d (kind_at k)) k (params_behind inner flag d (room_at flag room d (kind_at k)) s k)) else None) ≡ Some (done x) →
           (1 ≤ room) × There x.tree.declr
       by_bracket true e =
           let r = fits_ok (suc (some_declr_height d.declr)) (room_at flag room d (kind_at k)) k (some_is e) in

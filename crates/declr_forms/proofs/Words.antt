@@ -10,7 +10,7 @@ use Rattle.c_tree.specs.Unit.{spec_words_from}
 use Rattle.c_tree.specs.declared.lexeme.Lexeme.{Lexeme}
 use Rattle.c_syntax.specs.declared.specifier.SpecWord.{SpecWord}
 use Rattle.c_units.specs.HeldScopes.{HeldScopes}
-use Rattle.c_reading.specs.declared.kinds.Role.TheVariants.{Declaring}
+use Rattle.c_reading.specs.declared.kinds.Role.TheVariants.{Typed}
 use Rattle.c_reading.specs.Parts.{Inner, params_from}
 use Rattle.c_reading.specs.Declaring.{words_of_quals, words_of_attrs, param_words}
 use Rattle.declr_forms.specs.Views.{item_of}
@@ -33,6 +33,6 @@ item_pushed (q ∷ ps) p = ap (λ rest. item_of q ∷ rest) (item_pushed ps p)
 
 -- words that were read already are those that the specifiers begin with
 pub words_behind : (inner : Inner) (words : List SpecWord) (room : ℕ) (s : HeldScopes) (ts : List Lexeme) → 1 ≤ length words →
-    param_words inner (spec_words_from words) room s ts ≡ inner.specs Declaring (spec_words_from words) (room - 1) s ts
+    param_words inner (spec_words_from words) room s ts ≡ inner.specs Typed (spec_words_from words) (room - 1) s ts
 words_behind inner [] room s ts some = absurd (omega (arith, some))
 words_behind inner (word ∷ words) room s ts some = refl

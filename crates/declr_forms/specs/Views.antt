@@ -1,5 +1,5 @@
 -- The parts of declarators that readers of the program answer, as those of token lists.
-use Rattle.std.specs.Prelude.{ℕ, suc, Bool, map, option_map, List, Option, Result}
+use Rattle.std.specs.Prelude.{ℕ, suc, Bool, ◌&&◌, map, option_map, List, Option, Result}
 use Rattle.c_nodes.specs.declared.sized.SizedParam.{SizedParam}
 use Rattle.c_nodes.specs.declared.sized.SizedSize.{SizedSize}
 use Rattle.c_syntax.specs.declared.declarator.Param.{Param}
@@ -75,8 +75,13 @@ abbrev pub brackets_at : ℕ → Bool → ℕ → Declared → Reader Declared
 brackets_at depth flag room d s ts = fitting flag room d (declaring.array_with (knot depth) d) s ts
 
 abbrev pub params_at : ℕ → Bool → ℕ → Declared → Reader Declared
-params_at depth flag room d s ts = fitting flag room d (declaring.params_behind (knot depth) d) s ts
+params_at depth flag room d s ts = fitting flag room d (declaring.params_behind (knot depth) flag d) s ts
 
 -- a declarator in parentheses, behind these and its attributes
 abbrev pub paren_behind : ℕ → Mode → Option Kind → Bool → ℕ → List Attr → ℕ → Reader Declared
 paren_behind depth mode wanted flag opening attrs room s ts = declaring.paren_with (knot depth) mode wanted flag opening attrs room s ts
+
+-- parameters, or a list of identifiers where one begins, behind what may be a function's declarator and the parenthesis
+abbrev pub behind_paren : ℕ → Declared → ℕ → ℕ → Reader Declared
+behind_paren depth d opening room s ts =
+    declaring.list_behind (knot depth) (declaring.is_bare d.declr && declaring.begins_identifiers s (kind_at ts)) d opening room s ts

@@ -13,7 +13,7 @@ ghost use Rattle.c_reading.specs.Tokens as tokens;
 ghost use Rattle.declr_forms.specs.Views.{paren_behind};
 ghost use Rattle.reader_base.specs.Lent.{Lends, ReadsDeclr};
 
-use crate::names::{name_or_none, takes_name};
+use crate::names::{base_named, name_or_none, names_base, takes_name};
 use crate::prototypes::prototype;
 use crate::suffixes::suffixes;
 use c_nodes::{no_declr, with_paren, with_pointer};
@@ -235,6 +235,8 @@ where
 {
     if is_open_paren(kind_at(place.rest)) {
         some_paren(lent, mode, wanted, flag, room, place, depth)
+    } else if names_base(mode, wanted, place) {
+        base_named(room, place)
     } else {
         name_or_none(mode, wanted, room, place, depth)
     }

@@ -4,14 +4,17 @@ ghost use Rattle.std.specs.Prelude.{◌≡◌, IfOk};
 ghost use Rattle.std.specs.Bool.{then_some};
 ghost use Rattle.c_units.specs.Scoping.{at_name};
 ghost use Rattle.c_reading.specs.Declaring as declaring;
+ghost use Rattle.c_reading.specs.Reading as reading;
 ghost use Rattle.c_reading.specs.Knot.{knot};
 ghost use Rattle.declr_forms.specs.Names as names;
 ghost use Rattle.reader_base.specs.Lent.{ReadsDeclr};
 
-use c_nodes::{declr_name, no_declr};
+use c_nodes::{base_name, declr_name, no_declr};
 use c_reading::{Fault, Mode};
 use qual_base::{NameId, NoMemory};
-use reader_base::{Declared, Place, ReadError, kind_at, refused, room_for, spelled_name};
+use reader_base::{
+    Declared, Place, ReadError, is_base_word, kind_at, refused, room_for, spelled_name, take_one,
+};
 use typedef_scope::Kind;
 
 /// Whether a declarator with a name may stand.
@@ -95,4 +98,31 @@ pub(crate) fn name_or_none(
     } else {
         absent(mode, place)
     }
+}
+
+/// Whether a base word stands here as the name of a typedef, in wider C.
+pub(crate) fn names_base(mode: Mode, wanted: Option<Kind>, place: &Place) -> bool
+    ensures { result ≡ declaring.names_base place.now.scopes mode wanted
+        (reading.kind_at place.now.rest.now) }
+{
+    match (mode, wanted) {
+        (Mode::Named, Some(Kind::Typedef)) => {
+            place.scopes.is_wide() && is_base_word(kind_at(place.rest))
+        }
+        _ => false,
+    }
+}
+
+/// A base word as the name of a typedef, which declares nothing.
+#[tactic(auto, unfolding(c_reading::specs::Reading::and_then, c_reading::specs::Reading::fits))]
+pub(crate) fn base_named(room: u16, place: &mut Place) -> Result<Declared, ReadError>
+    ensures { ReadsDeclr place.old place.new result (declaring.base_named room) }
+{
+    room_for(1, room, place)?;
+    let token = take_one(place)?;
+    let declr = base_name(place.alloc, token)?;
+    Ok(Declared {
+        declr,
+        closed: None,
+    })
 }

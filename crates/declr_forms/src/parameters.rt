@@ -74,7 +74,9 @@ fn ends_starred(declr: &Declr) -> bool
             | Declr::Params { .. }
             | Declr::AbsParen { .. }
             | Declr::AbsArray { .. }
-            | Declr::AbsParams { .. } => return false,
+            | Declr::AbsParams { .. }
+            | Declr::Identifiers { .. }
+            | Declr::BaseName { .. } => return false,
         }
     }
 }
@@ -104,10 +106,10 @@ where
         (declaring.param_words (knot depth) (sized_specs known) room) }
 {
     match known.words.as_slice() {
-        [] => specs_here(lent, room, place, depth),
+        [] => specs_here(lent, Role::Typed, room, place, depth),
         [_, ..] => {
             let inner = room.saturating_sub(1);
-            specs_inside(lent, Role::Declaring, known, inner, place, depth)
+            specs_inside(lent, Role::Typed, known, inner, place, depth)
         }
     }
 }

@@ -3,20 +3,26 @@
 //! `depth` is the number of the readers of lists that the lent one gives; `room` is the greatest
 //! height that the tree may have.
 
-ghost use Rattle.std.specs.Prelude.{◌≡◌, is_some};
+ghost use Rattle.std.specs.Prelude.{◌≡◌, IfOk, is_some};
 ghost use Rattle.c_tree.specs.Lists.{some_declr_from};
 ghost use Rattle.c_tree.specs.View.{declr_of};
+ghost use Rattle.c_units.specs.HeldScopes.{is_wide, new_scope};
 ghost use Rattle.c_units.specs.Units.{bare_name};
 ghost use Rattle.c_reading.specs.Declaring as declaring;
 ghost use Rattle.c_reading.specs.Knot.{knot};
+ghost use Rattle.declr_forms.specs.Views.{behind_paren};
 ghost use Rattle.reader_base.specs.Lent.{Lends, ReadsDeclr, declared_of};
 
 use crate::parameters::parameters;
-use c_nodes::{SizedDeclr, with_params};
+use c_nodes::{
+    PresentDeclr, SizedDeclr, no_declr, present, some_declr, with_identifiers, with_params,
+};
 use c_syntax::{Attr, Declr};
 use held_scopes::Closed;
-use qual_base::TokenId;
-use reader_base::{Answer, Ask, Declared, Place, ReadError, close_paren, take_one};
+use qual_base::{NoMemory, TokenId};
+use reader_base::{
+    Answer, Ask, Declared, Place, ReadError, begins_identifiers, close_paren, identifiers, take_one,
+};
 
 /// Whether a declarator is a name alone, parentheses aside. Linear in the parentheses.
 fn is_bare(declr: &Declr) -> bool
@@ -33,7 +39,9 @@ fn is_bare(declr: &Declr) -> bool
             | Declr::AbsPointer { .. }
             | Declr::AbsParen { .. }
             | Declr::AbsArray { .. }
-            | Declr::AbsParams { .. } => return false,
+            | Declr::AbsParams { .. }
+            | Declr::Identifiers { .. }
+            | Declr::BaseName { .. } => return false,
         }
     }
 }
@@ -90,10 +98,79 @@ where
     Ok(Declared { declr, closed })
 }
 
-/// Parameters in parentheses, behind a declarator.
+/// A scope without names, of the same unit.
+fn fresh_scope(place: &mut Place) -> Result<Closed, NoMemory>
+    ensures made { IfOk result (λ scope. scope ≡ new_scope (is_wide place.old.scopes)) }
+    ensures same { IfOk result (λ _. place.new.scopes ≡ place.old.scopes) }
+    ensures rest { place.new.rest ≡ place.old.rest }
+{
+    place.scopes.enter()?;
+    Ok(place.scopes.close())
+}
+
+/// `Params = direct ( Name (, Name)* )`, behind a name and the parenthesis. The scope of the
+/// declarations behind it has no names yet.
+#[tactic(auto, unfolding(c_reading::specs::Declaring::identifiers_with, c_reading::specs::Reading::and_then))]
+fn list_behind(
+    inner: PresentDeclr,
+    opening: TokenId,
+    place: &mut Place,
+    depth: u32,
+) -> Result<Declared, ReadError>
+    ensures { ReadsDeclr place.old place.new result
+        (declaring.identifiers_with (knot depth) (declr_of inner.declr.value) opening) }
+{
+    let closed = fresh_scope(place)?;
+    let names = identifiers(place)?;
+    let closing = close_paren(place)?;
+    let declr = with_identifiers(place.alloc, inner, opening, names, closing)?;
+    Ok(Declared {
+        declr,
+        closed: Some(closed),
+    })
+}
+
+/// Parameters, or a list of identifiers, behind what may be a function's declarator and the
+/// parenthesis.
+fn behind_paren<'a, F>(
+    lent: &F,
+    known: Declared,
+    opening: TokenId,
+    room: u16,
+    place: &mut Place<'a>,
+    depth: u32,
+) -> Result<Declared, ReadError>
+where
+    F: Fn(Ask, &mut Place<'a>) -> Result<Answer, ReadError>,
+    requires { Lends F.Fn lent.now depth }
+    ensures { ReadsDeclr place.old place.new result
+        (behind_paren depth (declared_of known) opening room) }
+{
+    let Declared { declr, closed } = known;
+    let lead = Vec::new(place.alloc);
+    match present(declr) {
+        Some(inner) => {
+            if is_bare(&inner.declr) && begins_identifiers(place) {
+                return list_behind(inner, opening, place, depth);
+            }
+            let declr = some_declr(inner);
+            let known = Declared { declr, closed };
+            prototype(lent, known, opening, lead, room, place, depth)
+        }
+        None => {
+            let declr = no_declr();
+            let known = Declared { declr, closed };
+            prototype(lent, known, opening, lead, room, place, depth)
+        }
+    }
+}
+
+/// Parameters in parentheses, or a list of identifiers, behind a declarator that may be a function's
+/// or not.
 #[tactic(auto, unfolding(c_reading::specs::Reading::and_then))]
 pub(crate) fn params_behind<'a, F>(
     lent: &F,
+    flag: bool,
     known: Declared,
     room: u16,
     place: &mut Place<'a>,
@@ -103,9 +180,12 @@ where
     F: Fn(Ask, &mut Place<'a>) -> Result<Answer, ReadError>,
     requires { Lends F.Fn lent.now depth }
     ensures { ReadsDeclr place.old place.new result
-        (declaring.params_behind (knot depth) (declared_of known) room) }
+        (declaring.params_behind (knot depth) flag (declared_of known) room) }
 {
     let opening = take_one(place)?;
-    let none = Vec::new(place.alloc);
-    prototype(lent, known, opening, none, room, place, depth)
+    if flag {
+        return behind_paren(lent, known, opening, room, place, depth);
+    }
+    let lead = Vec::new(place.alloc);
+    prototype(lent, known, opening, lead, room, place, depth)
 }

@@ -85,7 +85,7 @@ where
 {
     let own = room_at(flag, room, &known, kind_at(place.rest))?;
     room_above(known.declr.height, own, place)?;
-    params_behind(lent, known, own, place, depth)
+    params_behind(lent, flag, known, own, place, depth)
 }
 
 /// No declarator.

@@ -2,26 +2,28 @@
 use Rattle.std.proofs.Common.{◌≡◌, ℕ, suc, ◌+◌, ◌≤◌, Bool, true, false, if◌then◌else◌, List, [], length, Option, Some, None, refl, arith}
 use Rattle.std.specs.Prelude.{◌*◌, ◌-◌, ◌&&◌, ◌||◌, is_some}
 use Rattle.c_words.specs.declared.kinds.TokenKind.{TokenKind}
+use Rattle.c_words.specs.declared.kinds.TokenKind.TheVariants as kinds
+use Rattle.c_syntax.specs.declared.parts.Identifier.{Identifier}
 use Rattle.c_tree.specs.declared.lexeme.Lexeme.{Lexeme}
 use Rattle.c_syntax.specs.declared.parts.Attr.{Attr}
-use Rattle.c_tree.specs.Tree.{SpecWords, no_words, more_words, SomeDeclr, no_declr, no_size, some_size, size_value, size_star, Dots}
+use Rattle.c_tree.specs.Tree.{Declr, some_declr, SpecWords, no_words, more_words, SomeDeclr, no_declr, no_size, some_size, size_value, size_star, Dots}
 use Rattle.c_tree.specs.Height.{some_declr_height, attrs_height, declr_height, expr_height, pointer_words_height, some_size_height, specs_height}
 use Rattle.typedef_scope.specs.declared.kind.Kind.{Kind}
-use Rattle.typedef_scope.specs.declared.kind.Kind.TheVariants.{Value}
-use Rattle.c_units.specs.HeldScopes.{HeldScopes, release}
+use Rattle.typedef_scope.specs.declared.kind.Kind.TheVariants.{Value, Typedef, Constant}
+use Rattle.c_units.specs.HeldScopes.{HeldScopes, release, is_wide}
 use Rattle.c_units.specs.Scoping.{at_name}
 use Rattle.c_reading.specs.declared.kinds.Fault.TheVariants.{Unexpected}
 use Rattle.c_reading.specs.declared.kinds.Reach.TheVariants.{Assigned}
-use Rattle.c_reading.specs.declared.kinds.Role.TheVariants.{Declaring, Naming}
+use Rattle.c_reading.specs.declared.kinds.Role.TheVariants.{Typed, Naming}
 use Rattle.c_reading.specs.declared.kinds.Mode.{Mode}
 use Rattle.c_reading.specs.declared.kinds.Mode.TheVariants.{Named, Abstract, Either}
 use Rattle.c_reading.specs.Reading.{Read, ends, refuses, fits, kind_at, take_one, run, listed, one_more, list_end, IsNumbered, and_then}
 use Rattle.c_reading.specs.Tokens.{is_open_paren, is_close_paren, is_open_bracket, is_close_bracket, is_star, is_dots, spelled_name, attrs_at, is_end}
 use Rattle.c_reading.specs.Parts.{Inner, nothing, star, Declared, params_from, type_name_height}
-use Rattle.c_reading.specs.Declaring.{takes_name, is_bare, room_at, words_of_quals, words_of_attrs, are_none, opens_params, opens_declr, takes_attrs, absent, name_held, star_size, size_with, array_with, param_words, param_attrs, param_with, next_param, params_with, prototype_with, params_behind, suffix_turn, paren_with, named_paren, opened_by, opened_with, some_paren, name_or_none, core_with, direct_with, pointer_with, declr_with, type_name_with}
+use Rattle.c_reading.specs.Declaring.{identifiers_with, identifiers_of, list_behind, begins_identifiers, identifier_at, names_base, base_named, takes_name, is_bare, room_at, words_of_quals, words_of_attrs, are_none, opens_params, opens_declr, takes_attrs, absent, name_held, star_size, size_with, array_with, param_words, param_attrs, param_with, next_param, params_with, prototype_with, params_behind, suffix_turn, paren_with, named_paren, opened_by, opened_with, some_paren, name_or_none, core_with, direct_with, pointer_with, declr_with, type_name_with}
 use Rattle.c_reading.proofs.Aims.{TokenLaws, Laws}
-use Rattle.deep_places.proofs.Words.{b_quals_at, b_array_words_at, b_attrs_at, b_pointer_words_at}
-use Rattle.c_reading.proofs.DeclrFalls.{next_param_falls, suffix_shrinks}
+use Rattle.deep_places.proofs.Words.{b_names_list, bound_identifier, b_quals_at, b_array_words_at, b_attrs_at, b_pointer_words_at}
+use Rattle.c_reading.proofs.DeclrFalls.{identifier_shrinks, next_param_falls, suffix_shrinks}
 use Rattle.deep_places.proofs.Heights.{low_params, low_pointer, low_paren, low_array, low_params_of, low_quals, low_words_of_attrs, low_least_pointer}
 use Rattle.deep_places.proofs.Specs.{b_specs_here, b_present}
 use Rattle.deep_places.specs.Bounds.{BoundAt, StepAt, begun_levels, declared_height, param_item_height, InnerBounds}
@@ -33,6 +35,19 @@ room_least flag room d kind = by_more (flag && (is_some d.closed || (is_open_par
     by_more : (b : Bool) → room ≤ (if b then suc room else room)
     by_more true = omega arith
     by_more false = omega arith
+
+-- the end of a source is no name of a typedef
+base_end : (s : HeldScopes) (mode : Mode) (wanted : Option Kind) → names_base s mode wanted kinds.End ≡ false
+base_end s Named (Some Typedef) = by_width (is_wide s)
+  where
+    by_width : (b : Bool) → (b && false) ≡ false
+    by_width true = refl
+    by_width false = refl
+base_end s Named (Some Value) = refl
+base_end s Named (Some Constant) = refl
+base_end s Named None = refl
+base_end s Abstract wanted = refl
+base_end s Either wanted = refl
 
 module _ (all : List Lexeme) (numbered : IsNumbered all) (tokens : TokenLaws all) (n : ℕ) (inner : Inner) (laws : Laws all n inner)
     (good : InnerBounds inner) where
@@ -89,10 +104,10 @@ module _ (all : List Lexeme) (numbered : IsNumbered all) (tokens : TokenLaws all
   pub b_param_words : (a0 : SpecWords) (room : ℕ) (s : HeldScopes) (ts : List Lexeme) → BoundAt specs_height (specs_height a0) room
       (specs_height a0 + 12) ts (param_words inner a0 room s ts)
   b_param_words no_words room s ts =
-      bound_weaker _ (1) room (12) _ _ _ _ _ (omega arith) (omega arith) (b_specs_here all numbered tokens n inner laws good room _ _)
+      bound_weaker _ (1) room (12) _ _ _ _ _ (omega arith) (omega arith) (b_specs_here all numbered tokens n inner laws good Typed room _ _)
   b_param_words (more_words w ws) room s ts =
       bound_weaker _ (specs_height (more_words w ws)) (room - 1) (specs_height (more_words w ws) + 10) _ _ _ _ _ (omega arith)
-      (omega arith) (good.specs Declaring (more_words w ws) (room - 1) _ _)
+      (omega arith) (good.specs Typed (more_words w ws) (room - 1) _ _)
 
   pub b_param_attrs : (d : SomeDeclr) (room : ℕ) (s : HeldScopes) (ts : List Lexeme) → BoundAt attrs_height (1) room (1) ts
       (param_attrs inner d room s ts)
@@ -148,11 +163,33 @@ module _ (all : List Lexeme) (numbered : IsNumbered all) (tokens : TokenLaws all
       ps.tree.items in let f518 = low_params_of d.declr opening (params_from ps.tree.items) ps.tree.ending closing.tree in omega
       arith)))
 
-  pub b_params_behind : (d : Declared) (room : ℕ) (s : HeldScopes) (ts : List Lexeme) → BoundAt declared_height (declared_height d)
-      room (declared_height d + 10) ts (params_behind inner d room s ts)
-  b_params_behind d room s ts =
+  pub b_identifiers_with : (d : Declr) (opening : ℕ) (room : ℕ) (s : HeldScopes) (ts : List Lexeme) → BoundAt declared_height
+      (declr_height d) room (declr_height d + 15) ts (identifiers_with inner d opening s ts)
+  unfolding identifiers_with
+  b_identifiers_with d opening room s ts =
+      bound_bind (no_levels {A = List Identifier}) _ (0) _ _ _ _ _ _ (bound_weaker _ (0) room (0) _ _ _ _ _ (omega arith) (omega
+      arith) (b_names_list identifier_at identifier_shrinks (λ room2 s2 ts2. bound_identifier room2 s2 ts2) room _ _)) (λ names
+      p302 q302 r302. bound_bind token_levels _ (0) _ _ _ _ _ _ (bound_token is_close_paren _ _ _ _) (λ closing p301 q301 r301.
+      bound_ends _ _ _ _ _ _ _ (omega arith)))
+
+  -- a list of identifiers behind a name, and else parameters
+  b_identifiers_of : (o : SomeDeclr) (opening : ℕ) (room : ℕ) (s : HeldScopes) (ts : List Lexeme) (other : Read Declared) →
+      BoundAt declared_height (some_declr_height o) room (some_declr_height o + 15) ts other →
+      BoundAt declared_height (some_declr_height o) room (some_declr_height o + 15) ts (identifiers_of o (λ inside. identifiers_with inner inside opening s ts) other)
+  b_identifiers_of no_declr opening room s ts other h = h
+  b_identifiers_of (some_declr d) opening room s ts other h = b_identifiers_with d opening room s ts
+
+  b_list_behind : (flag : Bool) (d : Declared) (opening : ℕ) (room : ℕ) (s : HeldScopes) (ts : List Lexeme) →
+      BoundAt declared_height (declared_height d) room (declared_height d + 15) ts (list_behind inner flag d opening room s ts)
+  b_list_behind true d opening room s ts = b_identifiers_of d.declr opening room s ts (prototype_with inner d opening [] room s ts) (b_prototype_with d opening [] room s ts)
+  b_list_behind false d opening room s ts = b_prototype_with d opening [] room s ts
+
+  pub b_params_behind : (flag : Bool) (d : Declared) (room : ℕ) (s : HeldScopes) (ts : List Lexeme) → BoundAt declared_height (declared_height d)
+      room (declared_height d + 10) ts (params_behind inner flag d room s ts)
+  b_params_behind flag d room s ts =
       bound_bind token_levels _ (0) _ _ _ _ _ _ (bound_take _ _ _ _) (λ opening b519 e520 l521. bound_weaker _ (declared_height d)
-      room (declared_height d + 15) _ _ _ _ _ (omega arith) (omega arith) (b_prototype_with d opening.tree [] room _ _))
+      room (declared_height d + 15) _ _ _ _ _ (omega arith) (omega arith)
+      (b_list_behind (flag && is_bare d.declr && begins_identifiers opening.scopes (kind_at opening.rest)) d opening.tree room _ _))
 
   suffix_step : (flag : Bool) (room : ℕ) (d : Declared) (s : HeldScopes) (ts : List Lexeme) (c : ℕ) → 0 ≤ c → declared_height d ≤ c
       → StepAt declared_height c room (c + 10) ts (suffix_turn inner flag room d s ts)
@@ -170,16 +207,16 @@ module _ (all : List Lexeme) (numbered : IsNumbered all) (tokens : TokenLaws all
 
       by_paren : (b : Bool) → is_open_paren (kind_at ts) ≡ b →
           StepAt declared_height c room (c + 10) ts (if b then Some (fits (suc (some_declr_height d.declr)) (room_at flag room d
-          (kind_at ts)) ts (params_behind inner d (room_at flag room d (kind_at ts)) s ts)) else None)
-      by_paren true is = fitted (params_behind inner d (room_at flag room d (kind_at ts)) s ts) (known_by is_open_paren refl
-          (kind_at ts) is) (b_params_behind d (room_at flag room d (kind_at ts)) s ts)
+          (kind_at ts)) ts (params_behind inner flag d (room_at flag room d (kind_at ts)) s ts)) else None)
+      by_paren true is = fitted (params_behind inner flag d (room_at flag room d (kind_at ts)) s ts) (known_by is_open_paren refl
+          (kind_at ts) is) (b_params_behind flag d (room_at flag room d (kind_at ts)) s ts)
       by_paren false is = tt
 
       by_bracket : (b : Bool) → is_open_bracket (kind_at ts) ≡ b →
           StepAt declared_height c room (c + 10) ts (if b then Some (fits (suc (some_declr_height d.declr)) (room_at flag room d
           (kind_at ts)) ts (array_with inner d (room_at flag room d (kind_at ts)) s ts))
           else if is_open_paren (kind_at ts) then Some (fits (suc (some_declr_height d.declr)) (room_at flag room d (kind_at ts)) ts
-          (params_behind inner d (room_at flag room d (kind_at ts)) s ts)) else None)
+          (params_behind inner flag d (room_at flag room d (kind_at ts)) s ts)) else None)
       by_bracket true is = fitted (array_with inner d (room_at flag room d (kind_at ts)) s ts) (known_by is_open_bracket refl
           (kind_at ts) is) (b_array_with d (room_at flag room d (kind_at ts)) s ts)
       by_bracket false is = by_paren (is_open_paren (kind_at ts)) refl
@@ -248,15 +285,22 @@ module _ (all : List Lexeme) (numbered : IsNumbered all) (tokens : TokenLaws all
       (known (λ e9. absurd cc)))) (λ is548. bound_weaker _ (0) room (0) _ _ _ _ _ (omega arith) (omega arith) (b_absent room
       mode s ts))
 
+  pub b_base_named : (room : ℕ) (s : HeldScopes) (ts : List Lexeme) → is_end (kind_at ts) ≡ false → BoundAt declared_height (0) room (0) ts (base_named room s ts)
+  b_base_named room s ts known =
+      bound_fits _ _ _ _ _ _ _ _ (known) (λ less. omega arith) (λ less. bound_bind token_levels _ (0) _ _ _ _ _ _ (bound_take _ _ _ _)
+      (λ token b1 e1 l1. bound_ends _ _ _ _ _ _ _ (omega arith)))
+
   pub b_core_with : (mode : Mode) (wanted : Option Kind) (flag : Bool) (room : ℕ) (s : HeldScopes) (ts : List Lexeme) → BoundAt
       declared_height (0) room (10) ts (core_with inner mode wanted flag room s ts)
   unfolding core_with
   b_core_with mode wanted flag room s ts =
-      bound_if _ _ _ _ _ (is_open_paren (kind_at ts)) (some_paren inner mode wanted flag room s ts) (name_or_none inner mode wanted
-      (spelled_name (kind_at ts)) room s ts) (λ is549. bound_weaker _ (0) room (10) _ _ _ _ _ (omega arith) (omega arith)
+      bound_if _ _ _ _ _ (is_open_paren (kind_at ts)) (some_paren inner mode wanted flag room s ts) (if names_base s mode wanted (kind_at ts) then base_named room s ts
+      else name_or_none inner mode wanted (spelled_name (kind_at ts)) room s ts) (λ is549. bound_weaker _ (0) room (10) _ _ _ _ _ (omega arith) (omega arith)
       (b_some_paren mode wanted flag room s ts (known_by (λ kind9. is_open_paren kind9) refl (kind_at ts) is549))) (λ is549.
-      bound_weaker _ (0) room (10) _ _ _ _ _ (omega arith) (omega arith) (b_name_or_none mode wanted (spelled_name (kind_at ts))
-      room s ts (known_of spelled_name None refl (kind_at ts))))
+      bound_if _ _ _ _ _ (names_base s mode wanted (kind_at ts)) (base_named room s ts) (name_or_none inner mode wanted (spelled_name (kind_at ts)) room s ts)
+      (λ is550. bound_weaker _ (0) room (0) _ _ _ _ _ (omega arith) (omega arith) (b_base_named room s ts (known_by (λ kind9. names_base s mode wanted kind9) (base_end s mode wanted) (kind_at ts) is550)))
+      (λ is550. bound_weaker _ (0) room (10) _ _ _ _ _ (omega arith) (omega arith) (b_name_or_none mode wanted (spelled_name (kind_at ts))
+      room s ts (known_of spelled_name None refl (kind_at ts)))))
 
   pub b_direct_with : (mode : Mode) (wanted : Option Kind) (flag : Bool) (room : ℕ) (s : HeldScopes) (ts : List Lexeme) → BoundAt
       declared_height 0 room 10 ts (direct_with inner mode wanted flag room s ts)

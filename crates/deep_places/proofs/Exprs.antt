@@ -4,12 +4,12 @@ use Rattle.std.specs.Prelude.{◌*◌, ◌-◌, max, nat_le}
 use Rattle.c_words.specs.declared.kinds.Punct.{Punct}
 use Rattle.c_words.specs.declared.kinds.Keyword.{Keyword}
 use Rattle.c_syntax.specs.declared.parts.Word.{Word}
-use Rattle.c_tree.specs.Tree.{Expr, sizeof_value, sizeof_type, compound, name_use, number_use, char_use, text_use, paren, statement_expr, va_arg, va_start, va_copy, offset, Operator, comma, assign, cond, binary, no_expr, some_expr, no_exprs, Desig, member_desig, index_desig, operation}
-use Rattle.c_tree.specs.Height.{expr_height, exprs_height, init_list_height, operator_height, some_expr_height, step_height, steps_height}
+use Rattle.c_tree.specs.Tree.{Expr, label_use, compat, choose, generic, sizeof_value, sizeof_type, compound, name_use, number_use, char_use, text_use, paren, statement_expr, va_arg, va_start, va_copy, offset, Operator, comma, assign, cond, binary, no_expr, some_expr, no_exprs, Desig, member_desig, index_desig, operation}
+use Rattle.c_tree.specs.Height.{expr_height, assoc_height, exprs_height, init_list_height, operator_height, some_expr_height, step_height, steps_height}
 use Rattle.c_tree.specs.Levels.{binary_level, expr_level, right_level}
 use Rattle.c_ops.specs.Joining.{Stack, bottom, above, Settled, settle_of, finished}
 use Rattle.c_tree.specs.declared.lexeme.Lexeme.{Lexeme}
-use Rattle.c_units.specs.HeldScopes.{HeldScopes, names_type}
+use Rattle.c_units.specs.HeldScopes.{HeldScopes, names_type, is_wide}
 use Rattle.c_reading.specs.declared.kinds.Fault.TheVariants.{Unexpected, BadTarget}
 use Rattle.c_reading.specs.declared.kinds.Reach.{Reach}
 use Rattle.c_reading.specs.declared.kinds.Reach.TheVariants.{Whole, Assigned, Conditional, Castable, Unary}
@@ -20,14 +20,17 @@ use Rattle.c_reading.specs.declared.kinds.PostfixForm.TheVariants as forms
 use Rattle.c_reading.specs.declared.kinds.Infix.{Infix}
 use Rattle.c_reading.specs.declared.kinds.Infix.TheVariants as infixes
 use Rattle.c_reading.specs.Reading.{Read, ends, refuses, fits, kind_at, behind_first, take_one, token_at, run, listed, IsNumbered, and_then}
-use Rattle.c_reading.specs.Tokens.{is_open_paren, is_close_paren, is_close_bracket, is_open_brace, is_colon, is_comma, word_of, name_at, is_end}
-use Rattle.c_reading.specs.Specifying.{begins_specs}
-use Rattle.c_reading.specs.Parts.{Inner, Begun, nothing, extensions, star, TypeName, type_name_height, exprs_from, desigs_from}
-use Rattle.c_reading.specs.Expressing.{infix_of, opening_of, form_of, takes_comma, takes_assign, is_dot, begins_desig, how_many, settled, depth_of, with_operand, next_argument, arguments_with, index_with, call_with, dot_with, arrow_with, post_with, postfix_by, lowered, postfix_turn, postfixed, primary_with, text_with, compound_with, cast_behind, typed_behind, typed_with, statement_with, paren_with, opened_by, opened_with, prefix_with, extension_with, sizeof_value_with, sizeof_typed, sizeof_type_with, sizeof_behind, sizeof_with, va_arg_with, va_two_with, step_with, offset_with, name_with, unary_by, unary_with, cast_with, operand_with, operation_with, middle_with, question_with, operation_by, operation_turn, row_with, expr_with, Row}
+use Rattle.c_reading.specs.Tokens.{is_open_paren, is_default, is_close_paren, is_close_bracket, is_open_brace, is_colon, is_comma, word_of, name_at, is_end}
+use Rattle.c_reading.specs.Specifying.{begins_specs, begins_role}
+use Rattle.c_reading.specs.Parts.{Inner, Begun, nothing, extensions, star, TypeName, type_name_height, exprs_from, assocs_from, desigs_from}
+use Rattle.c_reading.specs.declared.kinds.Role.{Role}
+use Rattle.c_reading.specs.declared.kinds.Role.TheVariants.{Naming}
+use Rattle.c_words.specs.declared.kinds.TokenKind.{TokenKind}
+use Rattle.c_reading.specs.Expressing.{part_with, label_use_with, compat_with, choose_with, default_assoc_with, typed_assoc_with, assoc_with, next_assoc, generic_with, infix_of, opening_of, form_of, takes_comma, takes_assign, is_dot, begins_desig, how_many, settled, depth_of, with_operand, next_argument, arguments_with, index_with, call_with, dot_with, arrow_with, post_with, postfix_by, lowered, postfix_turn, postfixed, primary_with, text_with, compound_with, cast_behind, typed_behind, typed_with, statement_with, paren_with, opened_by, opened_with, prefix_with, extension_with, sizeof_value_with, sizeof_typed, sizeof_type_with, sizeof_behind, sizeof_with, va_arg_with, va_two_with, step_with, offset_with, name_with, unary_by, unary_with, cast_with, operand_with, operation_with, middle_with, question_with, operation_by, operation_turn, row_with, expr_with, Row}
 use Rattle.c_reading.proofs.Aims.{TokenLaws, Laws}
 use Rattle.deep_places.proofs.Words.{b_texts_at}
-use Rattle.c_reading.proofs.ExprFalls.{next_argument_falls, postfix_turn_shrinks, step_shrinks, operation_turn_shrinks}
-use Rattle.deep_places.proofs.Heights.{low_exprs, low_extended}
+use Rattle.c_reading.proofs.ExprFalls.{next_argument_falls, next_assoc_falls, postfix_turn_shrinks, step_shrinks, operation_turn_shrinks}
+use Rattle.deep_places.proofs.Heights.{low_exprs, low_assocs, low_extended}
 use Rattle.deep_places.specs.Bounds.{BoundAt, StepAt, most_of, begun_levels, block_tree_height, InnerBounds}
 use Rattle.deep_places.proofs.Bounding.{bound_ends, bound_weaker, bound_bind, bound_fits, bound_if, token_levels, no_levels, bound_take, bound_token, bound_name, bound_run, bound_repeated, next_height, list_height, bound_listed, known_of, known_by}
 
@@ -403,6 +406,119 @@ module _ (all : List Lexeme) (numbered : IsNumbered all) (tokens : TokenLaws all
       (λ is217. record { held = λ e. absurd cc }) (λ is217. bound_weaker _ (1) room (10) _ _ _ _ _ (omega arith) (omega arith)
       (b_primary_with (λ token. name_use token name) room _ _ (known) (λ token9. omega arith)))
 
+  pub b_part_with : (room : ℕ) (s : HeldScopes) (ts : List Lexeme) → is_end (kind_at ts) ≡ false → BoundAt expr_height (1) room
+      (10) ts (part_with inner room s ts)
+  unfolding part_with
+  b_part_with room s ts known =
+      bound_fits _ _ _ _ _ _ _ _ (known) (λ less3. omega arith) (λ less3. bound_bind token_levels _ (0) _ _ _ _ _ _ (bound_take _
+      _ _ _) (λ token p2 q2 r2. bound_bind expr_height _ (1 + begun_levels nothing) _ _ _ _ _ _ (bound_weaker _ (1 + begun_levels
+      nothing) (room - 1) (10 + begun_levels nothing) _ _ _ _ _ (omega arith) (omega arith) (good.expr Castable nothing (room - 1)
+      _ _)) (λ e p1 q1 r1. bound_ends _ _ _ _ _ _ _ (omega arith))))
+
+  pub b_label_use_with : (room : ℕ) (s : HeldScopes) (ts : List Lexeme) → is_end (kind_at ts) ≡ false → BoundAt expr_height (1)
+      room (10) ts (label_use_with inner room s ts)
+  unfolding label_use_with
+  b_label_use_with room s ts known =
+      bound_if _ _ _ _ _ (is_wide s) (fits 1 room ts (and_then (take_one s ts) (λ token. (and_then (name_at token.scopes
+      token.rest) (λ name. (ends (label_use token.tree name.tree) name.scopes name.rest)))))) (refuses Unexpected ts) (λ on.
+      bound_fits _ _ _ _ _ _ _ _ (known) (λ less6. omega arith) (λ less6. bound_bind token_levels _ (0) _ _ _ _ _ _ (bound_take _
+      _ _ _) (λ token p5 q5 r5. bound_bind token_levels _ (0) _ _ _ _ _ _ (bound_name _ _ _ _) (λ name p4 q4 r4. bound_ends _ _ _
+      _ _ _ _ (omega arith))))) (λ off. record { held = λ e. absurd cc })
+
+  pub b_compat_with : (room : ℕ) (s : HeldScopes) (ts : List Lexeme) → is_end (kind_at ts) ≡ false → BoundAt expr_height (1) room
+      (10) ts (compat_with inner room s ts)
+  unfolding compat_with
+  b_compat_with room s ts known =
+      bound_fits _ _ _ _ _ _ _ _ (known) (λ less13. omega arith) (λ less13. bound_bind token_levels _ (0) _ _ _ _ _ _ (bound_take
+      _ _ _ _) (λ keyword p12 q12 r12. bound_bind token_levels _ (0) _ _ _ _ _ _ (bound_token is_open_paren _ _ _ _) (λ opening
+      p11 q11 r11. bound_bind type_name_height _ (2) _ _ _ _ _ _ (bound_weaker _ (2) (room - 1) (12) _ _ _ _ _ (omega arith)
+      (omega arith) (good.type_name (room - 1) _ _)) (λ t p10 q10 r10. bound_bind token_levels _ (0) _ _ _ _ _ _ (bound_token
+      is_comma _ _ _ _) (λ separator p9 q9 r9. bound_bind type_name_height _ (2) _ _ _ _ _ _ (bound_weaker _ (2) (room - 1) (12) _
+      _ _ _ _ (omega arith) (omega arith) (good.type_name (room - 1) _ _)) (λ t2 p8 q8 r8. bound_bind token_levels _ (0) _ _ _ _ _
+      _ (bound_token is_close_paren _ _ _ _) (λ closing p7 q7 r7. bound_weaker _ (expr_height (compat keyword.tree opening.tree
+      t.tree.words t.tree.declr separator.tree t2.tree.words t2.tree.declr closing.tree)) room (expr_height (compat keyword.tree
+      opening.tree t.tree.words t.tree.declr separator.tree t2.tree.words t2.tree.declr closing.tree) + 10) _ _ _ _ _ (omega
+      arith) (omega arith) (b_postfixed room (compat keyword.tree opening.tree t.tree.words t.tree.declr separator.tree
+      t2.tree.words t2.tree.declr closing.tree) _ _))))))))
+
+  pub b_choose_with : (room : ℕ) (s : HeldScopes) (ts : List Lexeme) → is_end (kind_at ts) ≡ false → BoundAt expr_height (1) room
+      (10) ts (choose_with inner room s ts)
+  unfolding choose_with
+  b_choose_with room s ts known =
+      bound_fits _ _ _ _ _ _ _ _ (known) (λ less22. omega arith) (λ less22. bound_bind token_levels _ (0) _ _ _ _ _ _ (bound_take
+      _ _ _ _) (λ keyword p21 q21 r21. bound_bind token_levels _ (0) _ _ _ _ _ _ (bound_token is_open_paren _ _ _ _) (λ opening
+      p20 q20 r20. bound_bind expr_height _ (1 + begun_levels nothing) _ _ _ _ _ _ (bound_weaker _ (1 + begun_levels nothing)
+      (room - 1) (10 + begun_levels nothing) _ _ _ _ _ (omega arith) (omega arith) (good.expr Assigned nothing (room - 1) _ _)) (λ
+      e p19 q19 r19. bound_bind token_levels _ (0) _ _ _ _ _ _ (bound_token is_comma _ _ _ _) (λ separator p18 q18 r18. bound_bind
+      expr_height _ (1 + begun_levels nothing) _ _ _ _ _ _ (bound_weaker _ (1 + begun_levels nothing) (room - 1) (10 +
+      begun_levels nothing) _ _ _ _ _ (omega arith) (omega arith) (good.expr Assigned nothing (room - 1) _ _)) (λ e2 p17 q17 r17.
+      bound_bind token_levels _ (0) _ _ _ _ _ _ (bound_token is_comma _ _ _ _) (λ separator2 p16 q16 r16. bound_bind expr_height _
+      (1 + begun_levels nothing) _ _ _ _ _ _ (bound_weaker _ (1 + begun_levels nothing) (room - 1) (10 + begun_levels nothing) _ _
+      _ _ _ (omega arith) (omega arith) (good.expr Assigned nothing (room - 1) _ _)) (λ e3 p15 q15 r15. bound_bind token_levels _
+      (0) _ _ _ _ _ _ (bound_token is_close_paren _ _ _ _) (λ closing p14 q14 r14. bound_weaker _ (expr_height (choose
+      keyword.tree opening.tree e.tree separator.tree e2.tree separator2.tree e3.tree closing.tree)) room (expr_height (choose
+      keyword.tree opening.tree e.tree separator.tree e2.tree separator2.tree e3.tree closing.tree) + 10) _ _ _ _ _ (omega arith)
+      (omega arith) (b_postfixed room (choose keyword.tree opening.tree e.tree separator.tree e2.tree separator2.tree e3.tree
+      closing.tree) _ _))))))))))
+
+  pub b_default_assoc_with : (room : ℕ) (s : HeldScopes) (ts : List Lexeme) → is_end (kind_at ts) ≡ false → BoundAt assoc_height
+      (3) room (13) ts (default_assoc_with inner room s ts)
+  unfolding default_assoc_with
+  b_default_assoc_with room s ts known =
+      bound_fits _ _ _ _ _ _ _ _ (known) (λ less26. omega arith) (λ less26. bound_bind token_levels _ (0) _ _ _ _ _ _ (bound_take
+      _ _ _ _) (λ keyword p25 q25 r25. bound_bind token_levels _ (0) _ _ _ _ _ _ (bound_token is_colon _ _ _ _) (λ colon p24 q24
+      r24. bound_bind expr_height _ (1 + begun_levels nothing) _ _ _ _ _ _ (bound_weaker _ (1 + begun_levels nothing) (room - 1)
+      (10 + begun_levels nothing) _ _ _ _ _ (omega arith) (omega arith) (good.expr Assigned nothing (room - 1) _ _)) (λ e p23 q23
+      r23. bound_ends _ _ _ _ _ _ _ (omega arith)))))
+
+  pub b_typed_assoc_with : (room : ℕ) (s : HeldScopes) (ts : List Lexeme) → is_end (kind_at ts) ≡ false → BoundAt assoc_height (3)
+      room (13) ts (typed_assoc_with inner room s ts)
+  unfolding typed_assoc_with
+  b_typed_assoc_with room s ts known =
+      bound_fits _ _ _ _ _ _ _ _ (known) (λ less30. omega arith) (λ less30. bound_bind type_name_height _ (2) _ _ _ _ _ _
+      (bound_weaker _ (2) (room - 1) (12) _ _ _ _ _ (omega arith) (omega arith) (good.type_name (room - 1) _ _)) (λ t p29 q29 r29.
+      bound_bind token_levels _ (0) _ _ _ _ _ _ (bound_token is_colon _ _ _ _) (λ colon p28 q28 r28. bound_bind expr_height _ (1 +
+      begun_levels nothing) _ _ _ _ _ _ (bound_weaker _ (1 + begun_levels nothing) (room - 1) (10 + begun_levels nothing) _ _ _ _
+      _ (omega arith) (omega arith) (good.expr Assigned nothing (room - 1) _ _)) (λ e p27 q27 r27. bound_ends _ _ _ _ _ _ _ (omega
+      arith)))))
+
+  role_known : (role : Role) (s : HeldScopes) (kind : TokenKind) → begins_role role s kind ≡ true → is_end kind ≡ false
+  role_known role s kind is = known_by (λ kind. begins_role role s kind) refl kind is
+
+  pub b_assoc_with : (room : ℕ) (s : HeldScopes) (ts : List Lexeme) → BoundAt assoc_height (3) room (13) ts (assoc_with inner room
+      s ts)
+  unfolding assoc_with
+  b_assoc_with room s ts =
+      bound_if _ _ _ _ _ (is_default (kind_at ts)) (default_assoc_with inner room s ts) (if begins_role Naming s (kind_at ts) then
+      (typed_assoc_with inner room s ts) else (refuses Unexpected ts)) (λ is. b_default_assoc_with room s ts (known_by (λ kind9.
+      is_default kind9) refl (kind_at ts) is)) (λ off. bound_if _ _ _ _ _ (begins_role Naming s (kind_at ts)) (typed_assoc_with
+      inner room s ts) (refuses Unexpected ts) (λ is. b_typed_assoc_with room s ts (role_known Naming s (kind_at ts) is)) (λ off2.
+      record { held = λ e. absurd cc }))
+
+  pub b_next_assoc : (room : ℕ) (token : ℕ) (s : HeldScopes) (ts : List Lexeme) → BoundAt (next_height {E = ⊥} assoc_height) (3)
+      room (13) ts (next_assoc inner room token s ts)
+  unfolding next_assoc
+  b_next_assoc room token s ts =
+      bound_bind assoc_height _ (3) _ _ _ _ _ _ (b_assoc_with room _ _) (λ x p31 q31 r31. bound_ends _ _ _ _ _ _ _ (omega arith))
+
+  pub b_generic_with : (room : ℕ) (s : HeldScopes) (ts : List Lexeme) → is_end (kind_at ts) ≡ false → BoundAt expr_height (1) room
+      (10) ts (generic_with inner room s ts)
+  unfolding generic_with
+  b_generic_with room s ts known =
+      bound_fits _ _ _ _ _ _ _ _ (known) (λ less39. omega arith) (λ less39. bound_bind token_levels _ (0) _ _ _ _ _ _ (bound_take
+      _ _ _ _) (λ keyword p38 q38 r38. bound_bind token_levels _ (0) _ _ _ _ _ _ (bound_token is_open_paren _ _ _ _) (λ opening
+      p37 q37 r37. bound_bind expr_height _ (1 + begun_levels nothing) _ _ _ _ _ _ (bound_weaker _ (1 + begun_levels nothing)
+      (room - 1) (10 + begun_levels nothing) _ _ _ _ _ (omega arith) (omega arith) (good.expr Assigned nothing (room - 1) _ _)) (λ
+      e p36 q36 r36. bound_bind token_levels _ (0) _ _ _ _ _ _ (bound_token is_comma _ _ _ _) (λ separator p35 q35 r35. bound_bind
+      (list_height {E = ⊥} (assoc_height)) _ (3) _ _ _ _ _ _ (bound_weaker _ (3) (room - 1) (13) _ _ _ _ _ (omega arith) (omega
+      arith) (bound_listed (assoc_with inner (room - 1)) (next_assoc inner (room - 1)) (assoc_height) (3) (room - 1) (13) (λ
+      comma. next_assoc_falls all tokens n inner laws (room - 1) comma) (omega arith) _ _ (b_assoc_with (room - 1) _ _) (λ comma
+      s9 ts9. b_next_assoc (room - 1) comma _ _))) (λ xs p34 q34 r34. let low_xs = low_assocs xs.tree.items in bound_bind
+      token_levels _ (0) _ _ _ _ _ _ (bound_token is_close_paren _ _ _ _) (λ closing p33 q33 r33. bound_weaker _ (expr_height
+      (generic keyword.tree opening.tree e.tree (assocs_from xs.tree.items) closing.tree)) room (expr_height (generic keyword.tree
+      opening.tree e.tree (assocs_from xs.tree.items) closing.tree) + 10) _ _ _ _ _ (omega arith) (omega arith) (b_postfixed room
+      (generic keyword.tree opening.tree e.tree (assocs_from xs.tree.items) closing.tree) _ _))))))))
+
   pub b_unary_by : (a0 : Opening) (room : ℕ) (s : HeldScopes) (ts : List Lexeme) → ((a0 ≡ openings.Nothing → ⊥) → is_end (kind_at
       ts) ≡ false) → BoundAt expr_height (1) room (10) ts (unary_by inner a0 room s ts)
   unfolding unary_by
@@ -434,6 +550,16 @@ module _ (all : List Lexeme) (numbered : IsNumbered all) (tokens : TokenLaws all
       (λ a b e x e2 y. omega arith))
   b_unary_by openings.Offset room s ts known =
       bound_weaker _ (1) room (10) _ _ _ _ _ (omega arith) (omega arith) (b_offset_with room _ _ (known (λ e9. absurd cc)))
+  b_unary_by openings.Part room s ts known =
+      bound_weaker _ (1) room (10) _ _ _ _ _ (omega arith) (omega arith) (b_part_with room _ _ (known (λ e9. absurd cc)))
+  b_unary_by openings.Label room s ts known =
+      bound_weaker _ (1) room (10) _ _ _ _ _ (omega arith) (omega arith) (b_label_use_with room _ _ (known (λ e9. absurd cc)))
+  b_unary_by openings.Compat room s ts known =
+      bound_weaker _ (1) room (10) _ _ _ _ _ (omega arith) (omega arith) (b_compat_with room _ _ (known (λ e9. absurd cc)))
+  b_unary_by openings.Choose room s ts known =
+      bound_weaker _ (1) room (10) _ _ _ _ _ (omega arith) (omega arith) (b_choose_with room _ _ (known (λ e9. absurd cc)))
+  b_unary_by openings.Generic room s ts known =
+      bound_weaker _ (1) room (10) _ _ _ _ _ (omega arith) (omega arith) (b_generic_with room _ _ (known (λ e9. absurd cc)))
   b_unary_by openings.Nothing room s ts known =
       record { held = λ e. absurd cc }
 

@@ -1,19 +1,20 @@
 -- The heights of lists are those of their items.
-use Rattle.std.proofs.Common.{ℕ, ◌+◌, ◌≤◌, Bool, true, false, if◌then◌else◌, List, [], ◌∷◌, length, Option, arith}
+use Rattle.std.proofs.Common.{ℕ, ◌+◌, ◌≤◌, Bool, true, false, if◌then◌else◌, List, [], ◌∷◌, ◌++◌, length, Option, arith}
 use Rattle.std.specs.Prelude.{max}
 use Rattle.c_syntax.specs.declared.parts.Attr.{Attr}
 use Rattle.c_syntax.specs.declared.parts.Qual.{Qual}
 use Rattle.c_syntax.specs.declared.parts.PointerWord.{PointerWord}
 use Rattle.c_syntax.specs.declared.parts.ArrayWord.{ArrayWord}
-use Rattle.c_tree.specs.Tree.{Expr, StructItem, Desig, BlockItem, SpecWords, no_words, more_words, SpecWord, Declr, pointer, array, params, declr_paren, abs_pointer, abs_array, abs_params, abs_paren, SomeDeclr, no_declr, some_declr, SomeSize, Params, Dots}
-use Rattle.c_tree.specs.Height.{expr_height, exprs_height, struct_item_height, struct_items_height, mem_declrs_height, enumerators_height, params_height, desig_height, desigs_height, init_items_height, init_declrs_height, block_height, block_item_height, specs_height, spec_word_height, declr_height, some_declr_height, some_size_height, attrs_height, pointer_words_height}
+use Rattle.c_tree.specs.Unit.{declarations_height}
+use Rattle.c_tree.specs.Tree.{declr_name, identifiers, base_name, Declaration, Expr, Assoc, StructItem, Desig, BlockItem, SpecWords, no_words, more_words, SpecWord, Declr, pointer, array, params, declr_paren, abs_pointer, abs_array, abs_params, abs_paren, SomeDeclr, no_declr, some_declr, SomeSize, Params, Dots}
+use Rattle.c_tree.specs.Height.{declaration_height, expr_height, assoc_height, assocs_height, exprs_height, struct_item_height, struct_items_height, mem_declrs_height, enumerators_height, params_height, desig_height, desigs_height, init_items_height, init_declrs_height, block_height, block_item_height, specs_height, spec_word_height, declr_height, some_declr_height, some_size_height, attrs_height, pointer_words_height}
 use Rattle.c_tree.specs.WellFormed.{is_named}
 use Rattle.c_specs.specs.Reading.{pushed}
 use Rattle.c_reading.specs.declared.kinds.SpecStart.{SpecStart}
 use Rattle.c_reading.specs.declared.kinds.SpecStart.TheVariants as starts
 use Rattle.c_reading.specs.declared.kinds.Mode.{Mode}
 use Rattle.c_reading.specs.declared.kinds.Mode.TheVariants.{Named, Abstract, Either}
-use Rattle.c_reading.specs.Parts.{MemberItem, EnumItem, ParamItem, ListItem, DeclrItem, exprs_from, struct_items_from, mem_declrs_from, enumerators_from, params_from, desigs_from, init_items_from, init_declrs_from, block_items_from}
+use Rattle.c_reading.specs.Parts.{MemberItem, EnumItem, ParamItem, ListItem, DeclrItem, exprs_from, assocs_from, struct_items_from, mem_declrs_from, enumerators_from, params_from, desigs_from, init_items_from, init_declrs_from, block_items_from}
 use Rattle.c_reading.specs.Expressing.{extended}
 use Rattle.c_reading.specs.Specifying.{least_of}
 use Rattle.c_reading.specs.Declaring.{with_pointer, with_paren, with_array, with_params, words_of_quals, words_of_attrs, least_pointer}
@@ -22,6 +23,10 @@ use Rattle.deep_places.specs.Bounds.{most_of, member_height, enum_item_height, p
 pub low_exprs : (xs : List Expr) → exprs_height (exprs_from xs) ≤ most_of expr_height xs
 low_exprs [] = omega arith
 low_exprs (x ∷ xs) = let rest = low_exprs xs in omega arith
+
+pub low_assocs : (xs : List Assoc) → assocs_height (assocs_from xs) ≤ most_of assoc_height xs
+low_assocs [] = omega arith
+low_assocs (x ∷ xs) = let rest = low_assocs xs in omega arith
 
 pub low_struct_items : (xs : List StructItem) → struct_items_height (struct_items_from xs) ≤ most_of struct_item_height xs
 low_struct_items [] = omega arith
@@ -67,11 +72,14 @@ pub low_words_of_attrs : (xs : List Attr) → specs_height (words_of_attrs xs) �
 low_words_of_attrs [] = omega arith
 low_words_of_attrs (x ∷ xs) = let rest = low_words_of_attrs xs in omega arith
 
-pub low_least : (start : SpecStart) → least_of start ≤ 2
+pub low_least : (start : SpecStart) → least_of start ≤ 4
 low_least (starts.Struct keyword) = omega arith
 low_least starts.Enum = omega arith
 low_least (starts.Name name) = omega arith
 low_least starts.Attribute = omega arith
+low_least starts.Align = omega arith
+low_least starts.Typeof = omega arith
+low_least starts.Atomic = omega arith
 low_least start = omega arith
 
 pub low_least_pointer : (mode : Mode) → least_pointer mode ≤ 2
@@ -114,3 +122,24 @@ pub low_paren : (opening : ℕ) (attrs : List Attr) (d : Declr) (closing : ℕ) 
     max (attrs_height attrs) (declr_height d) + 1
 low_paren opening attrs d closing = either (is_named d) (declr_paren opening attrs d closing) (abs_paren opening attrs d closing)
     (max (attrs_height attrs) (declr_height d) + 1) (omega arith) (omega arith)
+
+pub most_append : {T : Type 0} (height : T → ℕ) (xs ys : List T) → most_of height (xs ++ ys) ≤ max (most_of height xs) (most_of height ys)
+most_append height [] ys = omega arith
+most_append height (x ∷ xs) ys = let rest = most_append height xs ys in omega arith
+
+pub low_declarations : (xs : List Declaration) → declarations_height xs ≤ most_of declaration_height xs
+low_declarations [] = omega arith
+low_declarations (x ∷ xs) = let rest = low_declarations xs in omega arith
+
+pub low_declr : (d : Declr) → 1 ≤ declr_height d
+low_declr (pointer token words d) = omega arith
+low_declr (declr_name token name) = omega arith
+low_declr (declr_paren opening attrs d closing) = omega arith
+low_declr (array d opening words size closing) = omega arith
+low_declr (params d opening ps dots closing) = omega arith
+low_declr (abs_pointer token words d) = omega arith
+low_declr (abs_paren opening attrs d closing) = omega arith
+low_declr (abs_array d opening words size closing) = omega arith
+low_declr (abs_params d opening ps dots closing) = omega arith
+low_declr (identifiers d opening names closing) = omega arith
+low_declr (base_name token) = omega arith

@@ -1,22 +1,22 @@
 -- Bounds of the readers of initialisers.
-use Rattle.std.proofs.Common.{◌≡◌, ℕ, ◌+◌, false, List, [], Option, None, refl, arith}
-use Rattle.std.specs.Prelude.{◌-◌}
-use Rattle.c_tree.specs.Tree.{init_value, init_braced, Desigs, no_desigs, more_desigs}
-use Rattle.c_units.specs.HeldScopes.{HeldScopes}
+use Rattle.std.proofs.Common.{◌≡◌, ℕ, ◌+◌, Bool, true, false, if◌then◌else◌, List, [], Option, None, Some, refl, arith}
+use Rattle.std.specs.Prelude.{◌-◌, max, ◌&&◌}
+use Rattle.c_tree.specs.Tree.{Expr, index_desig, range_desig, old_desig, init_value, init_braced, Desigs, no_desigs, more_desigs}
+use Rattle.c_units.specs.HeldScopes.{HeldScopes, is_wide, names_type}
 use Rattle.c_reading.specs.declared.kinds.Fault.TheVariants.{Unexpected}
 use Rattle.c_reading.specs.declared.kinds.Reach.TheVariants.{Assigned, Conditional}
-use Rattle.c_reading.specs.Reading.{ends, refuses, fits, kind_at, listed, one_more, list_end, IsNumbered, and_then}
-use Rattle.c_reading.specs.Tokens.{is_open_brace, is_close_brace, is_close_bracket, is_equal, is_end}
+use Rattle.c_reading.specs.Reading.{ends, refuses, fits, kind_at, behind_first, take_one, token_at, listed, one_more, list_end, IsNumbered, and_then}
+use Rattle.c_reading.specs.Tokens.{is_colon, is_dots, spelled_name, is_open_brace, is_close_brace, is_close_bracket, is_equal, is_end}
 use Rattle.c_reading.specs.Expressing.{begins_desig, is_dot}
 use Rattle.c_reading.specs.Parts.{Inner, nothing, desigs_from}
-use Rattle.c_reading.specs.Initialising.{begins_init, equal_behind, init_with, member_desig_with, index_desig_with, desig_with, init_here, init_item_with, next_init_item, init_items_with, braced_with, init_list_with}
+use Rattle.c_reading.specs.Initialising.{range_behind, index_behind, old_item, plain_item, named_init_item, init_item_by, begins_init, equal_behind, init_with, member_desig_with, index_desig_with, desig_with, init_here, init_item_with, next_init_item, init_items_with, braced_with, init_list_with}
 use Rattle.c_tree.specs.declared.lexeme.Lexeme.{Lexeme}
 use Rattle.c_reading.proofs.Aims.{TokenLaws, Laws}
 use Rattle.c_tree.specs.Height.{desig_height, expr_height, init_height, init_list_height}
 use Rattle.c_reading.proofs.InitShown.{desig_shrinks, next_item_falls}
 use Rattle.deep_places.proofs.Heights.{low_desigs, low_init_items}
 use Rattle.deep_places.specs.Bounds.{BoundAt, most_of, begun_levels, list_item_height, InnerBounds}
-use Rattle.deep_places.proofs.Bounding.{bound_ends, bound_weaker, bound_bind, bound_fits, bound_if, token_levels, no_levels, bound_take, bound_token, bound_name, bound_repeated, next_height, list_height, bound_listed, known_by}
+use Rattle.deep_places.proofs.Bounding.{bound_ends, bound_weaker, bound_bind, bound_fits, bound_if, token_levels, no_levels, bound_take, bound_token, bound_name, bound_repeated, next_height, list_height, bound_listed, known_by, known_of}
 
 module _ (all : List Lexeme) (numbered : IsNumbered all) (tokens : TokenLaws all) (n : ℕ) (inner : Inner) (laws : Laws all n inner)
     (good : InnerBounds inner) where
@@ -47,6 +47,24 @@ module _ (all : List Lexeme) (numbered : IsNumbered all) (tokens : TokenLaws all
       _ _ _ _) (λ token b241 e242 l243. bound_bind token_levels _ (0) _ _ _ _ _ _ (bound_name _ _ _ _) (λ name b244 e245 l246.
       bound_ends _ _ _ _ _ _ _ (omega arith))))
 
+  pub b_range_behind : (opening : ℕ) (first : Expr) (room : ℕ) (s : HeldScopes) (ts : List Lexeme) → BoundAt desig_height (max
+      (expr_height first + 2) 3) room (12) ts (range_behind inner opening first room s ts)
+  unfolding range_behind
+  b_range_behind opening first room s ts =
+      bound_bind token_levels _ (0) _ _ _ _ _ _ (bound_take _ _ _ _) (λ dots p403 q403 r403. bound_bind expr_height _ (1 +
+      begun_levels nothing) _ _ _ _ _ _ (bound_weaker _ (1 + begun_levels nothing) (room - 2) (10 + begun_levels nothing) _ _ _ _
+      _ (omega arith) (omega arith) (good.expr Conditional nothing (room - 2) _ _)) (λ e p402 q402 r402. bound_bind token_levels _
+      (0) _ _ _ _ _ _ (bound_token is_close_bracket _ _ _ _) (λ closing p401 q401 r401. bound_ends _ _ _ _ _ _ _ (omega arith))))
+
+  pub b_index_behind : (opening : ℕ) (first : Expr) (room : ℕ) (s : HeldScopes) (ts : List Lexeme) → BoundAt desig_height (max
+      (expr_height first + 2) 3) room (12) ts (index_behind inner opening first room s ts)
+  unfolding index_behind
+  b_index_behind opening first room s ts =
+      bound_if _ _ _ _ _ (is_wide s && is_dots (kind_at ts)) (range_behind inner opening first room s ts) (and_then (token_at
+      is_close_bracket s ts) (λ closing. (ends (index_desig opening first closing.tree) closing.scopes closing.rest))) (λ on.
+      b_range_behind opening first room s ts) (λ off. bound_bind token_levels _ (0) _ _ _ _ _ _ (bound_token is_close_bracket _ _
+      _ _) (λ closing p404 q404 r404. bound_ends _ _ _ _ _ _ _ (omega arith)))
+
   pub b_index_desig_with : (room : ℕ) (s : HeldScopes) (ts : List Lexeme) → is_end (kind_at ts) ≡ false → BoundAt desig_height (2)
       room (12) ts (index_desig_with inner room s ts)
   unfolding index_desig_with
@@ -54,8 +72,8 @@ module _ (all : List Lexeme) (numbered : IsNumbered all) (tokens : TokenLaws all
       bound_fits _ _ _ _ _ _ _ _ (known) (λ less247. omega arith) (λ less247. bound_bind token_levels _ (0) _ _ _ _ _ _ (bound_take
       _ _ _ _) (λ opening b248 e249 l250. bound_bind expr_height _ (1 + begun_levels nothing) _ _ _ _ _ _ (bound_weaker _ (1 +
       begun_levels nothing) (room - 2) (10 + begun_levels nothing) _ _ _ _ _ (omega arith) (omega arith) (good.expr Conditional
-      nothing (room - 2) _ _)) (λ e b251 e252 l253. bound_bind token_levels _ (0) _ _ _ _ _ _ (bound_token is_close_bracket _ _
-      _ _) (λ closing b254 e255 l256. bound_ends _ _ _ _ _ _ _ (omega arith)))))
+      nothing (room - 2) _ _)) (λ e b251 e252 l253. bound_weaker _ (max (expr_height e.tree + 2) 3) room (12) _ _ _ _ _ (omega arith) (omega arith)
+      (b_index_behind opening.tree e.tree room e.scopes e.rest))))
 
   pub b_desig_with : (room : ℕ) (s : HeldScopes) (ts : List Lexeme) → is_end (kind_at ts) ≡ false → BoundAt desig_height (2) room
       (12) ts (desig_with inner room s ts)
@@ -74,10 +92,10 @@ module _ (all : List Lexeme) (numbered : IsNumbered all) (tokens : TokenLaws all
       arith) (λ less259. bound_weaker _ (1) (room - 1) (10) _ _ _ _ _ (omega arith) (omega arith) (b_init_with (room - 1) _ _)))
       (λ is258. record { held = λ e. absurd cc })
 
-  pub b_init_item_with : (room : ℕ) (s : HeldScopes) (ts : List Lexeme) → BoundAt list_item_height (3) room (12) ts (init_item_with
+  pub b_plain_item : (room : ℕ) (s : HeldScopes) (ts : List Lexeme) → BoundAt list_item_height (3) room (12) ts (plain_item
       inner room s ts)
-  unfolding init_item_with
-  b_init_item_with room s ts =
+  unfolding plain_item
+  b_plain_item room s ts =
       bound_bind (most_of desig_height) _ (2) _ _ _ _ _ _ (bound_weaker _ (2) room (12) _ _ _ _ _ (omega arith) (omega arith)
       (bound_repeated begins_desig (desig_with inner room) desig_height (2) room (12) (desig_shrinks all numbered tokens n inner
       laws room) (omega arith) (λ s9 ts9 is9. b_desig_with room _ _ (known_by begins_desig refl (kind_at ts9) is9)) s ts)) (λ
@@ -86,6 +104,34 @@ module _ (all : List Lexeme) (numbered : IsNumbered all) (tokens : TokenLaws all
       desigs.scopes desigs.rest)) (λ equal b264 e265 l266. bound_bind init_height _ (1) _ _ _ _ _ _ (bound_weaker _ (1) room
       (11) _ _ _ _ _ (omega arith) (omega arith) (b_init_here room _ _)) (λ init b267 e268 l269. bound_ends _ _ _ _ _ _ _ (let
       f270 = low_desigs desigs.tree in omega arith))))
+
+  pub b_old_item : (room : ℕ) (s : HeldScopes) (ts : List Lexeme) → BoundAt list_item_height (3) room (12) ts (old_item inner room
+      s ts)
+  unfolding old_item
+  b_old_item room s ts =
+      bound_bind token_levels _ (0) _ _ _ _ _ _ (bound_name _ _ _ _) (λ name p407 q407 r407. bound_bind token_levels _ (0) _ _ _ _
+      _ _ (bound_token is_colon _ _ _ _) (λ colon p406 q406 r406. bound_bind init_height _ (1) _ _ _ _ _ _ (bound_weaker _ (1)
+      room (11) _ _ _ _ _ (omega arith) (omega arith) (b_init_here room _ _)) (λ init p405 q405 r405. bound_ends _ _ _ _ _ _ _
+      (omega arith))))
+
+  pub b_named_init_item : (name : ℕ) (room : ℕ) (s : HeldScopes) (ts : List Lexeme) → is_end (kind_at ts) ≡ false → BoundAt
+      list_item_height (3) room (12) ts (named_init_item inner name room s ts)
+  unfolding named_init_item
+  b_named_init_item name room s ts known =
+      bound_fits _ _ _ _ _ _ _ _ (known) (λ less. omega arith) (λ less. bound_if _ _ _ _ _ (is_colon (kind_at (behind_first ts)))
+      (old_item inner room s ts) (if names_type s name then refuses Unexpected (behind_first ts) else plain_item inner room s ts)
+      (λ on. b_old_item room s ts) (λ off. bound_if _ _ _ _ _ (names_type s name) (refuses Unexpected (behind_first ts))
+      (plain_item inner room s ts) (λ on. record { held = λ e. absurd cc }) (λ off2. b_plain_item room s ts)))
+
+  b_init_item_by : (o : Option ℕ) (room : ℕ) (s : HeldScopes) (ts : List Lexeme) → ((o ≡ None → ⊥) → is_end (kind_at ts) ≡ false) →
+      BoundAt list_item_height (3) room (12) ts (init_item_by inner o room s ts)
+  b_init_item_by None room s ts known = b_plain_item room s ts
+  b_init_item_by (Some name) room s ts known =
+      bound_if _ _ _ _ _ (is_wide s) (named_init_item inner name room s ts) (plain_item inner room s ts) (λ on. b_named_init_item name room s ts (known (λ e9. absurd cc))) (λ off. b_plain_item room s ts)
+
+  pub b_init_item_with : (room : ℕ) (s : HeldScopes) (ts : List Lexeme) → BoundAt list_item_height (3) room (12) ts (init_item_with inner room s ts)
+  unfolding init_item_with
+  b_init_item_with room s ts = b_init_item_by (spelled_name (kind_at ts)) room s ts (known_of spelled_name None refl (kind_at ts))
 
   pub b_next_init_item : (room : ℕ) (token : ℕ) (s : HeldScopes) (ts : List Lexeme) → BoundAt (next_height {E = ℕ} list_item_height)
       (3) room (12) ts (next_init_item inner room token s ts)

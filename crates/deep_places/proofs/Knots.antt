@@ -1,5 +1,5 @@
 -- Where a unit is refused for its height, many tokens stand before: over the readers of every number.
-use Rattle.std.proofs.Common.{◌≡◌, ℕ, zero, suc, ◌+◌, ◌<◌, ◌≤◌, List, [], ◌∷◌, ◌++◌, length, slice_get, Some, Ok, Err, refl, ◌∙◌, ap, subst, arith}
+use Rattle.std.proofs.Common.{◌≡◌, ℕ, zero, suc, ◌+◌, ◌<◌, ◌≤◌, Bool, List, [], ◌∷◌, ◌++◌, length, slice_get, Some, Ok, Err, refl, ◌∙◌, ap, subst, arith}
 use Rattle.std.specs.Prelude.{◌*◌, ◌-◌}
 use Rattle.c_tree.specs.declared.lexeme.Lexeme.{Lexeme}
 use Rattle.c_tree.specs.Unit.{Item, item_height}
@@ -98,9 +98,9 @@ get_behind : (b : List Lexeme) (t : Lexeme) (r : List Lexeme) → slice_get (b +
 get_behind [] t r = refl
 get_behind (x ∷ b) t r = get_behind b t r
 
-alone_bound : (room d : ℕ) (items : List Item) (ts : List Lexeme) → BoundAt (λ (xs : List Item). 0) 0 room d ts (alone items ts)
-alone_bound room d items [] = record { held = record { before = []; parts = refl; low = omega arith } }
-alone_bound room d items (t ∷ ts) = record { held = λ e. absurd cc }
+alone_bound : (wide : Bool) (room d : ℕ) (items : List Item) (ts : List Lexeme) → BoundAt (λ (xs : List Item). 0) 0 room d ts (alone wide items ts)
+alone_bound wide room d items [] = record { held = record { before = []; parts = refl; low = omega arith } }
+alone_bound wide room d items (t ∷ ts) = record { held = λ e. absurd cc }
 
 abbrev refused_by : Refusal → Read (List Item)
 refused_by d = Err d
@@ -114,25 +114,25 @@ module _ (whole_are : WholeAreMixes) (goes : MixesGoOn) where
   knot_bounds zero = tied_bounds 0 never never_laws never_bounds
   knot_bounds (suc n) = tied_bounds (suc n) (knot n) (knot_laws whole_are goes n) (knot_bounds n)
 
-  unit_bound : (room : ℕ) (all : List Lexeme) → BoundAt (λ (xs : List Item). 0) 8 room 21 all (unit_of room all)
-  unit_bound room all =
-      bound_bind (most_of item_height) (λ (xs : List Item). 0) 8 8 room 21 all (items_with (knot room) (room - 1) file_scope all) (λ
-      items. and_then (token_at is_end items.scopes items.rest) (λ last. alone items.tree last.rest))
-      (bound_weaker (most_of item_height) 8 (room - 1) 20 8 room 21 all (items_with (knot room) (room - 1) file_scope all) (omega
+  unit_bound : (wide : Bool) (room : ℕ) (all : List Lexeme) → BoundAt (λ (xs : List Item). 0) 8 room 21 all (unit_of room wide all)
+  unit_bound wide room all =
+      bound_bind (most_of item_height) (λ (xs : List Item). 0) 8 8 room 21 all (items_with (knot room) (room - 1) (file_scope wide) all) (λ
+      items. and_then (token_at is_end items.scopes items.rest) (λ last. alone wide items.tree last.rest))
+      (bound_weaker (most_of item_height) 8 (room - 1) 20 8 room 21 all (items_with (knot room) (room - 1) (file_scope wide) all) (omega
       arith) (omega arith)
       (b_items_with [] none_numbered none_tokens (suc room) (knot room) (knot_laws whole_are goes room) (knot_bounds room) (room -
-      1) file_scope all))
+      1) (file_scope wide) all))
       (λ items b1 e1 l1. bound_bind token_levels (λ (xs : List Item). 0) 0 (8 * length b1 + 8) room (8 * length b1 + 21) items.rest
-      (token_at is_end items.scopes items.rest) (λ last. alone items.tree last.rest)
+      (token_at is_end items.scopes items.rest) (λ last. alone wide items.tree last.rest)
       (bound_token is_end room (8 * length b1 + 21) items.scopes items.rest)
       (λ last b2 e2 l2. bound_weaker (λ (xs : List Item). 0) 0 room (8 * length b2 + (8 * length b1 + 21)) (8 * length b2 + (8 *
-      length b1 + 8)) room (8 * length b2 + (8 * length b1 + 21)) last.rest (alone items.tree last.rest) (omega arith) (omega
+      length b1 + 8)) room (8 * length b2 + (8 * length b1 + 21)) last.rest (alone wide items.tree last.rest) (omega arith) (omega
       arith)
-      (alone_bound room (8 * length b2 + (8 * length b1 + 21)) items.tree last.rest)))
+      (alone_bound wide room (8 * length b2 + (8 * length b1 + 21)) items.tree last.rest)))
 
   -- Where a unit is refused for its height, the room is few levels for the tokens before that one.
-  pub few : (room : ℕ) (all : List Lexeme) → IsNumbered all → (at : ℕ) → unit_of room all ≡ Err (TooDeep, at) → room ≤ 8 * at + 21
-  few room all numbered at e = by_result (unit_of room all) e (unit_bound room all)
+  pub few : (wide : Bool) (room : ℕ) (all : List Lexeme) → IsNumbered all → (at : ℕ) → unit_of room wide all ≡ Err (TooDeep, at) → room ≤ 8 * at + 21
+  few wide room all numbered at e = by_result (unit_of room wide all) e (unit_bound wide room all)
     where
       by_deep : DeepAt all at room 21 → room ≤ 8 * at + 21
       by_deep h =

@@ -4,6 +4,7 @@ use Rattle.std.specs.Prelude.{◌*◌, ◌-◌, max, not}
 use Rattle.c_words.specs.declared.kinds.TokenKind.{TokenKind}
 use Rattle.c_words.specs.declared.kinds.TokenKind.TheVariants as kinds
 use Rattle.c_words.specs.declared.kinds.Keyword.{Keyword}
+use Rattle.c_words.specs.declared.kinds.Keyword.TheVariants as keywords
 use Rattle.c_tree.specs.declared.lexeme.Lexeme.{Lexeme}
 use Rattle.c_syntax.specs.declared.parts.Identifier.{Identifier}
 use Rattle.c_specs.specs.Mix.{goes_on, is_whole_mix, is_typed}
@@ -14,20 +15,20 @@ use Rattle.typedef_scope.specs.declared.kind.Kind.{Kind}
 use Rattle.typedef_scope.specs.declared.kind.Kind.TheVariants.{Constant}
 use Rattle.c_units.specs.HeldScopes.{HeldScopes, innermost, may_declare, is_name}
 use Rattle.c_reading.specs.declared.kinds.Fault.TheVariants.{Unexpected, Redeclared, BadMix}
-use Rattle.c_reading.specs.declared.kinds.Reach.TheVariants.{Conditional}
+use Rattle.c_reading.specs.declared.kinds.Reach.TheVariants.{Whole, Conditional}
 use Rattle.c_reading.specs.declared.kinds.Role.{Role}
-use Rattle.c_reading.specs.declared.kinds.Role.TheVariants.{Declaring}
+use Rattle.c_reading.specs.declared.kinds.Role.TheVariants.{Typed}
 use Rattle.c_reading.specs.declared.kinds.Mode.TheVariants.{Named}
 use Rattle.c_reading.specs.declared.kinds.SpecStart.{SpecStart}
 use Rattle.c_reading.specs.declared.kinds.SpecStart.TheVariants as starts
-use Rattle.c_reading.specs.Reading.{ends, refuses, fits, kind_at, take_one, run, listed, one_more, list_end, IsNumbered, and_then}
-use Rattle.c_reading.specs.Tokens.{is_semicolon, is_colon, is_equal, is_open_brace, is_close_brace, is_static_assert, assert_at, is_end, spelled_name, name_by, identifier_of}
-use Rattle.c_reading.specs.Parts.{Inner, nothing}
-use Rattle.c_reading.specs.Specifying.{start_at, begins_specs, class_of_start, may_stand, least_of, without_body, present, specs_here, value_with, named_declr, width_with, field_with, mem_declr_with, first_member, next_member, mem_declrs_with, member_with, struct_item_with, members_with, body_with, struct_with, enumerator_behind, enumerator_named, enumerator_with, next_enumerator, enumerators_with, enum_body_with, enum_with, word_by, word_with, word_turn_by, word_turn, whole, specs_with}
+use Rattle.c_reading.specs.Reading.{Read, ends, refuses, fits, kind_at, take_one, run, listed, one_more, list_end, IsNumbered, and_then}
+use Rattle.c_reading.specs.Tokens.{is_open_paren, is_close_paren, is_semicolon, is_colon, is_equal, is_open_brace, is_close_brace, is_static_assert, assert_at, is_end, spelled_name, name_by, identifier_of}
+use Rattle.c_reading.specs.Parts.{Inner, nothing, type_name_height}
+use Rattle.c_reading.specs.Specifying.{start_at, begins_specs, begins_role, ends_before, typed_word_with, typeof_value_with, typeof_with, atomic_with, class_of_start, may_stand, least_of, without_body, present, specs_here, value_with, named_declr, width_with, field_with, mem_declr_with, first_member, next_member, mem_declrs_with, member_with, struct_item_with, members_with, body_with, struct_with, enumerator_behind, enumerator_named, enumerator_with, next_enumerator, enumerators_with, enum_body_with, enum_with, word_by, word_with, word_turn_by, word_turn, whole, specs_with}
 use Rattle.c_syntax.specs.declared.parts.Assert.{Assert}
 use Rattle.c_syntax.specs.declared.parts.Attr.{Attr}
 use Rattle.c_reading.proofs.Aims.{TokenLaws, Laws}
-use Rattle.deep_places.proofs.Words.{b_attr_at, b_assert_at, b_extensions_at, b_attrs_at}
+use Rattle.deep_places.proofs.Words.{b_attr_at, b_align_at, b_assert_at, b_extensions_at, b_attrs_at}
 use Rattle.c_reading.proofs.SpecsFalls.{next_member_falls, struct_item_shrinks, next_enumerator_falls, word_turn_shrinks}
 use Rattle.deep_places.proofs.Heights.{low_mem_declrs, low_struct_items, low_enumerators, low_least, low_pushed, low_specs}
 use Rattle.deep_places.specs.Bounds.{BoundAt, StepAt, most_of, begun_levels, declared_height, member_height, enum_item_height, InnerBounds}
@@ -35,13 +36,13 @@ use Rattle.deep_places.proofs.Bounding.{bound_ends, bound_weaker, bound_bind, bo
 
 module _ (all : List Lexeme) (numbered : IsNumbered all) (tokens : TokenLaws all) (n : ℕ) (inner : Inner) (laws : Laws all n inner)
     (good : InnerBounds inner) where
-  pub b_specs_here : (room : ℕ) (s : HeldScopes) (ts : List Lexeme) → BoundAt specs_height (1) room (12) ts (specs_here inner room s ts)
+  pub b_specs_here : (role : Role) (room : ℕ) (s : HeldScopes) (ts : List Lexeme) → BoundAt specs_height (1) room (12) ts (specs_here inner role room s ts)
   unfolding specs_here
-  b_specs_here room s ts =
-      bound_if _ _ _ _ _ (begins_specs s (kind_at ts)) (fits 2 room ts (inner.specs Declaring no_words (room - 1) s ts)) (refuses
-      Unexpected ts) (λ is288. bound_fits _ _ _ _ _ _ _ _ (known_by (λ kind9. begins_specs s kind9) refl (kind_at ts) is288) (λ
+  b_specs_here role room s ts =
+      bound_if _ _ _ _ _ (begins_role role s (kind_at ts)) (fits 2 room ts (inner.specs role no_words (room - 1) s ts)) (refuses
+      Unexpected ts) (λ is288. bound_fits _ _ _ _ _ _ _ _ (known_by (λ kind9. begins_role role s kind9) refl (kind_at ts) is288) (λ
       less289. omega arith) (λ less289. bound_weaker _ (specs_height no_words) (room - 1) (specs_height no_words + 10) _ _ _ _ _
-      (omega arith) (omega arith) (good.specs Declaring no_words (room - 1) _ _))) (λ is288. record { held = λ e. absurd cc })
+      (omega arith) (omega arith) (good.specs role no_words (room - 1) _ _))) (λ is288. record { held = λ e. absurd cc })
 
   pub b_value_with : (test : (TokenKind → Bool)) (room : ℕ) (s : HeldScopes) (ts : List Lexeme) → (test kinds.End ≡ false) → BoundAt
       some_value_height (1) room (10) ts (value_with inner test room s ts)
@@ -131,7 +132,7 @@ module _ (all : List Lexeme) (numbered : IsNumbered all) (tokens : TokenLaws all
   b_member_with room s ts =
       bound_bind (λ (xs : List ℕ). length xs) _ (0) _ _ _ _ _ _ (bound_weaker _ (0) room (1) _ _ _ _ _ (omega arith) (omega arith)
       (b_extensions_at room _ _)) (λ exts b334 e335 l336. bound_bind specs_height _ (1) _ _ _ _ _ _ (bound_weaker _ (1) room
-      (12) _ _ _ _ _ (omega arith) (omega arith) (b_specs_here room _ _)) (λ words b337 e338 l339. bound_bind (most_of
+      (12) _ _ _ _ _ (omega arith) (omega arith) (b_specs_here Typed room _ _)) (λ words b337 e338 l339. bound_bind (most_of
       member_height) _ (2) _ _ _ _ _ _ (bound_weaker _ (2) (room - 1) (12) _ _ _ _ _ (omega arith) (omega arith)
       (b_mem_declrs_with (room - 1) _ _)) (λ ds b340 e341 l342. bound_bind token_levels _ (0) _ _ _ _ _ _ (bound_token
       is_semicolon _ _ _ _) (λ semi b343 e344 l345. bound_ends _ _ _ _ _ _ _ (let f346 = low_mem_declrs ds.tree in omega
@@ -258,6 +259,43 @@ module _ (all : List Lexeme) (numbered : IsNumbered all) (tokens : TokenLaws all
       _ _ _ _ _ (bound_weaker _ (0) room (10) _ _ _ _ _ (omega arith) (omega arith) (b_enum_body_with tag.tree room _ _)) (λ
       body b411 e412 l413. bound_ends _ _ _ _ _ _ _ (omega arith)))))
 
+  pub b_typed_word_with : (keyword : Keyword) (token opening : ℕ) (room : ℕ) (s : HeldScopes) (ts : List Lexeme) → BoundAt
+      spec_word_height (3) room (13) ts (typed_word_with inner keyword token opening room s ts)
+  unfolding typed_word_with
+  b_typed_word_with keyword token opening room s ts =
+      bound_bind type_name_height _ (2) _ _ _ _ _ _ (bound_weaker _ (2) (room - 1) (12) _ _ _ _ _ (omega arith) (omega arith)
+      (good.type_name (room - 1) _ _)) (λ t p202 q202 r202. bound_bind token_levels _ (0) _ _ _ _ _ _ (bound_token is_close_paren
+      _ _ _ _) (λ closing p201 q201 r201. bound_ends _ _ _ _ _ _ _ (omega arith)))
+
+  pub b_typeof_value_with : (token opening : ℕ) (room : ℕ) (s : HeldScopes) (ts : List Lexeme) → BoundAt spec_word_height (3) room
+      (13) ts (typeof_value_with inner token opening room s ts)
+  unfolding typeof_value_with
+  b_typeof_value_with token opening room s ts =
+      bound_bind expr_height _ (1 + begun_levels nothing) _ _ _ _ _ _ (bound_weaker _ (1 + begun_levels nothing) (room - 1) (10 +
+      begun_levels nothing) _ _ _ _ _ (omega arith) (omega arith) (good.expr Whole nothing (room - 1) _ _)) (λ e p204 q204 r204.
+      bound_bind token_levels _ (0) _ _ _ _ _ _ (bound_token is_close_paren _ _ _ _) (λ closing p203 q203 r203. bound_ends _ _ _ _
+      _ _ _ (omega arith)))
+
+  pub b_typeof_with : (room : ℕ) (s : HeldScopes) (ts : List Lexeme) → BoundAt spec_word_height (0) room (10) ts (typeof_with
+      inner room s ts)
+  unfolding typeof_with
+  b_typeof_with room s ts =
+      bound_bind token_levels _ (0) _ _ _ _ _ _ (bound_take _ _ _ _) (λ keyword p206 q206 r206. bound_bind token_levels _ (0) _ _
+      _ _ _ _ (bound_token is_open_paren _ _ _ _) (λ opening p205 q205 r205. bound_if _ _ _ _ _ (begins_specs opening.scopes
+      (kind_at opening.rest)) (typed_word_with inner keywords.Typeof keyword.tree opening.tree room opening.scopes opening.rest)
+      (typeof_value_with inner keyword.tree opening.tree room opening.scopes opening.rest) (λ on. bound_weaker _ (3) room (13) _ _
+      _ _ _ (omega arith) (omega arith) (b_typed_word_with keywords.Typeof keyword.tree opening.tree room _ _)) (λ off.
+      bound_weaker _ (3) room (13) _ _ _ _ _ (omega arith) (omega arith) (b_typeof_value_with keyword.tree opening.tree room _
+      _))))
+
+  pub b_atomic_with : (room : ℕ) (s : HeldScopes) (ts : List Lexeme) → BoundAt spec_word_height (0) room (10) ts (atomic_with
+      inner room s ts)
+  unfolding atomic_with
+  b_atomic_with room s ts =
+      bound_bind token_levels _ (0) _ _ _ _ _ _ (bound_take _ _ _ _) (λ keyword p208 q208 r208. bound_bind token_levels _ (0) _ _
+      _ _ _ _ (bound_token is_open_paren _ _ _ _) (λ opening p207 q207 r207. bound_weaker _ (3) room (13) _ _ _ _ _ (omega arith)
+      (omega arith) (b_typed_word_with keywords.AtomicType keyword.tree opening.tree room _ _)))
+
   pub b_word_by : (a0 : SpecStart) (room : ℕ) (s : HeldScopes) (ts : List Lexeme) → BoundAt spec_word_height (0) room (11) ts
       (word_by inner a0 room s ts)
   unfolding word_by
@@ -286,6 +324,15 @@ module _ (all : List Lexeme) (numbered : IsNumbered all) (tokens : TokenLaws all
       (b_attr_at room _ _)) (λ attr b446 e447 l448. bound_ends _ _ _ _ _ _ _ (omega arith))
   b_word_by (starts.Name name) room s ts =
       bound_bind token_levels _ (0) _ _ _ _ _ _ (bound_take _ _ _ _) (λ m449 b450 e451 l452. bound_ends _ _ _ _ _ _ _ (omega arith))
+  b_word_by starts.Typeof room s ts =
+      bound_weaker _ (0) (room - 1) (10) _ _ _ _ _ (omega arith) (omega arith) (b_typeof_with (room - 1) _ _)
+  b_word_by starts.Atomic room s ts =
+      bound_weaker _ (0) (room - 1) (10) _ _ _ _ _ (omega arith) (omega arith) (b_atomic_with (room - 1) _ _)
+  b_word_by starts.Align room s ts =
+      bound_bind (token_levels {A = Attr}) _ (0) _ _ _ _ _ _ (bound_weaker _ (0) room (0) _ _ _ _ _ (omega arith) (omega arith)
+      (b_align_at room _ _)) (λ attr b503 e504 l505. bound_ends _ _ _ _ _ _ _ (omega arith))
+  b_word_by starts.Auto room s ts =
+      bound_bind token_levels _ (0) _ _ _ _ _ _ (bound_take _ _ _ _) (λ m500 b501 e502 l503. bound_ends _ _ _ _ _ _ _ (omega arith))
   b_word_by starts.Nothing room s ts =
       record { held = λ e. absurd cc }
 
@@ -323,21 +370,29 @@ module _ (all : List Lexeme) (numbered : IsNumbered all) (tokens : TokenLaws all
           (λ word b1 e1 l1. bound_ends specs_height (8 * length b1 + c) room (8 * length b1 + (c + 10)) (pushed words word.tree)
           word.scopes word.rest (let few = low_pushed words word.tree in omega arith))
 
+      unless : (b : Bool) (r : Option (Read SpecWords)) → StepAt specs_height c room (c + 10) ts r → StepAt specs_height c room (c + 10) ts (if b then None else r)
+      unless true r h = tt
+      unless false r h = h
+
       by_start : (start : SpecStart) → ((start ≡ starts.Nothing → ⊥) → is_end (kind_at ts) ≡ false) → StepAt specs_height c room (c
           + 10) ts (word_turn_by inner role room start words s ts)
-      by_start starts.Nothing known = tt
-      by_start (starts.Storage keyword) known = by_test (starts.Storage keyword) true (known (λ e9. absurd cc))
-      by_start starts.Thread known = by_test starts.Thread true (known (λ e9. absurd cc))
-      by_start starts.Inline known = by_test starts.Inline true (known (λ e9. absurd cc))
-      by_start starts.Noreturn known = by_test starts.Noreturn true (known (λ e9. absurd cc))
-      by_start (starts.Word keyword) known = by_test (starts.Word keyword) true (known (λ e9. absurd cc))
-      by_start starts.Element known = by_test starts.Element true (known (λ e9. absurd cc))
-      by_start starts.Index known = by_test starts.Index true (known (λ e9. absurd cc))
-      by_start (starts.Basic keyword) known = by_test (starts.Basic keyword) true (known (λ e9. absurd cc))
-      by_start (starts.Struct keyword) known = by_test (starts.Struct keyword) true (known (λ e9. absurd cc))
-      by_start starts.Enum known = by_test starts.Enum true (known (λ e9. absurd cc))
-      by_start starts.Attribute known = by_test starts.Attribute true (known (λ e9. absurd cc))
-      by_start (starts.Name name) known = by_test (starts.Name name) true (known (λ e9. absurd cc))
+      by_start starts.Nothing known = unless (ends_before s words starts.Nothing) _ tt
+      by_start (starts.Storage keyword) known = unless (ends_before s words (starts.Storage keyword)) _ (by_test (starts.Storage keyword) true (known (λ e9. absurd cc)))
+      by_start starts.Thread known = unless (ends_before s words starts.Thread) _ (by_test starts.Thread true (known (λ e9. absurd cc)))
+      by_start starts.Inline known = unless (ends_before s words starts.Inline) _ (by_test starts.Inline true (known (λ e9. absurd cc)))
+      by_start starts.Noreturn known = unless (ends_before s words starts.Noreturn) _ (by_test starts.Noreturn true (known (λ e9. absurd cc)))
+      by_start (starts.Word keyword) known = unless (ends_before s words (starts.Word keyword)) _ (by_test (starts.Word keyword) true (known (λ e9. absurd cc)))
+      by_start starts.Element known = unless (ends_before s words starts.Element) _ (by_test starts.Element true (known (λ e9. absurd cc)))
+      by_start starts.Index known = unless (ends_before s words starts.Index) _ (by_test starts.Index true (known (λ e9. absurd cc)))
+      by_start (starts.Basic keyword) known = unless (ends_before s words (starts.Basic keyword)) _ (by_test (starts.Basic keyword) true (known (λ e9. absurd cc)))
+      by_start (starts.Struct keyword) known = unless (ends_before s words (starts.Struct keyword)) _ (by_test (starts.Struct keyword) true (known (λ e9. absurd cc)))
+      by_start starts.Enum known = unless (ends_before s words starts.Enum) _ (by_test starts.Enum true (known (λ e9. absurd cc)))
+      by_start starts.Attribute known = unless (ends_before s words starts.Attribute) _ (by_test starts.Attribute true (known (λ e9. absurd cc)))
+      by_start starts.Typeof known = unless (ends_before s words starts.Typeof) _ (by_test starts.Typeof true (known (λ e9. absurd cc)))
+      by_start starts.Atomic known = unless (ends_before s words starts.Atomic) _ (by_test starts.Atomic true (known (λ e9. absurd cc)))
+      by_start starts.Align known = unless (ends_before s words starts.Align) _ (by_test starts.Align true (known (λ e9. absurd cc)))
+      by_start starts.Auto known = unless (ends_before s words starts.Auto) _ (by_test starts.Auto true (known (λ e9. absurd cc)))
+      by_start (starts.Name name) known = unless (ends_before s words (starts.Name name)) _ (by_test (starts.Name name) true (known (λ e9. absurd cc)))
 
   pub b_whole : (room : ℕ) (words : SpecWords) (s : HeldScopes) (ts : List Lexeme) → BoundAt specs_height (specs_height words) room
       (0) ts (whole inner words s ts)

@@ -1,36 +1,42 @@
 -- Bounds of the readers of statements and declarations.
-use Rattle.std.proofs.Common.{◌≡◌, ℕ, ◌+◌, ◌≤◌, Bool, false, if◌then◌else◌, List, [], length, Option, Some, None, refl, arith}
-use Rattle.std.specs.Prelude.{◌*◌, ◌-◌, max, not}
+use Rattle.std.proofs.Common.{◌≡◌, ℕ, ◌+◌, ◌<◌, ◌≤◌, Bool, true, false, if◌then◌else◌, List, [], ◌∷◌, ◌++◌, length, Option, Some, None, refl, arith}
+use Rattle.std.specs.Prelude.{◌*◌, ◌-◌, max, not, ◌&&◌}
 use Rattle.c_words.specs.declared.kinds.TokenKind.{TokenKind}
 use Rattle.c_syntax.specs.declared.parts.Attr.{Attr}
-use Rattle.c_tree.specs.Tree.{Expr, no_expr, some_expr, SpecWords, no_words, more_words, typedef_name, Declr, no_init, some_init, declaration, decl_declaration, decl_assert, block_decl, block_stmt, Stmt, attr_stmt, switch_stmt, while_stmt, continue_stmt, break_stmt, no_else, some_else, start_declaration, start_value}
-use Rattle.c_tree.specs.Height.{specs_height, attrs_height, block_item_height, declaration_height, declr_height, expr_height, for_start_height, init_height, label_height, some_else_height, some_expr_height, some_init_height, stmt_height}
+use Rattle.c_tree.specs.Tree.{init_value, Expr, no_expr, some_expr, SpecWords, no_words, more_words, typedef_name, Declr, base_name, no_init, some_init, declaration, decl_declaration, decl_assert, block_decl, block_stmt, Stmt, attr_stmt, switch_stmt, while_stmt, continue_stmt, break_stmt, no_else, some_else, start_declaration, start_value}
+use Rattle.c_tree.specs.Height.{some_declr_height, specs_height, attrs_height, block_item_height, declaration_height, declr_height, expr_height, for_start_height, init_height, label_height, some_else_height, some_expr_height, some_init_height, stmt_height}
 use Rattle.typedef_scope.specs.declared.kind.Kind.{Kind}
-use Rattle.c_units.specs.HeldScopes.{names_type, enter, leave, HeldScopes}
-use Rattle.c_units.specs.Scoping.{declared_kind}
+use Rattle.c_units.specs.HeldScopes.{is_wide, names_type, enter, leave, HeldScopes}
+use Rattle.c_units.specs.Scoping.{declared_kind, at_name, has_typedef_word}
+use Rattle.c_tree.specs.Specifiers.{storage_words}
+use Rattle.c_tree.specs.WellFormed.{has_auto}
+use Rattle.c_syntax.specs.declared.parts.Identifier.{Identifier}
+use Rattle.typedef_scope.specs.declared.kind.Kind.TheVariants.{Value}
 use Rattle.c_reading.specs.declared.kinds.Fault.TheVariants.{Unexpected}
-use Rattle.c_reading.specs.declared.kinds.Reach.TheVariants.{Whole, Conditional}
+use Rattle.c_reading.specs.declared.kinds.Reach.TheVariants.{Whole, Assigned, Conditional}
 use Rattle.c_reading.specs.declared.kinds.Role.TheVariants.{Declaring}
 use Rattle.c_reading.specs.declared.kinds.StmtStart.{StmtStart}
 use Rattle.c_reading.specs.declared.kinds.StmtStart.TheVariants as starts
 use Rattle.c_reading.specs.Reading.{Reader, ends, refuses, fits, kind_at, behind_first, take_one, token_at, listed, IsNumbered, and_then}
-use Rattle.c_reading.specs.Tokens.{is_open_paren, is_close_paren, is_open_brace, is_close_brace, is_colon, is_semicolon, is_equal, is_asm, is_while, is_else, is_extension, is_attribute, is_static_assert, spelled_name, group_at, assert_at, is_end}
+use Rattle.c_reading.specs.Tokens.{is_dots, is_star, is_label_word, name_at, is_open_paren, is_close_paren, is_open_brace, is_close_brace, is_colon, is_semicolon, is_equal, is_base_word, is_asm, is_while, is_else, is_extension, is_attribute, is_static_assert, spelled_name, group_at, assert_at, is_end}
 use Rattle.c_reading.specs.Specifying.{begins_specs}
 use Rattle.c_reading.specs.Declaring.{words_of_attrs}
 use Rattle.c_reading.specs.Expressing.{begins_expr}
 use Rattle.c_reading.specs.Initialising.{init_with}
 use Rattle.c_reading.specs.Parts.{Inner, Begun, nothing, extensions, DeclrItem, init_declrs_from}
-use Rattle.c_reading.specs.Stating.{stmt_start, label_at, some_init_with, declr_behind, init_declr_with, next_init_declr, declrs_with, bare_declaration, declaration_behind, declaration_with, declaration_from, expr_stmt_with, label_with, named_item, extended_item, attr_item_by, attr_item, other_item, block_item_with, block_body, block_with, some_expr_with, case_with, default_with, some_else_with, if_inside, headed_inside, do_inside, start_value_with, extended_start, for_start_with, for_inside, goto_with, jump_with, return_with, asm_with, attr_stmt_with, named_stmt, stmt_by, stmt_with}
+use Rattle.c_reading.specs.Stating as stating
+use Rattle.c_reading.specs.Stating.{auto_declr, auto_name, auto_declarator, auto_behind, labels_with, goto_value_with, goto_name, stmt_start, label_at, some_init_with, declr_behind, init_declr_with, next_init_declr, declrs_with, bare_declaration, declaration_behind, declaration_with, declaration_from, expr_stmt_with, label_with, named_item, extended_item, attr_item_by, attr_item, other_item, block_item_with, block_body, block_with, some_expr_with, case_with, default_with, some_else_with, if_inside, headed_inside, do_inside, start_value_with, extended_start, for_start_with, for_inside, goto_with, jump_with, return_with, asm_with, attr_stmt_with, named_stmt, stmt_by, stmt_with}
 use Rattle.c_tree.specs.declared.lexeme.Lexeme.{Lexeme}
 use Rattle.c_syntax.specs.declared.parts.Assert.{Assert}
 use Rattle.c_syntax.specs.declared.parts.Group.{Group}
 use Rattle.c_reading.proofs.Aims.{TokenLaws, Laws}
-use Rattle.deep_places.proofs.Words.{attrs_low, b_group_at, b_assert_at, b_asm_words_at, b_extensions_at, b_attrs_at}
-use Rattle.c_reading.proofs.StmtFalls.{next_declr_falls, block_item_shrinks}
-use Rattle.deep_places.proofs.Heights.{low_init_declrs, low_block_items, low_words_of_attrs}
-use Rattle.deep_places.proofs.Specs.{b_specs_here, b_named_declr}
+use Rattle.deep_places.proofs.Words.{b_names_list, name_shrinks, attrs_low, b_group_at, b_assert_at, b_asm_words_at, b_extensions_at, b_attrs_at}
+use Rattle.c_reading.proofs.StmtFalls.{labels_shrinks, next_declr_falls, block_item_shrinks}
+use Rattle.deep_places.proofs.Heights.{most_append, low_init_declrs, low_block_items, low_words_of_attrs}
+use Rattle.deep_places.proofs.Specs.{b_specs_here, b_named_declr, b_present}
+use Rattle.deep_places.proofs.Declrs.{b_name_held}
 use Rattle.deep_places.proofs.Inits.{b_init_with}
-use Rattle.deep_places.specs.Bounds.{BoundAt, most_of, begun_levels, block_tree_height, declr_item_height, InnerBounds}
+use Rattle.deep_places.specs.Bounds.{declared_height, BoundAt, most_of, begun_levels, block_tree_height, declr_item_height, InnerBounds}
 use Rattle.deep_places.proofs.Bounding.{bound_ends, bound_weaker, bound_bind, bound_fits, bound_if, token_levels, no_levels, bound_take, bound_token, bound_name, bound_repeated, next_height, list_height, bound_listed, known_of, known_by}
 
 module _ (all : List Lexeme) (numbered : IsNumbered all) (tokens : TokenLaws all) (n : ℕ) (inner : Inner) (laws : Laws all n inner)
@@ -116,10 +122,52 @@ module _ (all : List Lexeme) (numbered : IsNumbered all) (tokens : TokenLaws all
       bound_fits _ _ _ _ _ _ _ _ (known) (λ less602. omega arith) (λ less602. bound_bind token_levels _ (0) _ _ _ _ _ _ (bound_take
       _ _ _ _) (λ semi b603 e604 l605. bound_ends _ _ _ _ _ _ _ (let f606 = low_init_declrs [] in omega arith)))
 
+  pub b_auto_declr : (exts : List ℕ) (words : SpecWords) (d : Declr) (room : ℕ) (s : HeldScopes) (ts : List Lexeme) → BoundAt
+      declaration_height (specs_height words + declr_height d + 4) room (14) ts (auto_declr inner exts words d room s ts)
+  unfolding auto_declr
+  b_auto_declr exts words d room s ts =
+      bound_bind attrs_height _ (1) _ _ _ _ _ _ (bound_weaker _ (1) room (1) _ _ _ _ _ (omega arith) (omega arith) (b_attrs_at
+      room _ _)) (λ attrs p504 q504 r504. bound_bind token_levels _ (0) _ _ _ _ _ _ (bound_token is_equal _ _ _ _) (λ equal p503
+      q503 r503. bound_bind expr_height _ (1 + begun_levels nothing) _ _ _ _ _ _ (bound_weaker _ (1 + begun_levels nothing) (room
+      - 1) (10 + begun_levels nothing) _ _ _ _ _ (omega arith) (omega arith) (good.expr Assigned nothing (room - 1) _ _)) (λ e
+      p502 q502 r502. bound_bind token_levels _ (0) _ _ _ _ _ _ (bound_token is_semicolon _ _ _ _) (λ semi p501 q501 r501.
+      bound_ends _ _ _ _ _ _ _ (let few = low_init_declrs (record {
+        before = [];
+        declr = d;
+        label = None;
+        attrs = attrs.tree;
+        init
+            = some_init equal.tree (init_value e.tree);
+      } ∷ []) in omega arith)))))
+
+  b_auto_name : (o : Option ℕ) (room : ℕ) (s : HeldScopes) (ts : List Lexeme) → ((o ≡ None → ⊥) → is_end (kind_at ts) ≡ false) → BoundAt declr_height (0) room (0) ts (auto_name inner o room s ts)
+  b_auto_name None room s ts known = record { held = λ e. absurd cc }
+  b_auto_name (Some name) room s ts known =
+      bound_bind declared_height _ (0) _ _ _ _ _ _ (bound_weaker _ (0) room (0) _ _ _ _ _ (omega arith) (omega arith)
+      (b_name_held all numbered tokens n inner laws good name room (at_name (Some Value) name s) s ts (known (λ e9. absurd cc))))
+      (λ d b1 e1 l1. bound_weaker _ (some_declr_height d.tree.declr) room (0) _ _ _ _ _ (omega arith) (omega arith) (b_present all numbered tokens n inner laws good room d.tree.declr d.scopes d.rest))
+
+  b_auto_declarator : (typed : Bool) (room : ℕ) (s : HeldScopes) (ts : List Lexeme) → BoundAt declr_height (0) room (0) ts (auto_declarator inner typed room s ts)
+  b_auto_declarator false room s ts = b_auto_name (spelled_name (kind_at ts)) room s ts (known_of spelled_name None refl (kind_at ts))
+  b_auto_declarator true room s ts =
+      bound_if _ _ _ _ _ (is_base_word (kind_at ts)) (fits 1 room ts (and_then (take_one s ts) (λ token. ends (base_name token.tree) token.scopes token.rest))) (refuses Unexpected ts)
+      (λ on. bound_fits _ _ _ _ _ _ _ _ (known_by (λ kind9. is_base_word kind9) refl (kind_at ts) on) (λ less. omega arith) (λ less. bound_bind token_levels _ (0) _ _ _ _ _ _ (bound_take _ _ _ _)
+      (λ token b1 e1 l1. bound_ends _ _ _ _ _ _ _ (omega arith)))) (λ off. record { held = λ e. absurd cc })
+
+  pub b_auto_behind : (exts : List ℕ) (words : SpecWords) (room : ℕ) (s : HeldScopes) (ts : List Lexeme) → BoundAt
+      declaration_height (specs_height words + 4) room (specs_height words + 17) ts (auto_behind inner exts words room s ts)
+  unfolding auto_behind
+  b_auto_behind exts words room s ts =
+      bound_bind declr_height _ (0) _ _ _ _ _ _ (bound_weaker _ (0) (room - 2) (0) _ _ _ _ _ (omega arith) (omega arith)
+      (b_auto_declarator (has_typedef_word (storage_words words)) (room - 2) s ts)) (λ d p505 q505 r505. bound_weaker _ (specs_height
+      words + declr_height d.tree + 4) (room - 1) (14) _ _ _ _ _ (omega arith) (omega arith) (b_auto_declr exts words d.tree (room - 1) d.scopes d.rest))
+
   pub b_declaration_behind : (exts : List ℕ) (words : SpecWords) (room : ℕ) (s : HeldScopes) (ts : List Lexeme) → BoundAt
       declaration_height (specs_height words + 4) room (specs_height words + 17) ts (declaration_behind inner exts words room s ts)
   unfolding declaration_behind
   b_declaration_behind exts words room s ts =
+      bound_if _ _ _ _ _ (has_auto words) (auto_behind inner exts words room s ts) (if is_semicolon (kind_at ts) then bare_declaration inner exts words room s ts
+      else declrs_with inner exts words (declared_kind words) room (init_declr_with inner [] (declared_kind words) (room - 1)) s ts) (λ on. b_auto_behind exts words room s ts) (λ off.
       bound_if _ _ _ _ _ (is_semicolon (kind_at ts)) (bare_declaration inner exts words room s ts) (declrs_with inner exts words
       (declared_kind words) room (init_declr_with inner [] (declared_kind words) (room - 1)) s ts) (λ is607. bound_weaker _
       (specs_height words + 1) room (specs_height words + 14) _ _ _ _ _ (omega arith) (omega arith) (b_bare_declaration exts
@@ -127,14 +175,14 @@ module _ (all : List Lexeme) (numbered : IsNumbered all) (tokens : TokenLaws all
       words + (2) + 1) room (2 + 15) _ _ _ _ _ (omega arith) (omega arith) (b_declrs_with exts words (declared_kind words) room
       (init_declr_with inner [] (declared_kind words) (room - 1)) _ _ 2 (omega arith) (λ s8 ts8. bound_weaker declr_item_height
       2 (room - 1) 11 2 room (2 + 14) ts8 (init_declr_with inner [] (declared_kind words) (room - 1) s8 ts8) (omega arith)
-      (omega arith) (b_init_declr_with [] (declared_kind words) (room - 1) s8 ts8))))
+      (omega arith) (b_init_declr_with [] (declared_kind words) (room - 1) s8 ts8)))))
 
   pub b_declaration_with : (exts : List ℕ) (room : ℕ) (s : HeldScopes) (ts : List Lexeme) → BoundAt declaration_height (5) room (18)
       ts (declaration_with inner exts room s ts)
   unfolding declaration_with
   b_declaration_with exts room s ts =
       bound_bind specs_height _ (1) _ _ _ _ _ _ (bound_weaker _ (1) room (12) _ _ _ _ _ (omega arith) (omega arith) (b_specs_here
-      all numbered tokens n inner laws good room _ _)) (λ words b608 e609 l610. bound_weaker _ (specs_height words.tree + 4)
+      all numbered tokens n inner laws good Declaring room _ _)) (λ words b608 e609 l610. bound_weaker _ (specs_height words.tree + 4)
       room (specs_height words.tree + 17) _ _ _ _ _ (omega arith) (omega arith) (b_declaration_behind exts words.tree room _ _))
 
   pub b_declaration_from : (known : SpecWords) (room : ℕ) (s : HeldScopes) (ts : List Lexeme) → BoundAt declaration_height
@@ -259,17 +307,30 @@ module _ (all : List Lexeme) (numbered : IsNumbered all) (tokens : TokenLaws all
       _ _ (omega arith) (omega arith) (b_other_item (spelled_name (kind_at ts)) room _ _ (known_of spelled_name None refl
       (kind_at ts))))))
 
+  pub b_labels_with : (room : ℕ) (s : HeldScopes) (ts : List Lexeme) → is_end (kind_at ts) ≡ false → BoundAt block_item_height (6)
+      room (20) ts (labels_with inner room s ts)
+  unfolding labels_with
+  b_labels_with room s ts known =
+      bound_fits _ _ _ _ _ _ _ _ (known) (λ less509. omega arith) (λ less509. bound_bind token_levels _ (0) _ _ _ _ _ _
+      (bound_take _ _ _ _) (λ keyword p508 q508 r508. bound_bind (no_levels {A = List Identifier}) _ (0) _ _ _ _ _ _ (bound_weaker
+      _ (0) room (0) _ _ _ _ _ (omega arith) (omega arith) (b_names_list name_at name_shrinks (λ room2 s2 ts2. bound_name room2 0
+      s2 ts2) room _ _)) (λ names p507 q507 r507. bound_bind token_levels _ (0) _ _ _ _ _ _ (bound_token is_semicolon _ _ _ _) (λ
+      semi p506 q506 r506. bound_ends _ _ _ _ _ _ _ (omega arith)))))
+
   pub b_block_body : (room : ℕ) (s : HeldScopes) (ts : List Lexeme) → BoundAt block_tree_height (1) room (13) ts (block_body inner
       room s ts)
   unfolding block_body
   b_block_body room s ts =
       bound_bind token_levels _ (0) _ _ _ _ _ _ (bound_take _ _ _ _) (λ opening b703 e704 l705. bound_bind (most_of
       block_item_height) _ (6) _ _ _ _ _ _ (bound_weaker _ (6) (room - 1) (20) _ _ _ _ _ (omega arith) (omega arith)
+      (bound_repeated is_label_word (labels_with inner (room - 1)) block_item_height (6) (room - 1) (20) (labels_shrinks all tokens n inner laws (room - 1)) (omega arith)
+      (λ s9 ts9 is9. b_labels_with (room - 1) _ _ (known_by is_label_word refl (kind_at ts9) is9)) opening.scopes opening.rest)) (λ labels b800 e800 l800. bound_bind (most_of
+      block_item_height) _ (6) _ _ _ _ _ _ (bound_weaker _ (6) (room - 1) (20) _ _ _ _ _ (omega arith) (omega arith)
       (bound_repeated (λ kind. not (is_close_brace kind)) (block_item_with inner (room - 1)) block_item_height (6) (room - 1)
       (20) (block_item_shrinks all tokens n inner laws (room - 1)) (omega arith) (λ s9 ts9 is9. b_block_item_with (room - 1) _
-      _) opening.scopes opening.rest)) (λ items b706 e707 l708. bound_bind token_levels _ (0) _ _ _ _ _ _ (bound_token
-      is_close_brace _ _ _ _) (λ closing b709 e710 l711. bound_ends _ _ _ _ _ _ _ (let f712 = low_block_items items.tree in
-      omega arith))))
+      _) labels.scopes labels.rest)) (λ items b706 e707 l708. bound_bind token_levels _ (0) _ _ _ _ _ _ (bound_token
+      is_close_brace _ _ _ _) (λ closing b709 e710 l711. bound_ends _ _ _ _ _ _ _ (let f712 = low_block_items (labels.tree ++ items.tree) in let f713 =
+      most_append block_item_height labels.tree items.tree in omega arith)))))
 
   pub b_block_with : (room : ℕ) (s : HeldScopes) (ts : List Lexeme) → BoundAt block_tree_height (1) room (13) ts (block_with inner
       room s ts)
@@ -291,6 +352,25 @@ module _ (all : List Lexeme) (numbered : IsNumbered all) (tokens : TokenLaws all
       _ (omega arith) (omega arith) (good.expr Whole nothing room _ _)) (λ e b721 e722 l723. bound_ends _ _ _ _ _ _ _ (omega
       arith)))
 
+  pub b_case_range : (keyword : ℕ) (first : Expr) (room : ℕ) (s : HeldScopes) (ts : List Lexeme) → BoundAt stmt_height (max
+      (expr_height first + 1) 2) room (15) ts (stating.range_behind inner keyword first room s ts)
+  unfolding stating.range_behind
+  b_case_range keyword first room s ts =
+      bound_bind token_levels _ (0) _ _ _ _ _ _ (bound_take _ _ _ _) (λ dots p513 q513 r513. bound_bind expr_height _ (1 +
+      begun_levels nothing) _ _ _ _ _ _ (bound_weaker _ (1 + begun_levels nothing) (room - 1) (10 + begun_levels nothing) _ _ _ _
+      _ (omega arith) (omega arith) (good.expr Conditional nothing (room - 1) _ _)) (λ e p512 q512 r512. bound_bind token_levels _
+      (0) _ _ _ _ _ _ (bound_token is_colon _ _ _ _) (λ colon p511 q511 r511. bound_bind stmt_height _ (2) _ _ _ _ _ _
+      (bound_weaker _ (2) (room - 1) (14) _ _ _ _ _ (omega arith) (omega arith) (good.stmt (room - 1) _ _)) (λ t p510 q510 r510.
+      bound_ends _ _ _ _ _ _ _ (omega arith)))))
+
+  pub b_case_value : (keyword : ℕ) (first : Expr) (room : ℕ) (s : HeldScopes) (ts : List Lexeme) → BoundAt stmt_height (max
+      (expr_height first + 1) 2) room (15) ts (stating.value_behind inner keyword first room s ts)
+  unfolding stating.value_behind
+  b_case_value keyword first room s ts =
+      bound_bind token_levels _ (0) _ _ _ _ _ _ (bound_token is_colon _ _ _ _) (λ colon p515 q515 r515. bound_bind stmt_height _
+      (2) _ _ _ _ _ _ (bound_weaker _ (2) (room - 1) (14) _ _ _ _ _ (omega arith) (omega arith) (good.stmt (room - 1) _ _)) (λ t
+      p514 q514 r514. bound_ends _ _ _ _ _ _ _ (omega arith)))
+
   pub b_case_with : (room : ℕ) (s : HeldScopes) (ts : List Lexeme) → is_end (kind_at ts) ≡ false → BoundAt stmt_height (2) room (14)
       ts (case_with inner room s ts)
   unfolding case_with
@@ -298,9 +378,10 @@ module _ (all : List Lexeme) (numbered : IsNumbered all) (tokens : TokenLaws all
       bound_fits _ _ _ _ _ _ _ _ (known) (λ less724. omega arith) (λ less724. bound_bind token_levels _ (0) _ _ _ _ _ _ (bound_take
       _ _ _ _) (λ keyword b725 e726 l727. bound_bind expr_height _ (1 + begun_levels nothing) _ _ _ _ _ _ (bound_weaker _ (1 +
       begun_levels nothing) (room - 1) (10 + begun_levels nothing) _ _ _ _ _ (omega arith) (omega arith) (good.expr Conditional
-      nothing (room - 1) _ _)) (λ e b728 e729 l730. bound_bind token_levels _ (0) _ _ _ _ _ _ (bound_token is_colon _ _ _ _) (λ
-      colon b731 e732 l733. bound_bind stmt_height _ (2) _ _ _ _ _ _ (bound_weaker _ (2) (room - 1) (14) _ _ _ _ _ (omega arith)
-      (omega arith) (good.stmt (room - 1) _ _)) (λ t b734 e735 l736. bound_ends _ _ _ _ _ _ _ (omega arith))))))
+      nothing (room - 1) _ _)) (λ e b728 e729 l730. bound_if _ _ _ _ _ (is_wide e.scopes && is_dots (kind_at e.rest)) (stating.range_behind inner keyword.tree e.tree room e.scopes e.rest)
+      (stating.value_behind inner keyword.tree e.tree room e.scopes e.rest)
+      (λ on. bound_weaker _ (max (expr_height e.tree + 1) 2) room (15) _ _ _ _ _ (omega arith) (omega arith) (b_case_range keyword.tree e.tree room _ _))
+      (λ off. bound_weaker _ (max (expr_height e.tree + 1) 2) room (15) _ _ _ _ _ (omega arith) (omega arith) (b_case_value keyword.tree e.tree room _ _)))))
 
   pub b_default_with : (room : ℕ) (s : HeldScopes) (ts : List Lexeme) → is_end (kind_at ts) ≡ false → BoundAt stmt_height (2) room
       (14) ts (default_with inner room s ts)
@@ -419,14 +500,36 @@ module _ (all : List Lexeme) (numbered : IsNumbered all) (tokens : TokenLaws all
       _ _ _ (omega arith) (omega arith) (good.stmt (room - 1) _ _)) (λ m879 b884 e885 l886. bound_ends _ _ _ _ _ _ _ (omega
       arith))) (λ t b880 e881 l882. bound_ends _ _ _ _ _ _ _ (omega arith)))))))))
 
+  pub b_goto_value : (keyword : ℕ) (room : ℕ) (s : HeldScopes) (ts : List Lexeme) → is_end (kind_at ts) ≡ false → BoundAt
+      stmt_height (2) room (14) ts (goto_value_with inner keyword room s ts)
+  unfolding goto_value_with
+  b_goto_value keyword room s ts known =
+      bound_fits _ _ _ _ _ _ _ _ (known) (λ less519. omega arith) (λ less519. bound_bind token_levels _ (0) _ _ _ _ _ _
+      (bound_take _ _ _ _) (λ star p518 q518 r518. bound_bind expr_height _ (1 + begun_levels nothing) _ _ _ _ _ _ (bound_weaker _
+      (1 + begun_levels nothing) (room - 1) (10 + begun_levels nothing) _ _ _ _ _ (omega arith) (omega arith) (good.expr Whole
+      nothing (room - 1) _ _)) (λ e p517 q517 r517. bound_bind token_levels _ (0) _ _ _ _ _ _ (bound_token is_semicolon _ _ _ _)
+      (λ semi p516 q516 r516. bound_ends _ _ _ _ _ _ _ (omega arith)))))
+
+  pub b_goto_name : (keyword : ℕ) (room : ℕ) (s : HeldScopes) (ts : List Lexeme) → BoundAt stmt_height (2) room (14) ts (goto_name
+      inner keyword s ts)
+  unfolding goto_name
+  b_goto_name keyword room s ts =
+      bound_bind token_levels _ (0) _ _ _ _ _ _ (bound_name _ _ _ _) (λ name p521 q521 r521. bound_bind token_levels _ (0) _ _ _ _
+      _ _ (bound_token is_semicolon _ _ _ _) (λ semi p520 q520 r520. bound_ends _ _ _ _ _ _ _ (omega arith)))
+
+  star_known : (b : Bool) (kind : TokenKind) → (b && is_star kind) ≡ true → is_end kind ≡ false
+  star_known true kind is = known_by is_star refl kind is
+  star_known false kind is = absurd cc
+
   pub b_goto_with : (room : ℕ) (s : HeldScopes) (ts : List Lexeme) → is_end (kind_at ts) ≡ false → BoundAt stmt_height (2) room (14)
       ts (goto_with inner room s ts)
   unfolding goto_with
   b_goto_with room s ts known =
       bound_fits _ _ _ _ _ _ _ _ (known) (λ less887. omega arith) (λ less887. bound_bind token_levels _ (0) _ _ _ _ _ _ (bound_take
-      _ _ _ _) (λ keyword b888 e889 l890. bound_bind token_levels _ (0) _ _ _ _ _ _ (bound_name _ _ _ _) (λ name b891 e892 l893.
-      bound_bind token_levels _ (0) _ _ _ _ _ _ (bound_token is_semicolon _ _ _ _) (λ semi b894 e895 l896. bound_ends _ _ _ _ _
-      _ _ (omega arith)))))
+      _ _ _ _) (λ keyword b888 e889 l890. bound_if _ _ _ _ _ (is_wide keyword.scopes && is_star (kind_at keyword.rest)) (goto_value_with inner keyword.tree room keyword.scopes keyword.rest)
+      (goto_name inner keyword.tree keyword.scopes keyword.rest)
+      (λ on. bound_weaker _ (2) room (14) _ _ _ _ _ (omega arith) (omega arith) (b_goto_value keyword.tree room _ _ (star_known (is_wide keyword.scopes) (kind_at keyword.rest) on)))
+      (λ off. bound_weaker _ (2) room (14) _ _ _ _ _ (omega arith) (omega arith) (b_goto_name keyword.tree room _ _))))
 
   pub b_jump_with : (make : (ℕ → ℕ → Stmt)) (room : ℕ) (s : HeldScopes) (ts : List Lexeme) → is_end (kind_at ts) ≡ false → ((a b :
       ℕ) → stmt_height (make a b) ≤ 1) → BoundAt stmt_height (2) room (14) ts (jump_with inner make room s ts)

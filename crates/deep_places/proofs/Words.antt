@@ -13,18 +13,20 @@ use Rattle.c_reading.specs.declared.kinds.Bracket.{Bracket}
 use Rattle.c_reading.specs.declared.kinds.Bracket.TheVariants.{Paren}
 use Rattle.c_reading.specs.declared.kinds.Inside.{Inside}
 use Rattle.c_reading.specs.declared.kinds.Inside.TheVariants.{Opens, Closes, Plain, Stops}
-use Rattle.c_reading.specs.Reading.{Reader, Read, kind_at, ends, refuses, fits, take_one, token_at, run, repeated, Found, and_then}
+use Rattle.c_syntax.specs.declared.parts.Identifier.{Identifier}
+use Rattle.c_reading.specs.Declaring.{is_identifier, identifier_at, next_name, names_list}
+use Rattle.c_reading.specs.Reading.{listed, Next, Reader, Read, kind_at, ends, refuses, fits, take_one, token_at, run, repeated, Found, and_then}
 use Rattle.c_units.specs.HeldScopes.{HeldScopes}
-use Rattle.c_reading.specs.Tokens.{is_open_paren, is_semicolon, is_text, is_extension, is_attribute, is_static_assert, extensions_at, texts_at, qual_of, made_at, is_made, quals_at, array_word_of, array_words_at, asm_word_of, asm_words_at, inside_of, is_same, bracket_by, bracket_step, bracket_turn_by, bracket_turn, group_at, attr_at, attrs_at, pointer_word_at, begins_pointer_word, pointer_words_at, assert_at, Opened}
+use Rattle.c_reading.specs.Tokens.{spelled_name, name_at, is_open_paren, is_semicolon, is_text, is_extension, is_attribute, is_static_assert, align_at, extensions_at, texts_at, qual_of, word_qual_of, made_at, is_made, quals_at, array_word_of, array_words_at, asm_word_of, asm_words_at, inside_of, is_same, bracket_by, bracket_step, bracket_turn_by, bracket_turn, group_at, attr_at, attrs_at, pointer_word_at, begins_pointer_word, pointer_words_at, assert_at, Opened}
 use Rattle.c_tree.specs.Height.{attrs_height, pointer_words_height}
 use Rattle.c_reading.proofs.Binding.{done, ok_is, bind_ok, fits_ok, take_falls, token_falls}
 use Rattle.c_reading.proofs.Loops.{TurnShrinks}
-use Rattle.c_reading.proofs.Forms.{Shrinks}
+use Rattle.c_reading.proofs.Forms.{Falls, Shrinks, name_falls}
 use Rattle.c_reading.proofs.Groups.{group_shrinks}
 use Rattle.c_reading.proofs.TokenRows.{made_shrinks}
 use Rattle.c_reading.proofs.TokensShown.{pointer_word_shrinks}
 use Rattle.deep_places.specs.Bounds.{BoundAt, StepAt, most_of}
-use Rattle.deep_places.proofs.Bounding.{bound_ends, bound_weaker, bound_bind, bound_fits, bound_if, token_levels, no_levels, bound_take, bound_token, bound_run, bound_repeated, known_by, bound_count, bound_made}
+use Rattle.deep_places.proofs.Bounding.{bound_ends, bound_weaker, bound_bind, bound_fits, bound_if, token_levels, no_levels, bound_take, bound_token, bound_name, bound_listed, next_height, list_height, bound_run, bound_repeated, known_by, bound_count, bound_made}
 
 -- Groups.
 
@@ -107,6 +109,12 @@ b_attr_at room s ts =
     Group}) _ (0) _ _ _ _ _ _ (bound_weaker _ (0) room (0) _ _ _ _ _ (omega arith) (omega arith) (b_group_at room _ _)) (λ group
     b4 e5 l6. bound_ends _ _ _ _ _ _ _ (omega arith)))
 
+pub b_align_at : (room : ℕ) (s : HeldScopes) (ts : List Lexeme) → BoundAt (token_levels {A = Attr}) (0) room (0) ts (align_at s ts)
+unfolding align_at
+b_align_at room s ts =
+    bound_bind token_levels _ (0) _ _ _ _ _ _ (bound_take _ _ _ _) (λ keyword b1 e2 l3. bound_bind (no_levels {A = Group}) _ (0) _ _ _ _ _ _
+    (bound_weaker _ (0) room (0) _ _ _ _ _ (omega arith) (omega arith) (b_group_at room _ _)) (λ group b4 e5 l6. bound_ends _ _ _ _ _ _ _ (omega arith)))
+
 pub b_assert_at : (room : ℕ) (s : HeldScopes) (ts : List Lexeme) → BoundAt (no_levels {A = Assert}) (0) room (0) ts (assert_at s ts)
 unfolding assert_at
 b_assert_at room s ts =
@@ -133,7 +141,7 @@ made_row {A} of begins room s ts = forget (repeated begins (made_at of) s ts) (b
 
 pub b_quals_at : (room : ℕ) (s : HeldScopes) (ts : List Lexeme) → BoundAt no_levels 0 room 0 ts (quals_at s ts)
 unfolding quals_at
-b_quals_at room s ts = made_row qual_of (λ kind. is_made (qual_of kind)) room s ts
+b_quals_at room s ts = made_row word_qual_of (λ kind. is_made (word_qual_of kind)) room s ts
 
 pub b_array_words_at : (room : ℕ) (s : HeldScopes) (ts : List Lexeme) → BoundAt no_levels 0 room 0 ts (array_words_at s ts)
 unfolding array_words_at
@@ -249,3 +257,27 @@ b_pointer_words_at room s ts =
       };
     }
     forget (Err e) b = record { held = b.held }
+
+-- Lists of names.
+
+next_falls : (name : Reader Identifier) → Shrinks name → (comma : ℕ) → Falls (next_name name comma)
+next_falls name shrinks comma s ts x e =
+    let a = bind_ok e in
+    omega (arith, shrinks s ts a.0 a.1, ap (λ (x : Found (Next Identifier ⊥)). length x.rest) (ok_is a.2))
+
+pub b_names_list : (name : Reader Identifier) → Shrinks name → ((room : ℕ) (s : HeldScopes) (ts : List Lexeme) → BoundAt token_levels 0 room 0 ts (name s ts)) →
+    (room : ℕ) (s : HeldScopes) (ts : List Lexeme) → BoundAt no_levels 0 room 0 ts (names_list name s ts)
+unfolding names_list
+b_names_list name shrinks bound room s ts =
+    bound_bind (list_height {E = ⊥} no_levels) _ (0) _ _ _ _ _ _ (bound_listed name (next_name name) no_levels 0 room 0 (λ comma. next_falls name shrinks comma) (omega arith) s ts
+    (fewer_levels room ts (name s ts) (bound room s ts))
+    (λ comma s9 ts9. bound_bind token_levels _ (0) _ _ _ _ _ _ (bound room s9 ts9) (λ x b1 e1 l1. bound_ends _ _ _ _ _ _ _ (omega arith))))
+    (λ xs b2 e2 l2. bound_ends _ _ _ _ _ _ _ (omega arith))
+
+-- identifiers of a list, which are no names of typedefs
+pub bound_identifier : (room : ℕ) (s : HeldScopes) (ts : List Lexeme) → BoundAt token_levels 0 room 0 ts (identifier_at s ts)
+bound_identifier room s ts =
+    bound_if token_levels 0 room 0 ts (is_identifier s (spelled_name (kind_at ts))) (name_at s ts) (refuses Unexpected ts) (λ is. bound_name room 0 s ts) (λ is. record { held = λ e. absurd cc })
+
+pub name_shrinks : Shrinks name_at
+name_shrinks s ts x e = let one = name_falls s ts x e in omega arith

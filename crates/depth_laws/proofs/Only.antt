@@ -1,5 +1,5 @@
 -- A refusal for the height: a tree begins with the tokens up to it, and there are many.
-use Rattle.std.proofs.Common.{◌≡◌, ℕ, zero, suc, ◌+◌, ◌*◌, ◌<◌, ◌≤◌, List, [], ◌∷◌, ◌++◌, length, take, slice_get, inl, inr, Some, Ok, Err, refl, sym, ◌∙◌, ap, subst, arith, append_assoc}
+use Rattle.std.proofs.Common.{◌≡◌, ℕ, zero, suc, ◌+◌, ◌*◌, ◌<◌, ◌≤◌, Bool, List, [], ◌∷◌, ◌++◌, length, take, slice_get, inl, inr, Some, Ok, Err, refl, sym, ◌∙◌, ap, subst, arith, append_assoc}
 use Rattle.std.specs.Prelude.{◌-◌, drop, slice_index_or}
 use Rattle.std.proofs.Math.Seq.{take-add}
 use Rattle.c_words.specs.declared.kinds.TokenKind.{TokenKind}
@@ -65,9 +65,9 @@ not_both r e x is also = absurd cc
 
 module _ (formed : UnitIsWellFormed) (read_back : WellFormedIsRead) (whole_are : WholeAreMixes) (goes : MixesGoOn) (first : PlaceIsFirst) (trees : UnitsBeginAsTrees) (late : TooDeepIsLate) (passes : WithMoreRoomItPasses) (sound : AnyUnitIsWellFormed) where
   -- what is read with some room begins with its first tokens
-  begins : (room : ℕ) → 1 ≤ room → (front more : List TokenKind) (y : Found (List Item)) → unit_of room (numbered (front ++ more)) ≡ Ok y → BeginsTree front
-  begins room one front more y is =
-      let w = sound (numbered (front ++ more)) (are_numbered (front ++ more)) room y one is in (
+  begins : (dialect : Bool) (room : ℕ) → 1 ≤ room → (front more : List TokenKind) (y : Found (List Item)) → unit_of room dialect (numbered (front ++ more)) ≡ Ok y → BeginsTree front
+  begins dialect room one front more y is =
+      let w = sound dialect (numbered (front ++ more)) (are_numbered (front ++ more)) room y one is in (
         y.tree,
         record {
           behind = more;
@@ -76,7 +76,7 @@ module _ (formed : UnitIsWellFormed) (read_back : WellFormedIsRead) (whole_are :
         },
       )
 
-  module _ (tokens : List TokenKind) (at : ℕ) (ended : IsEnded tokens) (e : unit_of most (numbered tokens) ≡ Err (TooDeep, at)) where
+  module _ (dialect : Bool) (tokens : List TokenKind) (at : ℕ) (ended : IsEnded tokens) (e : unit_of most dialect (numbered tokens) ≡ Err (TooDeep, at)) where
     abbrev all : List Lexeme
     all = numbered tokens
 
@@ -84,23 +84,23 @@ module _ (formed : UnitIsWellFormed) (read_back : WellFormedIsRead) (whole_are :
     wide = 8 * length tokens + 522
 
     fifty : 50 ≤ at
-    fifty = let l = late most all (are_numbered tokens) at e in omega (arith, l)
+    fifty = let l = late dialect most all (are_numbered tokens) at e in omega (arith, l)
 
-    place : Placed most tokens TooDeep at
-    place = placed most (items_of formed read_back whole_are goes most (omega arith)) tokens TooDeep at ended e
+    place : Placed dialect most tokens TooDeep at
+    place = placed dialect most (items_of formed read_back whole_are goes most (omega arith)) tokens TooDeep at ended e
 
-    wide_place : (fault : Fault) (n : ℕ) → unit_of wide all ≡ Err (fault, n) → Placed wide tokens fault n
-    wide_place fault n is = placed wide (items_of formed read_back whole_are goes wide (omega arith)) tokens fault n ended is
+    wide_place : (fault : Fault) (n : ℕ) → unit_of wide dialect all ≡ Err (fault, n) → Placed dialect wide tokens fault n
+    wide_place fault n is = placed dialect wide (items_of formed read_back whole_are goes wide (omega arith)) tokens fault n ended is
 
     -- with so much room nothing is too deep
-    none_deep : (n : ℕ) → unit_of wide all ≡ Err (TooDeep, n) → ⊥
+    none_deep : (n : ℕ) → unit_of wide dialect all ≡ Err (TooDeep, n) → ⊥
     none_deep n is =
-        let l = late wide all (are_numbered tokens) n is in
+        let l = late dialect wide all (are_numbered tokens) n is in
         let there = (wide_place TooDeep n is).there in
         absurd (omega (arith, l, there))
 
     -- the first token is not refused, since something begins with it
-    not_first : (fault : Fault) → unit_of wide all ≡ Err (fault, 0) → ⊥
+    not_first : (fault : Fault) → unit_of wide dialect all ≡ Err (fault, 0) → ⊥
     not_first fault is =
         let p = wide_place fault 0 is in
         let b = place.begun in
@@ -108,12 +108,12 @@ module _ (formed : UnitIsWellFormed) (read_back : WellFormedIsRead) (whole_are :
         let whole : at ≡ 1 + (at - 1) = (let f = fifty in omega (arith, f)) in
         let parts : take at tokens ≡ take 1 tokens ++ rest = ap (λ (n : ℕ). take n tokens) whole ∙ take-add 1 (at - 1) tokens in
         let same : take at tokens ++ b.0 ≡ take 1 tokens ++ (rest ++ b.0) = ap (λ (ks : List TokenKind). ks ++ b.0) parts ∙ append_assoc (take 1 tokens) rest b.0 in
-        let read = subst (λ (r : Read (List Item)). Passes (numbered (take at tokens ++ b.0)) r (unit_of wide (numbered (take at tokens ++ b.0)))) b.2 (passes most wide (omega arith) (omega arith) (numbered (take at tokens ++ b.0))) in
+        let read = subst (λ (r : Read (List Item)). Passes (numbered (take at tokens ++ b.0)) r (unit_of wide dialect (numbered (take at tokens ++ b.0)))) b.2 (passes most wide (omega arith) (omega arith) dialect (numbered (take at tokens ++ b.0))) in
         let a = p.alike (rest ++ b.0) in
-        not_both (unit_of wide (numbered (take 1 tokens ++ (rest ++ b.0)))) (fault, a.0) b.1 a.1 (sym (ap (λ (ks : List TokenKind). unit_of wide (numbered ks)) same) ∙ read)
+        not_both (unit_of wide dialect (numbered (take 1 tokens ++ (rest ++ b.0)))) (fault, a.0) b.1 a.1 (sym (ap (λ (ks : List TokenKind). unit_of wide dialect (numbered ks)) same) ∙ read)
 
     -- units begin with what stands before a token behind it
-    behind_it : (d : Refusal) → unit_of wide all ≡ refused d → at < d.1 → BeginsTree (take (at + 1) tokens)
+    behind_it : (d : Refusal) → unit_of wide dialect all ≡ refused d → at < d.1 → BeginsTree (take (at + 1) tokens)
     behind_it d is more =
         let p = wide_place d.0 d.1 is in
         let b = p.begun in
@@ -121,9 +121,9 @@ module _ (formed : UnitIsWellFormed) (read_back : WellFormedIsRead) (whole_are :
         let whole : d.1 ≡ (at + 1) + m = omega (arith, more) in
         let parts : take d.1 tokens ≡ take (at + 1) tokens ++ take m (drop (at + 1) tokens) = ap (λ (n : ℕ). take n tokens) whole ∙ take-add (at + 1) m tokens in
         let same = ap (λ (ks : List TokenKind). ks ++ b.0) parts ∙ append_assoc (take (at + 1) tokens) (take m (drop (at + 1) tokens)) b.0 in
-        begins wide (omega arith) (take (at + 1) tokens) (take m (drop (at + 1) tokens) ++ b.0) b.1 (sym (ap (λ (ks : List TokenKind). unit_of wide (numbered ks)) same) ∙ b.2)
+        begins dialect wide (omega arith) (take (at + 1) tokens) (take m (drop (at + 1) tokens) ++ b.0) b.1 (sym (ap (λ (ks : List TokenKind). unit_of wide dialect (numbered ks)) same) ∙ b.2)
 
-    among : (d : Refusal) → unit_of wide all ≡ refused d → (here : List Lexeme) → Leaves all here → at ≡ number_at here → (us : List Lexeme) → Leaves (behind_first here) us → d.1 ≡ number_at us → BeginsTree (take (at + 1) tokens)
+    among : (d : Refusal) → unit_of wide dialect all ≡ refused d → (here : List Lexeme) → Leaves all here → at ≡ number_at here → (us : List Lexeme) → Leaves (behind_first here) us → d.1 ≡ number_at us → BeginsTree (take (at + 1) tokens)
     among d is [] left there us inside place_of = let f = fifty in absurd (omega (arith, f, there))
     among d is (t ∷ r) left there [] inside none = absurd (not_first d.0 (is ∙ ap (λ (n : ℕ). refused (d.0, n)) none))
     among d is (t ∷ r) left there (u ∷ us) inside place_of =
@@ -131,10 +131,10 @@ module _ (formed : UnitIsWellFormed) (read_back : WellFormedIsRead) (whole_are :
         behind_it d is (omega (arith, far, there, place_of))
 
     tree : BeginsTree (take (at + 1) tokens)
-    tree = by_wide (unit_of wide all) refl (subst (λ (r : Read (List Item)). Passes all r (unit_of wide all)) e (passes most wide (omega arith) (omega arith) all))
+    tree = by_wide (unit_of wide dialect all) refl (subst (λ (r : Read (List Item)). Passes all r (unit_of wide dialect all)) e (passes most wide (omega arith) (omega arith) dialect all))
       where
-        by_wide : (r : Read (List Item)) → unit_of wide all ≡ r → Passes all (refused (TooDeep, at)) r → BeginsTree (take (at + 1) tokens)
-        by_wide (Ok y) is p = begins wide (omega arith) (take (at + 1) tokens) (drop (at + 1) tokens) y (ap (λ (ks : List TokenKind). unit_of wide (numbered ks)) (cut_here (at + 1) tokens) ∙ is)
+        by_wide : (r : Read (List Item)) → unit_of wide dialect all ≡ r → Passes all (refused (TooDeep, at)) r → BeginsTree (take (at + 1) tokens)
+        by_wide (Ok y) is p = begins dialect wide (omega arith) (take (at + 1) tokens) (drop (at + 1) tokens) y (ap (λ (ks : List TokenKind). unit_of wide dialect (numbered ks)) (cut_here (at + 1) tokens) ∙ is)
         by_wide (Err d) is (inl same) = absurd (none_deep at (is ∙ same))
         by_wide (Err d) is (inr deep) = by_late deep.late
           where
@@ -143,13 +143,13 @@ module _ (formed : UnitIsWellFormed) (read_back : WellFormedIsRead) (whole_are :
             by_late (inr inside) = among d is deep.at deep.left (place_is at (number_at deep.at) deep.is) inside.0 inside.1.0 inside.1.1
 
   pub only_the_height : OnlyTheHeight
-  only_the_height tokens at ended e =
-      let bad = first tokens TooDeep at ended e in
-      let is = unit_is (numbered tokens) ∙ e in
+  only_the_height dialect tokens at ended e =
+      let bad = first dialect tokens TooDeep at ended e in
+      let is = unit_is dialect (numbered tokens) ∙ e in
       record {
         there = bad.there;
         none = bad.none;
-        before = trees (take at tokens) bad.before;
+        before = trees dialect (take at tokens) bad.before;
         height = tt;
-        may_be = (fifty tokens at ended is, tree tokens at ended is);
+        may_be = (fifty dialect tokens at ended is, tree dialect tokens at ended is);
       }

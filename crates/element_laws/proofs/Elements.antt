@@ -41,6 +41,10 @@ module _ (lattices : List LatticeView) where
   some_where true cs h = h
   some_where false cs h = tt
 
+  pub either_where : (b : Bool) (cs ds : List Constraint) → AllNamed cs → AllNamed ds → AllNamed (if b then cs else ds)
+  either_where true cs ds h k = h
+  either_where false cs ds h k = k
+
   -- flows, calls and returns name none, whatever the owners of their ends
 
   stays_named : (own : ℕ → Owner) (owner : Owner) (link : Link) → Stays own owner link → IsNamed link

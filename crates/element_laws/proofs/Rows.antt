@@ -23,10 +23,10 @@ use Rattle.name_rules.specs.Values.{is_additive, own_of}
 use Rattle.row_rules.specs.Starting.{is_some_function}
 use Rattle.row_rules.specs.Forming.{Ways, ways_in, in_some, pointing, into_member, into_members, formed_in, all_formed_in, formed}
 use Rattle.row_rules.specs.Worlds.{World, Numbered, skeleton_among, all_lattices, at, constraint, constraints, site_number, skeleton, span, word_span}
-use Rattle.row_rules.specs.Annotations.{Annotation, entry_of_view, entry_at, signed, links_of_entry, alone, marked, annotation_constraints, annotated, annotating, bounds_of, bounds_from, write_bounds, deref_bounds, uncut, parameters}
+use Rattle.row_rules.specs.Annotations.{derefs_where, Annotation, entry_of_view, entry_at, signed, links_of_entry, alone, marked, annotation_constraints, annotated, annotating, bounds_of, bounds_from, write_bounds, deref_bounds, uncut, parameters}
 use Rattle.row_rules.specs.Indexing.{Indexed, indexed, value_lattices, is_below, below_each, below_all, indexing}
-use Rattle.row_rules.specs.Vals.{Val, contents, is_empty, is_fun, is_nothing, is_ref, own, result, value}
-use Rattle.row_rules.specs.Rows.{flowing, dereferenced, is_plus_or_minus, assigned, is_logical, computed, branched, chosen, prefixed, passed, formed_here, crossed, instance, some_instance, use_demand, annotating_some, annotating_place, casting, cast_demand, annotating_name, formed_name, plain_name_row, plain_param_row, equal_to, tied_to, name_row, declared_row, some_declared_row, into_param, param_row, RowKind, no_row, row_of_name, row_of_param, row_at, returned, started, taken}
+use Rattle.row_rules.specs.Vals.{Candidate, is_vector_index, Val, contents, is_empty, is_fun, is_nothing, is_ref, own, result, value}
+use Rattle.row_rules.specs.Rows.{carried, carrying, index_demand, picked, picking, flowing, dereferenced, is_plus_or_minus, assigned, is_logical, computed, branched, chosen, prefixed, passed, formed_here, crossed, instance, some_instance, use_demand, annotating_some, annotating_place, casting, cast_demand, annotating_name, formed_name, plain_name_row, plain_param_row, equal_to, tied_to, name_row, declared_row, some_declared_row, into_param, param_row, RowKind, no_row, row_of_name, row_of_param, row_at, returned, started, taken}
 use Rattle.element_laws.proofs.Elements.{AllNamed, lists_named, none_where, some_where, flows_named, calls_named, nobodys}
 
 -- the flow lists of rows are flows, calls and returns alone
@@ -111,10 +111,10 @@ module _ (law : Flows) (w : World) where
   pub writes_named : (v : ℕ) (where_ : Span) → Named (write_bounds w v where_)
   writes_named v where_ = views_named (λ entry. entry.write) v where_ 0 w.lattices all_behind
 
-  pub dereferenced_named : (s : Skel) (where_ : Span) → Named (dereferenced w s where_)
-  dereferenced_named s where_ =
-      none_where w.lattices (is_fun (contents s)) (deref_bounds w (root s) where_)
-      (views_named (λ entry. entry.deref) (root s) where_ 0 w.lattices all_behind)
+  pub dereferenced_named : (s : Skel) (aims : Bool) (where_ : Span) → Named (dereferenced w s aims where_)
+  dereferenced_named s aims where_ =
+      none_where w.lattices (is_fun (contents s)) (deref_bounds w (root s) aims where_)
+      (views_named (λ entry. derefs_where aims entry.deref) (root s) where_ 0 w.lattices all_behind)
 
   -- annotation words
 
@@ -240,15 +240,43 @@ module _ (law : Flows) (w : World) where
       (lists_named w.lattices (formed w where_ t) (branched w a b t where_) (formed_named where_ t)
       (both_named false false a b t where_))
 
-  pub prefixed_named : (p : Punct) (is_zero : Bool) (e : Val) (t : Skel) (where_ : Span) →
-      Named (prefixed w p is_zero e t where_)
-  prefixed_named signs.PlusPlus is_zero e t where_ = writes_named (root e.skel) where_
-  prefixed_named signs.MinusMinus is_zero e t where_ = writes_named (root e.skel) where_
-  prefixed_named signs.Star is_zero e t where_ = dereferenced_named (value e) where_
-  prefixed_named signs.Plus is_zero e t where_ = flowing_named is_zero (value e) t (all_lattices w) where_
-  prefixed_named signs.Minus is_zero e t where_ = flowing_named is_zero (value e) t (all_lattices w) where_
-  prefixed_named signs.Tilde is_zero e t where_ = flowing_named is_zero (value e) t (all_lattices w) where_
-  prefixed_named p is_zero e t where_ = tt
+  pub prefixed_named : (p : Punct) (is_zero : Bool) (e : Val) (t : Skel) (aims : Bool) (where_ : Span) →
+      Named (prefixed w p is_zero e t aims where_)
+  prefixed_named signs.PlusPlus is_zero e t aims where_ = writes_named (root e.skel) where_
+  prefixed_named signs.MinusMinus is_zero e t aims where_ = writes_named (root e.skel) where_
+  prefixed_named signs.Star is_zero e t aims where_ = dereferenced_named (value e) aims where_
+  prefixed_named signs.Plus is_zero e t aims where_ = flowing_named is_zero (value e) t (all_lattices w) where_
+  prefixed_named signs.Minus is_zero e t aims where_ = flowing_named is_zero (value e) t (all_lattices w) where_
+  prefixed_named signs.Tilde is_zero e t aims where_ = flowing_named is_zero (value e) t (all_lattices w) where_
+  prefixed_named p is_zero e t aims where_ = tt
+
+  pub index_named : (a b : Skel) (aims : Bool) (where_ : Span) → Named (index_demand w a b aims where_)
+  index_named a b aims where_ =
+      none_where w.lattices (is_vector_index w.spelling.wide a b) (dereferenced w (if is_ref a then a else b) aims where_)
+      (dereferenced_named (if is_ref a then a else b) aims where_)
+
+  -- a pointer that carries another one names no element for that
+  carrying_named : (by t : Skel) (where_ : Span) → Named (carrying w by t where_)
+  carrying_named by t where_ = none_where w.lattices (is_nothing by || is_nothing t) _ (tt, tt)
+
+  pub carried_named : (place by t : Skel) (where_ : Span) → Named (carried w place by t where_)
+  carried_named place by t where_ = lists_named w.lattices (formed w where_ t) _ (formed_named where_ t)
+      (lists_named w.lattices (flowing false place t (all_lattices w) where_) _
+      (flowing_named false place t (all_lattices w) where_) (carrying_named by t where_))
+
+  -- picks
+
+  picking_named : (all : List Candidate) (t : Skel) (where_ : Span) → Named (picking w all t where_)
+  picking_named [] t where_ = tt
+  picking_named (it ∷ others) t where_ =
+      lists_named w.lattices (flowing it.is_zero (value it.val) t (all_lattices w) where_) _
+      (flowing_named it.is_zero (value it.val) t (all_lattices w) where_) (picking_named others t where_)
+
+  pub picked_named : (all : List Candidate) (t : Skel) (where_ : Span) → Named (picked w all t where_)
+  picked_named [] t where_ = tt
+  picked_named (it ∷ []) t where_ = tt
+  picked_named (it ∷ (other ∷ others)) t where_ = lists_named w.lattices (formed w where_ t) _ (formed_named where_ t)
+      (picking_named (it ∷ (other ∷ others)) t where_)
 
   pub passed_named : (is_zero : Bool) (a : Skel) (t : Option Skel) (e : Option ℕ) (where_ : Span) →
       Named (passed w is_zero a t e where_)

@@ -1,6 +1,5 @@
 -- The constants and bounds that are found along tapes name elements.
 use Rattle.std.proofs.Common.{List, [], ◌∷◌, Option, None, Some, subst}
-use Rattle.std.specs.Prelude.{if◌then◌else◌}
 use Rattle.qual_base.specs.declared.places.Span.{Span}
 use Rattle.flow_graph.specs.declared.constraint.Constraint.{Constraint}
 use Rattle.tape_ops.specs.declared.op.Op.{Op}
@@ -24,20 +23,21 @@ use Rattle.qual_types.specs.Skel.{Skel, root, param_at}
 use Rattle.shape_steps.specs.State.{declared_last}
 use Rattle.row_rules.specs.Worlds.{World, at, all_lattices, span}
 use Rattle.row_rules.specs.Annotations.{parameters, further}
-use Rattle.row_rules.specs.Vals.{contents, is_ref, own}
+use Rattle.row_rules.specs.Vals.{is_carrying, own}
 use Rattle.row_rules.specs.Vals as vals
 use Rattle.row_rules.specs.Forming.{formed}
 use Rattle.row_rules.specs.Rows.{annotating_some, annotating_place, formed_here}
 use Rattle.row_steps.specs.Rounds.{naming, is_quiet}
 use Rattle.row_steps.specs.State.{Operand, State, nothing, first_operand, val_of_operand, is_zero_operand, type_of_operand, val_at, value_at, is_zero_at, type_at, operands_below, first_braces}
-use Rattle.row_steps.specs.Steps.{target_in, initialised_by, step}
+use Rattle.row_steps.specs.Steps.{target_in, initialised_by, selected, step}
+use Rattle.row_steps.specs.Steps as steps
 use Rattle.row_steps.specs.OpRows.{function_skeleton, naming_row, into_target, called_at, expr_row, form_row, init_row, spec_row, declr_row, stmt_row, loud_row, op_row}
 use Rattle.row_steps.specs.Found.{rows_found, unit_rows}
 use Rattle.constraint_rules.specs.Systems.{Program, system_of, world_of}
 use Rattle.row_laws.specs.Laws.{ConstraintsAreFound, rows_among}
 use Rattle.element_laws.specs.Naming.{ElementsAreNamed, LatticesAreNamed}
-use Rattle.element_laws.proofs.Elements.{AllNamed, lists_named, none_where, system_named, lattices_named}
-use Rattle.element_laws.proofs.Rows.{Flows, writes_named, dereferenced_named, formed_named, formed_here_named, annotating_some_named, annotating_place_named, flowing_named, assigned_named, computed_named, chosen_named, prefixed_named, passed_named, returned_named, cast_named, started_named, taken_named, use_named, row_named}
+use Rattle.element_laws.proofs.Elements.{AllNamed, either_where, lists_named, none_where, system_named, lattices_named}
+use Rattle.element_laws.proofs.Rows.{carried_named, index_named, picked_named, Flows, writes_named, dereferenced_named, formed_named, formed_here_named, annotating_some_named, annotating_place_named, flowing_named, assigned_named, computed_named, chosen_named, prefixed_named, passed_named, returned_named, cast_named, started_named, taken_named, use_named, row_named}
 
 module _ (law : Flows) (w : World) where
   abbrev Named : List Constraint → Type 0
@@ -64,18 +64,21 @@ module _ (law : Flows) (w : World) where
   expr_named st (exprs.Binary sign token first last) =
       computed_named law w sign (is_zero_at 1 st) (is_zero_at 0 st) (value_at 1 st) (value_at 0 st) (own w token)
       (span w first last)
-  expr_named st (exprs.Prefix sign token last) =
-      prefixed_named law w sign (is_zero_at 0 st) (val_at 0 st) (own w token) (span w token last)
+  expr_named st (exprs.Prefix sign token last aims) =
+      either_where w.lattices (is_carrying w sign aims) _ _
+      (carried_named law w (val_at 0 st).skel st.carried (own w token) (span w token token))
+      (prefixed_named law w sign (is_zero_at 0 st) (val_at 0 st) (own w token) aims (span w token last))
   expr_named st (exprs.Post sign token first) = writes_named law w (root (val_at 0 st).skel) (span w first token)
-  expr_named st (exprs.Index token first last) =
-      dereferenced_named law w (if is_ref (value_at 1 st) then value_at 1 st else value_at 0 st) (span w first last)
+  expr_named st (exprs.Index token first last aims) =
+      index_named law w (value_at 1 st) (value_at 0 st) aims (span w first last)
   expr_named st (exprs.Arg behind first last) =
       let f = called_at behind st in
       passed_named law w (is_zero_at behind st) (value_at behind st) (param_at (parameters f) st.passed) (further f)
       (span w first last)
   expr_named st (exprs.Call token count) = tt
-  expr_named st (exprs.Arrow token first last) = dereferenced_named law w (value_at 0 st) (span w first last)
+  expr_named st (exprs.Arrow token first last aims) = dereferenced_named law w (value_at 0 st) aims (span w first last)
   expr_named st (exprs.Dot token member name) = tt
+  expr_named st (exprs.Label token) = formed_here_named law w token
 
   form_named : (st : State) (op : FormOp) → Named (form_row w st op)
   form_named st (forms.Cast token last) =
@@ -94,6 +97,13 @@ module _ (law : Flows) (w : World) where
   form_named st (forms.OffsetMember token name) = tt
   form_named st (forms.OffsetIndex token) = tt
   form_named st (forms.Offset token) = tt
+  form_named st (forms.Compat token) = tt
+  form_named st forms.Control = tt
+  form_named st forms.NoType = tt
+  form_named st (forms.Choose token) =
+      picked_named law w (vals.left_of (steps.chosen st)) (own w token) (span w token token)
+  form_named st (forms.Generic token count) =
+      picked_named law w (vals.left_of (selected w token 0 count st)) (own w token) (span w token token)
 
   init_named : (st : State) (op : InitOp) → Named (init_row w st op)
   init_named st (inits.Value first last) =
@@ -117,7 +127,7 @@ module _ (law : Flows) (w : World) where
   spec_named op = tt
 
   declr_named : (st : State) (op : DeclrOp) → Named (declr_row w st op)
-  declr_named st (declrs.DeclName token name) = row_named law w (naming_row w (naming st.rounds)) token
+  declr_named st (declrs.DeclName token name) = row_named law w (naming_row w (naming st.rounds) token) token
   declr_named st (declrs.ParamsBegin is_own) = tt
   declr_named st declrs.Param = tt
   declr_named st declrs.ParamsEnd = tt
@@ -125,6 +135,10 @@ module _ (law : Flows) (w : World) where
   declr_named st declrs.Array = tt
   declr_named st (declrs.Function has_ellipsis) = tt
   declr_named st declrs.Declare = tt
+  declr_named st declrs.AutoBegin = tt
+  declr_named st (declrs.AutoEnd token) = tt
+  declr_named st (declrs.Identifier token name) = tt
+  declr_named st declrs.OldParam = tt
   declr_named st declrs.Member = tt
   declr_named st (declrs.TypeName first) = tt
   declr_named st declrs.DeclarationEnd = tt
@@ -161,9 +175,9 @@ units_named law p (it ∷ sources) =
     (tape_named law (world_of p it) (tape_of it.items) nothing) (units_named law p sources)
 
 pub elements_are_named : Flows → ConstraintsAreFound → ElementsAreNamed
-elements_are_named law found p sized =
-    system_named p.lattices (system_of p) sized (subst (AllNamed p.lattices) (found p) (units_named law p p.sources))
+elements_are_named law found p sound sized =
+    system_named p.lattices (system_of p) sized (subst (AllNamed p.lattices) (found p sound) (units_named law p p.sources))
 
 pub lattices_are_named : Flows → ConstraintsAreFound → LatticesAreNamed
-lattices_are_named law found p sized =
-    lattices_named p.lattices (system_of p) sized (subst (AllNamed p.lattices) (found p) (units_named law p p.sources))
+lattices_are_named law found p sound sized =
+    lattices_named p.lattices (system_of p) sized (subst (AllNamed p.lattices) (found p sound) (units_named law p p.sources))

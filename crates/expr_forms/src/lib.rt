@@ -7,6 +7,7 @@ mod arguments;
 mod offsets;
 mod operand;
 mod parens;
+mod picks;
 mod postfix;
 mod prefixes;
 mod primaries;

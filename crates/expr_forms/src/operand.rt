@@ -5,7 +5,8 @@ ghost use Rattle.expr_forms.specs.Parts.{cast_at, unary_at, unary_by_at};
 
 use crate::offsets::offset;
 use crate::parens::opened;
-use crate::prefixes::{extension, prefix};
+use crate::picks::{choose, compat, generic};
+use crate::prefixes::{extension, label_use, part, prefix};
 use crate::primaries::{character, named, number, text};
 use crate::sizes::sizeof;
 use crate::variadic::{va_arg, va_copy, va_start};
@@ -40,6 +41,11 @@ where
         Opening::VaStart => va_start(lent, room, place, depth),
         Opening::VaCopy => va_copy(lent, room, place, depth),
         Opening::Offset => offset(lent, room, place, depth),
+        Opening::Part => part(lent, room, place, depth),
+        Opening::Label => label_use(room, place, depth),
+        Opening::Compat => compat(lent, room, place, depth),
+        Opening::Choose => choose(lent, room, place, depth),
+        Opening::Generic => generic(lent, room, place, depth),
         Opening::Nothing => Err(refused(Fault::Unexpected, place.rest)),
     }
 }

@@ -1,12 +1,16 @@
 //! Prefixes of an operand (C99, 6.5.3).
 
+ghost use Rattle.c_reading.specs.Expressing as exprs;
+ghost use Rattle.c_reading.specs.Knot.{knot};
 ghost use Rattle.reader_base.specs.Lent.{Lends, ReadsExpr};
 ghost use Rattle.expr_forms.specs.Parts.{extension_at, prefix_at};
 
 use c_nodes::SizedExpr;
-use c_reading::Reach;
+use c_reading::{Fault, Reach};
 use c_words::Punct;
-use reader_base::{Answer, Ask, Begun, Place, ReadError, expr_inside, room_for, take_one};
+use reader_base::{
+    Answer, Ask, Begun, Place, ReadError, expr_inside, name, refused, room_for, take_one,
+};
 
 /// `Prefix = (++ | --) unary | (& | * | + | - | ~ | !) cast`.
 #[tactic(auto, unfolding(c_reading::specs::Expressing::prefix_with, c_reading::specs::Reading::fits, c_reading::specs::Reading::and_then))]
@@ -48,4 +52,38 @@ where
     let inside = room.saturating_sub(1);
     let operand = expr_inside(lent, Reach::Castable, Begun::Nothing, inside, place, depth)?;
     Ok(c_nodes::extension(place.alloc, token, operand)?)
+}
+
+/// `Part = part cast`.
+#[tactic(auto, unfolding(c_reading::specs::Expressing::part_with, c_reading::specs::Reading::fits, c_reading::specs::Reading::and_then))]
+pub(crate) fn part<'a, F>(
+    lent: &F,
+    room: u16,
+    place: &mut Place<'a>,
+    depth: u32,
+) -> Result<SizedExpr, ReadError>
+where
+    F: Fn(Ask, &mut Place<'a>) -> Result<Answer, ReadError>,
+    requires { Lends F.Fn lent.now depth }
+    ensures { ReadsExpr place.old place.new result (exprs.part_with (knot depth) room) }
+{
+    room_for(2, room, place)?;
+    let token = take_one(place)?;
+    let inside = room.saturating_sub(1);
+    let operand = expr_inside(lent, Reach::Castable, Begun::Nothing, inside, place, depth)?;
+    Ok(c_nodes::complex_part(place.alloc, token, operand)?)
+}
+
+/// `LabelUse = && Name`, in wider C.
+#[tactic(auto, unfolding(c_reading::specs::Expressing::label_use_with, c_reading::specs::Reading::fits, c_reading::specs::Reading::and_then))]
+pub(crate) fn label_use(room: u16, place: &mut Place, depth: u32) -> Result<SizedExpr, ReadError>
+    ensures { ReadsExpr place.old place.new result (exprs.label_use_with (knot depth) room) }
+{
+    if !place.scopes.is_wide() {
+        return Err(refused(Fault::Unexpected, place.rest));
+    }
+    room_for(1, room, place)?;
+    let token = take_one(place)?;
+    let label = name(place)?;
+    Ok(c_nodes::label_use(place.alloc, token, label)?)
 }

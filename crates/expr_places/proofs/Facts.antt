@@ -14,7 +14,7 @@ use Rattle.c_reading.specs.declared.kinds.PostfixForm.{PostfixForm}
 use Rattle.c_reading.specs.declared.kinds.PostfixForm.TheVariants as forms
 use Rattle.c_reading.specs.declared.kinds.Infix.{Infix}
 use Rattle.c_reading.specs.declared.kinds.Infix.TheVariants as infixes
-use Rattle.c_reading.specs.Tokens.{is_open_paren, is_close_paren, is_close_bracket, is_open_brace, is_close_brace, is_colon, is_comma, is_semicolon, is_text, is_end}
+use Rattle.c_reading.specs.Tokens.{is_open_paren, is_close_paren, is_close_bracket, is_open_brace, is_close_brace, is_colon, is_comma, is_semicolon, is_dots, is_default, is_text, is_end}
 use Rattle.c_reading.specs.Specifying.{begins_specs}
 use Rattle.c_reading.specs.Expressing.{opening_of, form_of, infix_of, is_dot, begins_desig}
 use Rattle.c_reading.specs.Initialising.{begins_init}
@@ -102,6 +102,22 @@ close_paren_type kind h = absurd cc
 pub comma_type : (kind : TokenKind) → is_comma kind ≡ true → stops_type kind ≡ true
 comma_type (kinds.Punct puncts.Comma) h = refl
 comma_type kind h = absurd cc
+
+pub colon_type : (kind : TokenKind) → is_colon kind ≡ true → stops_type kind ≡ true
+colon_type (kinds.Punct puncts.Colon) h = refl
+colon_type kind h = absurd cc
+
+pub close_bracket_no_dots : (kind : TokenKind) → is_close_bracket kind ≡ true → is_dots kind ≡ false
+close_bracket_no_dots (kinds.Punct puncts.CloseBracket) h = refl
+close_bracket_no_dots kind h = absurd cc
+
+pub close_brace_no_colon : (kind : TokenKind) → is_close_brace kind ≡ true → is_colon kind ≡ false
+close_brace_no_colon (kinds.Punct puncts.CloseBrace) h = refl
+close_brace_no_colon kind h = absurd cc
+
+pub default_end : (kind : TokenKind) → is_default kind ≡ true → is_end kind ≡ false
+default_end kinds.End h = absurd cc
+default_end kind h = refl
 
 pub close_paren_no_comma : (kind : TokenKind) → is_close_paren kind ≡ true → is_comma kind ≡ false
 close_paren_no_comma (kinds.Punct puncts.CloseParen) h = refl

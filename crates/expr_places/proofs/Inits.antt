@@ -1,23 +1,24 @@
 -- Initialisers, and lists of them in braces.
-use Rattle.std.proofs.Common.{◌≡◌, ℕ, suc, ◌<◌, ◌≤◌, Bool, true, false, if◌then◌else◌, List, [], ◌∷◌, inl, inr, Option, Some, None, refl, ◌∙◌, ap, arith}
-use Rattle.std.specs.Prelude.{◌-◌, nat_le}
+use Rattle.std.proofs.Common.{◌≡◌, ℕ, suc, ◌<◌, ◌≤◌, Bool, true, false, if◌then◌else◌, List, [], ◌∷◌, length, inl, inr, Option, Some, None, refl, sym, ◌∙◌, ap, arith}
+use Rattle.std.specs.Prelude.{◌-◌, ◌&&◌, nat_le}
 use Rattle.std.proofs.lemmas.Bool.{leb-true, leb-false}
 use Rattle.c_words.specs.declared.kinds.TokenKind.{TokenKind}
 use Rattle.c_words.specs.declared.kinds.TokenKind.TheVariants as kinds
 use Rattle.c_words.specs.declared.kinds.Punct.TheVariants as puncts
 use Rattle.c_tree.specs.declared.lexeme.Lexeme.{Lexeme}
-use Rattle.c_tree.specs.Tree.{Init, init_value, init_braced, InitList, init_list, Desigs, no_desigs, more_desigs, Desig, member_desig, index_desig}
-use Rattle.c_units.specs.HeldScopes.{HeldScopes}
+use Rattle.c_tree.specs.Tree.{Expr, Init, init_value, init_braced, InitList, init_list, Desigs, no_desigs, more_desigs, Desig, member_desig, index_desig, range_desig, old_desig}
+use Rattle.c_syntax.specs.declared.parts.Identifier.{Identifier}
+use Rattle.c_units.specs.HeldScopes.{HeldScopes, is_wide, names_type}
 use Rattle.c_reading.specs.declared.kinds.Fault.{Fault}
 use Rattle.c_reading.specs.declared.kinds.Fault.TheVariants.{Unexpected, TooDeep}
 use Rattle.c_reading.specs.declared.kinds.Reach.TheVariants.{Assigned, Conditional}
-use Rattle.c_reading.specs.Reading.{Reader, one_more, list_end, ends, refuses, fits, kind_at, take_one, token_at, and_then, repeated, repeated_turn, listed}
-use Rattle.c_reading.specs.Tokens.{is_open_brace, is_close_brace, is_close_bracket, is_equal, is_end, name_at}
+use Rattle.c_reading.specs.Reading.{Reader, one_more, list_end, ends, refuses, fits, kind_at, behind_first, take_one, token_at, and_then, repeated, repeated_turn, listed, Found}
+use Rattle.c_reading.specs.Tokens.{is_open_brace, is_close_brace, is_close_bracket, is_colon, is_dots, is_equal, is_end, spelled_name, identifier_of, name_at}
 use Rattle.c_reading.specs.Parts.{Inner, nothing, ListItem, desigs_from, init_items_from}
 use Rattle.c_reading.specs.Expressing.{begins_desig, is_dot}
-use Rattle.c_reading.specs.Initialising.{begins_init, equal_behind, init_with, member_desig_with, index_desig_with, desig_with, init_here, init_item_with, next_init_item, init_items_with, braced_with, init_list_with}
-use Rattle.c_reading.proofs.Binding.{fits_is, fits_ok, if_ok}
-use Rattle.c_reading.proofs.Forms.{Falls, Shrinks, shrinks_falls}
+use Rattle.c_reading.specs.Initialising.{begins_init, equal_behind, init_with, member_desig_with, range_behind, index_behind, index_desig_with, desig_with, init_here, old_item, plain_item, named_init_item, init_item_by, init_item_with, next_init_item, init_items_with, braced_with, init_list_with}
+use Rattle.c_reading.proofs.Binding.{found, done, fits_is, fits_ok, if_ok, bind_ok}
+use Rattle.c_reading.proofs.Forms.{Falls, Shrinks, shrinks_falls, name_falls}
 use Rattle.c_reading.proofs.Loops.{run_is}
 use Rattle.c_reading.proofs.Rows.{repeated_falls, row_turn_shrinks}
 use Rattle.c_reading.proofs.Commas.{listed_shrinks}
@@ -25,15 +26,15 @@ use Rattle.c_reading.proofs.Shared.{init_shrinks}
 use Rattle.c_reading.proofs.InitShown.{desig_shrinks, next_item_falls}
 use Rattle.c_reading.proofs.Aims.{Laws}
 use Rattle.c_reading.proofs.KnotLaws.{none_numbered, none_tokens}
-use Rattle.reading_steps.specs.Steps.{any, Good, Ready, Law}
+use Rattle.reading_steps.specs.Steps.{first_kind, any, Good, Ready, Law}
 use Rattle.reading_steps.specs.Stops.{is_number, stops_operand}
 use Rattle.reading_steps.specs.InnerLaws.{InnerLaws, InitListPlaces}
 use Rattle.reading_steps.proofs.Keeping.{kept_refl}
-use Rattle.reading_steps.proofs.Steps.{behind, kind_same, refused_here, ends_good, ends_law, if_good, fits_good, ready_fits, ready_as, bind_good, bind_law, take_behind, good_as, good_before, ready_before}
+use Rattle.reading_steps.proofs.Steps.{behind, kind_same, refused_here, ends_good, ends_law, if_good, fits_good, ready_fits, ready_as, bind_good, bind_law, take_behind, good_as, good_before, ready_before, law_before, tail_good}
 use Rattle.reading_steps.proofs.Lists.{repeated_law, listed_good}
-use Rattle.reading_steps.proofs.Chains.{ends_falls, behind_falls, behind_shrinks, falls_shrinks, closed_falls, take_shrinks, token_shrinks, fits_not, if_good_takes, token_then, closed_law}
-use Rattle.token_places.proofs.Single.{open_brace_end, close_brace_end, close_bracket_end, equal_end, mapped_law, mapped_good, mapped_ready, name_law}
-use Rattle.expr_places.proofs.Facts.{whole_operand, close_bracket_whole, close_brace_whole, close_brace_no_comma, number_no_brace, number_begins_init, desig_no_end, dot_no_end}
+use Rattle.reading_steps.proofs.Chains.{ends_falls, behind_falls, behind_shrinks, falls_shrinks, closed_falls, take_shrinks, token_shrinks, fits_not, good_choice, if_good_takes, token_then, closed_law}
+use Rattle.token_places.proofs.Single.{open_brace_end, close_brace_end, close_bracket_end, colon_end, dots_end, name_end, equal_end, mapped_law, mapped_good, mapped_ready, name_law}
+use Rattle.expr_places.proofs.Facts.{whole_operand, close_bracket_whole, close_brace_whole, close_brace_no_comma, close_bracket_no_dots, close_brace_no_colon, number_no_brace, number_begins_init, desig_no_end, dot_no_end}
 
 -- what may stand behind designators or none of them
 abbrev behind_desigs : TokenKind → Bool
@@ -50,6 +51,19 @@ number_behind kind h = absurd cc
 
 close_brace_operand : (kind : TokenKind) → is_close_brace kind ≡ true → stops_operand kind ≡ true
 close_brace_operand kind h = whole_operand kind (close_brace_whole kind h)
+
+-- both of two tests
+second_of : (a b : Bool) → (a && b) ≡ true → b ≡ true
+second_of true b h = h
+second_of false b h = absurd cc
+
+second_off : (a b : Bool) → b ≡ false → (a && b) ≡ false
+second_off true b h = h
+second_off false b h = refl
+
+name_is : (kind : TokenKind) (name : ℕ) → spelled_name kind ≡ Some name → kind ≡ kinds.Name name
+name_is (kinds.Name other) name h = cc
+name_is kind name h = absurd cc
 
 module _ (n : ℕ) (inner : Inner) (laws : Laws [] n inner) (places : InnerLaws n inner) where
   pub init_good : (room : ℕ) → room < n → (s : HeldScopes) (ts : List Lexeme) → Good true (init_with inner room) stops_operand s ts
@@ -74,11 +88,11 @@ module _ (n : ℕ) (inner : Inner) (laws : Laws [] n inner) (places : InnerLaws 
       (λ fit. take_behind true (λ token. behind name_at (λ name. ends (member_desig token name))) stops (λ token. mapped_law true name_at (member_desig token) any stops (name_law true any stops (λ name. refl))) s ts known)
 
   index_good : (room : ℕ) → room < suc n → (stops : TokenKind → Bool) (s : HeldScopes) (ts : List Lexeme) → is_end (kind_at ts) ≡ false → Good true (index_desig_with inner room) stops s ts
-  unfolding index_desig_with
+  unfolding index_desig_with index_behind range_behind and_then
   index_good room less stops s ts known = fits_good true 3 room (behind take_one indexed) stops s ts (λ fit. take_behind true indexed stops (indexed_law fit) s ts known)
     where
       indexed : ℕ → Reader Desig
-      indexed opening = behind (inner.expr Conditional nothing (room - 2)) (λ e. behind (token_at is_close_bracket) (λ closing. ends (index_desig opening e closing)))
+      indexed opening = behind (inner.expr Conditional nothing (room - 2)) (λ e. index_behind inner opening e room)
 
       value_law : 3 ≤ room → Law true (inner.expr Conditional nothing (room - 2)) any is_close_bracket
       value_law fit = record {
@@ -88,10 +102,55 @@ module _ (n : ℕ) (inner : Inner) (laws : Laws [] n inner) (places : InnerLaws 
             (places.exprs.ready Conditional nothing (room - 2) (omega arith) (let more : 0 < room - 2 = omega arith in more) s at);
       }
 
+      one_rest : ℕ → Expr → Reader Desig
+      one_rest opening e = behind (token_at is_close_bracket) (λ closing. ends (index_desig opening e closing))
+
+      one_law : (opening : ℕ) (e : Expr) → Law true (one_rest opening e) is_close_bracket stops
+      one_law opening e =
+          token_then true is_close_bracket (kinds.Punct puncts.CloseBracket) is_close_bracket stops (λ closing. ends (index_desig opening e closing)) refl refl close_bracket_end
+          (λ closing. ends_law true (index_desig opening e closing) any stops (λ kind h. refl))
+
+      one_shrinks : (opening : ℕ) (e : Expr) → Shrinks (one_rest opening e)
+      one_shrinks opening e = behind_shrinks (token_at is_close_bracket) (λ closing. ends (index_desig opening e closing)) (token_shrinks is_close_bracket) (λ closing. ends_falls (index_desig opening e closing))
+
+      -- behind the first value of a range and its dots
+      range_rest : ℕ → Expr → ℕ → Reader Desig
+      range_rest opening first dots = behind (inner.expr Conditional nothing (room - 2)) (λ e. behind (token_at is_close_bracket) (λ closing. ends (range_desig opening first dots e closing)))
+
+      range_law : 3 ≤ room → (opening : ℕ) (first : Expr) (dots : ℕ) → Law true (range_rest opening first dots) any stops
+      range_law fit opening first dots =
+          closed_law true (inner.expr Conditional nothing (room - 2)) is_close_bracket (kinds.Punct puncts.CloseBracket) any stops (λ e closing. ends (range_desig opening first dots e closing)) (value_law fit) refl close_bracket_end
+          (λ e closing. ends_law true (range_desig opening first dots e closing) any stops (λ kind h. refl)) (λ e closing. ends_falls (range_desig opening first dots e closing))
+
+      range_shrinks : (opening : ℕ) (first : Expr) → Shrinks (behind take_one (range_rest opening first))
+      range_shrinks opening first =
+          behind_shrinks take_one (range_rest opening first) take_shrinks
+          (λ dots. closed_falls (inner.expr Conditional nothing (room - 2)) is_close_bracket (λ e closing. ends (range_desig opening first dots e closing))
+          (shrinks_falls (inner.expr Conditional nothing (room - 2)) (laws.exprs.shrinks Conditional nothing (room - 2))) (λ e closing. ends_falls (range_desig opening first dots e closing)))
+
+      is_range : HeldScopes → TokenKind → Bool
+      is_range s kind = is_wide s && is_dots kind
+
+      rest_shrinks : (opening : ℕ) (e : Expr) → Shrinks (index_behind inner opening e room)
+      rest_shrinks opening e s ts x eq =
+          if_ok (is_range s (kind_at ts)) eq (λ is eq. range_shrinks opening e s ts x eq) (λ is eq. one_shrinks opening e s ts x eq)
+
+      -- a bracket, or in wider C dots, another value and a bracket
+      rest_law : 3 ≤ room → (opening : ℕ) (e : Expr) → Law true (index_behind inner opening e room) is_close_bracket stops
+      rest_law fit opening e = record {
+        good = λ s ts.
+            if_good_takes true is_range (behind take_one (range_rest opening e)) (one_rest opening e) stops s ts
+            (λ is. take_behind true (range_rest opening e) stops (range_law fit opening e) s ts (dots_end (kind_at ts) (second_of (is_wide s) (is_dots (kind_at ts)) is)))
+            (λ is. (one_law opening e).good s ts) (rest_shrinks opening e);
+        ready = λ s at.
+            ready_as true (one_rest opening e) (index_behind inner opening e room) is_close_bracket stops s at
+            (λ k h. rw (second_off (is_wide s) (is_dots (kind_at k)) (close_bracket_no_dots (kind_at k) h)) refl) ((one_law opening e).ready s at);
+      }
+
       indexed_law : 3 ≤ room → (opening : ℕ) → Law true (indexed opening) any stops
       indexed_law fit opening =
-          closed_law true (inner.expr Conditional nothing (room - 2)) is_close_bracket (kinds.Punct puncts.CloseBracket) any stops (λ e closing. ends (index_desig opening e closing)) (value_law fit) refl close_bracket_end
-          (λ e closing. ends_law true (index_desig opening e closing) any stops (λ kind h. refl)) (λ e closing. ends_falls (index_desig opening e closing))
+          bind_law true (inner.expr Conditional nothing (room - 2)) (λ e. index_behind inner opening e room) any is_close_bracket stops (value_law fit) (rest_law fit opening)
+          (inl (λ e s ts y eq. rest_shrinks opening e s ts y eq))
 
   desig_good : (room : ℕ) → room < suc n → (stops : TokenKind → Bool) (s : HeldScopes) (ts : List Lexeme) → begins_desig (kind_at ts) ≡ true → Good true (desig_with inner room) stops s ts
   unfolding desig_with
@@ -148,9 +207,9 @@ module _ (n : ℕ) (inner : Inner) (laws : Laws [] n inner) (places : InnerLaws 
   unfolding rest_part
   rest_shrinks room desigs = falls_shrinks (equal_behind (desigs_from desigs)) (value_part room desigs) (equal_falls (desigs_from desigs)) (value_shrinks room desigs)
 
-  item_shrinks : (room : ℕ) → Shrinks (init_item_with inner room)
-  unfolding init_item_with rest_part value_part item_of
-  item_shrinks room =
+  plain_shrinks : (room : ℕ) → Shrinks (plain_item inner room)
+  unfolding plain_item rest_part value_part item_of
+  plain_shrinks room =
       falls_shrinks (repeated begins_desig (desig_with inner room)) (rest_part room) (repeated_falls begins_desig (desig_with inner room) (desig_shrinks [] none_numbered none_tokens n inner laws room)) (rest_shrinks room)
 
   rest_law : (room : ℕ) → room < suc n → 2 ≤ room → (desigs : List Desig) → Law true (rest_part room desigs) behind_desigs stops_operand
@@ -159,9 +218,9 @@ module _ (n : ℕ) (inner : Inner) (laws : Laws [] n inner) (places : InnerLaws 
       bind_law true (equal_behind (desigs_from desigs)) (value_part room desigs) behind_desigs is_number stops_operand (equal_law (desigs_from desigs))
       (λ equal. mapped_law true (init_here inner room) (item_of desigs equal) is_number stops_operand (here_law room less two)) (inl (λ equal s ts y e. value_shrinks room desigs equal s ts y e))
 
-  item_high : (room : ℕ) → room < suc n → 2 ≤ room → (s : HeldScopes) (ts : List Lexeme) → Good true (init_item_with inner room) stops_operand s ts
-  unfolding init_item_with rest_part value_part item_of
-  item_high room less two s ts =
+  plain_high : (room : ℕ) → room < suc n → 2 ≤ room → (s : HeldScopes) (ts : List Lexeme) → Good true (plain_item inner room) stops_operand s ts
+  unfolding plain_item rest_part value_part item_of
+  plain_high room less two s ts =
       bind_good true (repeated begins_desig (desig_with inner room)) (rest_part room) behind_desigs stops_operand s ts (λ desigs scopes gives at. (rest_law room less two desigs).ready scopes at)
       ((repeated_law true begins_desig (desig_with inner room) (desig_shrinks [] none_numbered none_tokens n inner laws room) behind_desigs behind_desigs (λ kind h. h) behind_no_desig
       (λ s ts is. desig_good room less behind_desigs s ts is)).good s ts)
@@ -171,8 +230,8 @@ module _ (n : ℕ) (inner : Inner) (laws : Laws [] n inner) (places : InnerLaws 
   abbrev low_fault : HeldScopes → TokenKind → Fault
   low_fault s kind = if begins_desig kind then TooDeep else if begins_init s kind then TooDeep else Unexpected
 
-  low_is : (room : ℕ) → room < 2 → (s : HeldScopes) (k : List Lexeme) → init_item_with inner room s k ≡ refuses (low_fault s (kind_at k)) k
-  unfolding init_item_with repeated desig_with member_desig_with index_desig_with init_here and_then
+  low_is : (room : ℕ) → room < 2 → (s : HeldScopes) (k : List Lexeme) → plain_item inner room s k ≡ refuses (low_fault s (kind_at k)) k
+  unfolding plain_item repeated desig_with member_desig_with index_desig_with init_here and_then
   low_is room low s k = by_desig (begins_desig (kind_at k)) refl
     where
       by_dot : (b : Bool) → is_dot (kind_at k) ≡ b → desig_with inner room s k ≡ refuses TooDeep k
@@ -183,18 +242,143 @@ module _ (n : ℕ) (inner : Inner) (laws : Laws [] n inner) (places : InnerLaws 
       by_init true is = rw is (fits_not 2 room k _ low)
       by_init false is = rw is refl
 
-      by_desig : (b : Bool) → begins_desig (kind_at k) ≡ b → init_item_with inner room s k ≡ refuses (low_fault s (kind_at k)) k
+      by_desig : (b : Bool) → begins_desig (kind_at k) ≡ b → plain_item inner room s k ≡ refuses (low_fault s (kind_at k)) k
       by_desig true is = rw (run_is (repeated_turn begins_desig (desig_with inner room)) (row_turn_shrinks begins_desig (desig_with inner room) (desig_shrinks [] none_numbered none_tokens n inner laws room)) [] s k, is, by_dot (is_dot (kind_at k)) refl) refl
       by_desig false is = rw (run_is (repeated_turn begins_desig (desig_with inner room)) (row_turn_shrinks begins_desig (desig_with inner room) (desig_shrinks [] none_numbered none_tokens n inner laws room)) [] s k, is, by_init (begins_init s (kind_at k)) refl) refl
 
-  item_good : (room : ℕ) → room < suc n → (s : HeldScopes) (ts : List Lexeme) → Good true (init_item_with inner room) stops_operand s ts
-  item_good room less s ts = by_room (nat_le 2 room) refl
+  plain_good : (room : ℕ) → room < suc n → (s : HeldScopes) (ts : List Lexeme) → Good true (plain_item inner room) stops_operand s ts
+  plain_good room less s ts = by_room (nat_le 2 room) refl
     where
-      by_room : (b : Bool) → nat_le 2 room ≡ b → Good true (init_item_with inner room) stops_operand s ts
-      by_room true is = item_high room less (leb-true 2 room is) s ts
+      by_room : (b : Bool) → nat_le 2 room ≡ b → Good true (plain_item inner room) stops_operand s ts
+      by_room true is = plain_high room less (leb-true 2 room is) s ts
       by_room false is =
-          refused_here true (init_item_with inner room) stops_operand s ts (low_fault s (kind_at ts))
+          refused_here true (plain_item inner room) stops_operand s ts (low_fault s (kind_at ts))
           (λ k e. low_is room (leb-false 2 room is) s k ∙ ap (λ (kind : TokenKind). refuses (low_fault s kind) k) (kind_same k ts e))
+
+  -- An item that begins with a name: in wider C an old designator where a colon stands behind it.
+  old_of : Identifier → ℕ → Init → ListItem
+  old_of name colon init = record { desigs = more_desigs (old_desig name colon) no_desigs; equal = None; init = init }
+
+  old_rest : ℕ → Identifier → Reader ListItem
+  old_rest room name = behind (token_at is_colon) (λ colon. behind (init_here inner room) (λ init. ends (old_of name colon init)))
+
+  old_rest_shrinks : (room : ℕ) (name : Identifier) → Shrinks (old_rest room name)
+  unfolding old_rest
+  old_rest_shrinks room name =
+      behind_shrinks (token_at is_colon) (λ colon. behind (init_here inner room) (λ init. ends (old_of name colon init))) (token_shrinks is_colon)
+      (λ colon. behind_falls (init_here inner room) (λ init. ends (old_of name colon init)) (shrinks_falls (init_here inner room) (here_shrinks room)) (λ init. ends_falls (old_of name colon init)))
+
+  old_law : (room : ℕ) → room < suc n → 2 ≤ room → (name : Identifier) → Law true (old_rest room name) is_colon stops_operand
+  unfolding old_rest
+  old_law room less two name =
+      token_then true is_colon (kinds.Punct puncts.Colon) is_colon stops_operand (λ colon. behind (init_here inner room) (λ init. ends (old_of name colon init))) refl refl colon_end
+      (λ colon. mapped_law true (init_here inner room) (old_of name colon) any stops_operand
+      (law_before true (init_here inner room) is_number any stops_operand stops_operand (λ kind h. h) (λ kind h. refl) (here_law room less two)))
+
+  old_shrinks : (room : ℕ) → Shrinks (old_item inner room)
+  unfolding old_item old_rest old_of
+  old_shrinks room s ts x e =
+      let a = bind_ok e in
+      let one = name_falls s ts a.0 a.1 in
+      let rest = old_rest_shrinks room a.0.tree a.0.scopes a.0.rest x a.2 in
+      omega (arith, one, rest)
+
+  -- by the token behind the name
+  abbrev chosen : ℕ → ℕ → Reader ListItem
+  chosen name room s ts = if is_colon (kind_at (behind_first ts)) then old_item inner room s ts else if names_type s name then refuses Unexpected (behind_first ts) else plain_item inner room s ts
+
+  chosen_shrinks : (name room : ℕ) → Shrinks (chosen name room)
+  chosen_shrinks name room s ts x e =
+      if_ok (is_colon (kind_at (behind_first ts))) e (λ is e. old_shrinks room s ts x e) (λ is e.
+      if_ok (names_type s name) e (λ typed e. absurd cc) (λ typed e. plain_shrinks room s ts x e))
+
+  item_shrinks : (room : ℕ) → Shrinks (init_item_with inner room)
+  unfolding init_item_with named_init_item
+  item_shrinks room s ts x e = by_name (spelled_name (kind_at ts)) e
+    where
+      by_name : (o : Option ℕ) → init_item_by inner o room s ts ≡ done x → length x.rest < length ts
+      by_name None e = plain_shrinks room s ts x e
+      by_name (Some name) e = if_ok (is_wide s) e (λ wide e. chosen_shrinks name room s ts x (fits_ok 2 room ts e).1) (λ wide e. plain_shrinks room s ts x e)
+
+  module _ (name room : ℕ) (less : room < suc n) (two : 2 ≤ room) where
+    named : ℕ → Lexeme
+    named at = record { kind = kinds.Name name; at = at }
+
+    choice : ℕ → Reader ListItem
+    choice at s k = chosen name room s (named at ∷ k)
+
+    old_is : (at : ℕ) (s : HeldScopes) (k : List Lexeme) → old_item inner room s (named at ∷ k) ≡ old_rest room (identifier_of at name) s k
+    unfolding old_item old_rest old_of named and_then
+    old_is at s k = refl
+
+    -- a name that is no type's is a value
+    plain_is : (at : ℕ) (s : HeldScopes) → names_type s name ≡ false → (y : Found ListItem) × (plain_item inner room s (named at ∷ record { kind = kinds.Punct puncts.Semicolon; at = 0 } ∷ []) ≡ done y)
+    unfolding plain_item named repeated init_here init_with and_then item_of
+    plain_is at s no_type =
+        let v = places.exprs.named Assigned (room - 1) (omega arith) (omega arith) s name at no_type in
+        let rest : List Lexeme = record { kind = kinds.Punct puncts.Semicolon; at = 0 } ∷ [] in (
+          found (item_of [] None (init_value v.0)) s rest,
+          rw (
+            run_is (repeated_turn begins_desig (desig_with inner room)) (row_turn_shrinks begins_desig (desig_with inner room) (desig_shrinks [] none_numbered none_tokens n inner laws room)) [] s (named at ∷ rest),
+            no_type,
+            v.1 rest refl,
+            fits_is 2 room (named at ∷ rest) (done (found (init_value v.0) s rest)) two,
+          ) refl,
+        )
+
+    choice_law : (at : ℕ) → Law true (choice at) any is_close_brace
+    unfolding choice
+    choice_law at = record {
+      good = λ s k.
+          if_good true (λ s. is_colon) (λ s k. old_item inner room s (named at ∷ k)) other is_close_brace s k
+          (λ is. good_as true (old_rest room (identifier_of at name)) (λ s k. old_item inner room s (named at ∷ k)) is_close_brace s k (λ k e. old_is at s k) (inr (λ k e. old_is at s k))
+          (good_before true (old_rest room (identifier_of at name)) stops_operand is_close_brace s k close_brace_operand ((old_law room less two (identifier_of at name)).good s k)))
+          (λ is. by_type s k (names_type s name) refl)
+          (λ is. inl (λ x e. old_rest_shrinks room (identifier_of at name) s k x (sym (old_is at s k) ∙ e)))
+          (λ is. inr close_brace_no_colon);
+      ready = λ s here.
+          ready_before true (choice at) is_colon any stops_operand is_close_brace s here close_brace_operand (λ kind h. refl)
+          (ready_as true (old_rest room (identifier_of at name)) (choice at) is_colon stops_operand s here (λ k h. rw h (old_is at s k)) ((old_law room less two (identifier_of at name)).ready s here));
+    }
+      where
+        other : Reader ListItem
+        other s k = if names_type s name then refuses Unexpected k else plain_item inner room s (named at ∷ k)
+
+        by_type : (s : HeldScopes) (k : List Lexeme) (b : Bool) → names_type s name ≡ b → Good true other is_close_brace s k
+        by_type s k true is = refused_here true other is_close_brace s k Unexpected (λ k e. rw is refl)
+        by_type s k false is =
+            let y = plain_is at s is in
+            good_as true (λ s k. plain_item inner room s (named at ∷ k)) other is_close_brace s k (λ k e. rw is refl) (inr (λ k e. rw is refl))
+            (tail_good true (plain_item inner room) is_close_brace s (named at) k (record { kind = kinds.Punct puncts.Semicolon; at = 0 } ∷ []) y.0 y.1
+            (λ x e. plain_shrinks room s (named at ∷ k) x e)
+            (good_before true (plain_item inner room) stops_operand is_close_brace s (named at ∷ k) close_brace_operand (plain_good room less s (named at ∷ k))))
+
+  item_good : (room : ℕ) → room < suc n → (s : HeldScopes) (ts : List Lexeme) → Good true (init_item_with inner room) is_close_brace s ts
+  unfolding init_item_with named_init_item choice named and_then
+  item_good room less s ts = by_name (spelled_name (kind_at ts)) refl
+    where
+      plain : ((k : List Lexeme) → first_kind k ≡ first_kind ts → init_item_with inner room s k ≡ plain_item inner room s k) → Good true (init_item_with inner room) is_close_brace s ts
+      plain same =
+          good_choice true (plain_item inner room) (init_item_with inner room) is_close_brace s ts same (item_shrinks room)
+          (good_before true (plain_item inner room) stops_operand is_close_brace s ts close_brace_operand (plain_good room less s ts))
+
+      by_wide : (name : ℕ) → spelled_name (kind_at ts) ≡ Some name → (b : Bool) → is_wide s ≡ b → Good true (init_item_with inner room) is_close_brace s ts
+      by_wide name is false off = plain (λ k e. ap (λ (o : Option ℕ). init_item_by inner o room s k) (ap spelled_name (kind_same k ts e) ∙ is) ∙ rw off refl)
+      by_wide name is true on =
+          good_choice true (λ s ts. fits 2 room ts (chosen name room s ts)) (init_item_with inner room) is_close_brace s ts
+          (λ k e. ap (λ (o : Option ℕ). init_item_by inner o room s k) (ap spelled_name (kind_same k ts e) ∙ is) ∙ rw on refl) (item_shrinks room)
+          (fits_good true 2 room (chosen name room) is_close_brace s ts (λ fit. good_choice true (behind take_one (choice name room less fit)) (chosen name room) is_close_brace s ts (same fit) (chosen_shrinks name room)
+          (take_behind true (choice name room less fit) is_close_brace (choice_law name room less fit) s ts (name_end (kind_at ts) name is))))
+        where
+          same : (fit : 2 ≤ room) → (k : List Lexeme) → first_kind k ≡ first_kind ts → chosen name room s k ≡ behind take_one (choice name room less fit) s k
+          same fit [] e = let none : None ≡ Some name = ap spelled_name (kind_same [] ts e) ∙ is in absurd cc
+          same fit (u ∷ us) e =
+              let kind : u.kind ≡ kinds.Name name = name_is u.kind name (ap spelled_name (kind_same (u ∷ us) ts e) ∙ is) in
+              ap (λ (kind : TokenKind). chosen name room s (record { kind = kind; at = u.at } ∷ us)) kind
+
+      by_name : (o : Option ℕ) → spelled_name (kind_at ts) ≡ o → Good true (init_item_with inner room) is_close_brace s ts
+      by_name None is = plain (λ k e. ap (λ (o : Option ℕ). init_item_by inner o room s k) (ap spelled_name (kind_same k ts e) ∙ is))
+      by_name (Some name) is = by_wide name is (is_wide s) refl
 
   -- Lists in braces.
 
@@ -203,7 +387,7 @@ module _ (n : ℕ) (inner : Inner) (laws : Laws [] n inner) (places : InnerLaws 
   next_law room less token = record {
     good = λ s ts.
         if_good true (λ s. is_close_brace) (ends (list_end token)) (behind (init_item_with inner room) (λ x. ends (one_more x))) is_close_brace s ts (λ is. ends_good true (list_end token) is_close_brace s ts)
-        (λ is. mapped_good true (init_item_with inner room) one_more is_close_brace s ts (good_before true (init_item_with inner room) stops_operand is_close_brace s ts close_brace_operand (item_good room less s ts)))
+        (λ is. mapped_good true (init_item_with inner room) one_more is_close_brace s ts (item_good room less s ts))
         (λ is. inr (λ kind h. h)) (λ is. inl (λ x e. behind_shrinks (init_item_with inner room) (λ x. ends (one_more x)) (item_shrinks room) (λ x. ends_falls (one_more x)) s ts x e));
     ready = λ s at. record { more = []; tree = list_end token; scopes = s; keeps = kept_refl true s; begins = λ k h. refl; reads = λ k h. rw h refl };
   }
@@ -214,7 +398,7 @@ module _ (n : ℕ) (inner : Inner) (laws : Laws [] n inner) (places : InnerLaws 
     good = λ s ts.
         if_good true (λ s. is_close_brace) (ends (record { items = []; ending = None })) (listed (init_item_with inner room) (next_init_item inner room)) is_close_brace s ts
         (λ is. ends_good true (record { items = []; ending = None }) is_close_brace s ts)
-        (λ is. listed_good true (next_init_item inner room) (next_item_falls [] none_numbered none_tokens n inner laws room) stops_operand is_close_brace close_brace_operand close_brace_no_comma (next_law room less)
+        (λ is. listed_good true (next_init_item inner room) (next_item_falls [] none_numbered none_tokens n inner laws room) is_close_brace is_close_brace (λ kind h. h) close_brace_no_comma (next_law room less)
         (init_item_with inner room) s ts (item_good room less s ts))
         (λ is. inr (λ kind h. h))
         (λ is. inl (λ x e. listed_shrinks (init_item_with inner room) (next_init_item inner room) (next_item_falls [] none_numbered none_tokens n inner laws room) (item_shrinks room) s ts x e));

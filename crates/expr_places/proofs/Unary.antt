@@ -6,36 +6,39 @@ use Rattle.c_words.specs.declared.kinds.TokenKind.TheVariants as kinds
 use Rattle.c_words.specs.declared.kinds.Punct.{Punct}
 use Rattle.c_words.specs.declared.kinds.Punct.TheVariants as puncts
 use Rattle.c_words.specs.declared.kinds.Keyword.{Keyword}
+use Rattle.c_words.specs.declared.kinds.Keyword.TheVariants as keywords
 use Rattle.c_tree.specs.declared.lexeme.Lexeme.{Lexeme}
 use Rattle.c_syntax.specs.declared.parts.Word.{Word}
 use Rattle.c_syntax.specs.declared.parts.Identifier.{Identifier}
-use Rattle.c_tree.specs.Tree.{Expr, prefix, extension, sizeof_value, sizeof_type, va_arg, va_start, va_copy, offset, name_use, number_use, char_use, paren, Desig, member_desig, index_desig}
-use Rattle.c_units.specs.HeldScopes.{HeldScopes, names_type}
+use Rattle.c_tree.specs.Tree.{Expr, prefix, extension, sizeof_value, sizeof_type, va_arg, va_start, va_copy, offset, name_use, number_use, char_use, paren, Desig, member_desig, index_desig, complex_part, label_use, compat, choose, generic, Assoc, typed_assoc, default_assoc}
+use Rattle.c_units.specs.HeldScopes.{HeldScopes, is_wide, names_type}
 use Rattle.c_reading.specs.declared.kinds.Fault.TheVariants.{Unexpected}
 use Rattle.c_reading.specs.declared.kinds.Reach.{Reach}
 use Rattle.c_reading.specs.declared.kinds.Reach.TheVariants.{Whole, Assigned, Castable, Unary}
 use Rattle.c_reading.specs.declared.kinds.Opening.{Opening}
 use Rattle.c_reading.specs.declared.kinds.Opening.TheVariants as openings
-use Rattle.c_reading.specs.Reading.{Reader, ends, fits, kind_at, behind_first, take_one, token_at, and_then, repeated}
-use Rattle.c_reading.specs.Tokens.{is_open_paren, is_close_paren, is_close_bracket, is_open_brace, is_comma, is_end, name_at, word_of}
-use Rattle.c_reading.specs.Specifying.{begins_specs}
-use Rattle.c_reading.specs.Parts.{Inner, nothing, TypeName, type_name_height, desigs_from}
-use Rattle.c_reading.specs.Expressing.{opening_of, is_dot, begins_desig, postfixed, primary_with, compound_with, paren_with, opened_by, opened_with, prefix_with, extension_with, sizeof_value_with, sizeof_typed, sizeof_type_with, sizeof_behind, sizeof_with, va_arg_with, va_two_with, step_with, offset_with, name_with, unary_by, unary_with, cast_with}
+use Rattle.c_reading.specs.declared.kinds.Role.TheVariants.{Naming}
+use Rattle.c_reading.specs.Reading.{Found, Reader, one_more, ends, refuses, fits, kind_at, behind_first, take_one, token_at, and_then, repeated, listed, CommaList}
+use Rattle.c_reading.specs.Tokens.{is_open_paren, is_close_paren, is_close_bracket, is_open_brace, is_colon, is_comma, is_default, is_end, name_at, word_of}
+use Rattle.c_reading.specs.Specifying.{begins_specs, begins_role}
+use Rattle.c_reading.specs.Parts.{Inner, nothing, TypeName, type_name_height, assocs_from, desigs_from}
+use Rattle.c_reading.specs.Expressing.{opening_of, is_dot, begins_desig, postfixed, primary_with, compound_with, paren_with, opened_by, opened_with, prefix_with, extension_with, sizeof_value_with, sizeof_typed, sizeof_type_with, sizeof_behind, sizeof_with, va_arg_with, va_two_with, step_with, offset_with, part_with, label_use_with, compat_with, choose_with, default_assoc_with, typed_assoc_with, assoc_with, next_assoc, generic_with, name_with, unary_by, unary_with, cast_with}
 use Rattle.c_reading.proofs.Binding.{found, done, fits_is, fits_ok, if_ok}
 use Rattle.c_reading.proofs.Forms.{Falls, Shrinks, shrinks_falls, name_falls}
 use Rattle.c_reading.proofs.Rows.{repeated_falls}
 use Rattle.c_reading.proofs.Aims.{Laws}
 use Rattle.c_reading.proofs.KnotLaws.{none_tokens}
-use Rattle.c_reading.proofs.ExprFalls.{postfixed_falls, step_shrinks, unary_shrinks, cast_shrinks}
+use Rattle.c_reading.proofs.ExprFalls.{postfixed_falls, step_shrinks, assoc_shrinks, next_assoc_falls, unary_shrinks, cast_shrinks}
+use Rattle.c_reading.proofs.Commas.{listed_shrinks}
 use Rattle.reading_steps.specs.Steps.{first_kind, any, Good, Ready, Law}
 use Rattle.reading_steps.specs.Stops.{is_number, is_int, stops_operand, stops_type}
 use Rattle.reading_steps.specs.InnerLaws.{InnerLaws}
 use Rattle.reading_steps.proofs.Keeping.{kept_refl}
-use Rattle.reading_steps.proofs.Steps.{behind, kind_same, refused_here, ends_good, ends_law, good_as, if_good, fits_good, ready_as, bind_law, take_behind, ready_before, law_before, tail_good}
-use Rattle.reading_steps.proofs.Lists.{repeated_law}
+use Rattle.reading_steps.proofs.Steps.{behind, kind_same, refused_here, ends_good, ends_law, good_as, if_good, fits_good, ready_fits, ready_take, ready_as, ready_bind, bind_law, take_behind, good_before, ready_before, law_before, tail_good}
+use Rattle.reading_steps.proofs.Lists.{repeated_law, listed_law}
 use Rattle.reading_steps.proofs.Chains.{ends_falls, behind_falls, behind_shrinks, closed_falls, closed_shrinks, take_shrinks, good_choice, if_good_takes, token_then, closed_law}
-use Rattle.token_places.proofs.Single.{open_paren_end, close_paren_end, close_bracket_end, comma_end, mapped_law, mapped_good, mapped_ready, name_law}
-use Rattle.expr_places.proofs.Facts.{operand_no_paren, operand_no_brace, operand_no_specs, whole_operand, close_paren_whole, close_bracket_whole, close_paren_type, comma_type, comma_operand, close_paren_no_desig, number_no_paren, opens, opening_no_end, desig_no_end, dot_no_end, is_tight, opens_tight, opening_tight, tight_stops}
+use Rattle.token_places.proofs.Single.{open_paren_end, close_paren_end, close_bracket_end, colon_end, comma_end, mapped_law, mapped_good, mapped_ready, name_law}
+use Rattle.expr_places.proofs.Facts.{operand_no_paren, operand_no_brace, operand_no_specs, whole_operand, close_paren_whole, close_bracket_whole, close_paren_type, comma_type, comma_operand, colon_type, default_end, close_paren_no_comma, close_paren_no_desig, number_no_paren, opens, opening_no_end, desig_no_end, dot_no_end, is_tight, opens_tight, opening_tight, tight_stops}
 use Rattle.expr_places.proofs.Operands.{expr_law, postfixed_ends, postfixed_law, primary_good, text_good, compound_shrinks, compound_good, opened_good}
 
 open_paren_is : (kind : TokenKind) → is_open_paren kind ≡ true → kind ≡ kinds.Punct puncts.OpenParen
@@ -339,6 +342,198 @@ module _ (n : ℕ) (inner : Inner) (laws : Laws [] n inner) (places : InnerLaws 
               law_before true (inner.type_name (room - 1)) is_int any stops_type is_comma comma_type (λ kind h. refl)
               (record { good = places.types.good (room - 1) (omega arith) (omega arith); ready = places.types.ready (room - 1) (omega arith) (omega arith) })
 
+  -- the name of a type inside, before some of the tokens that end one
+  type_before : (room : ℕ) → room < suc n → 3 ≤ room → (fewer : TokenKind → Bool) → ((kind : TokenKind) → fewer kind ≡ true → stops_type kind ≡ true) → Law true (inner.type_name (room - 1)) any fewer
+  type_before room less three fewer h =
+      law_before true (inner.type_name (room - 1)) is_int any stops_type fewer h (λ kind h. refl)
+      (record { good = places.types.good (room - 1) (omega arith) (omega arith); ready = places.types.ready (room - 1) (omega arith) (omega arith) })
+
+  part_good : (room : ℕ) → room < suc n → (s : HeldScopes) (ts : List Lexeme) → is_end (kind_at ts) ≡ false → Good true (part_with inner room) stops_operand s ts
+  unfolding part_with
+  part_good room less s ts known =
+      fits_good true 2 room (behind take_one (λ token. behind (inner.expr Castable nothing (room - 1)) (λ e. ends (complex_part token e)))) stops_operand s ts
+      (λ fit. take_behind true (λ token. behind (inner.expr Castable nothing (room - 1)) (λ e. ends (complex_part token e))) stops_operand
+      (λ token. mapped_law true (inner.expr Castable nothing (room - 1)) (λ e. complex_part token e) any stops_operand
+      (expr_law n inner laws places Castable room less fit any stops_operand (λ kind h. refl) (λ kind h. h))) s ts known)
+
+  -- the address of a label: in wider C, a name behind the token
+  label_good : (room : ℕ) (s : HeldScopes) (ts : List Lexeme) → is_end (kind_at ts) ≡ false → Good true (label_use_with inner room) stops_operand s ts
+  unfolding label_use_with
+  label_good room s ts known = by_wide (is_wide s) refl
+    where
+      named : ℕ → Reader Expr
+      named token = behind name_at (λ name. ends (label_use token name))
+
+      by_wide : (b : Bool) → is_wide s ≡ b → Good true (label_use_with inner room) stops_operand s ts
+      by_wide false is = refused_here true (label_use_with inner room) stops_operand s ts Unexpected (λ k e. rw is refl)
+      by_wide true is =
+          good_as true (λ s ts. fits 1 room ts (behind take_one named s ts)) (label_use_with inner room) stops_operand s ts (λ k e. rw is refl) (inr (λ k e. rw is refl))
+          (fits_good true 1 room (behind take_one named) stops_operand s ts (λ fit. take_behind true named stops_operand
+          (λ token. mapped_law true name_at (label_use token) any stops_operand (name_law true any stops_operand (λ name. refl))) s ts known))
+
+  compat_good : (room : ℕ) → room < suc n → (s : HeldScopes) (ts : List Lexeme) → is_end (kind_at ts) ≡ false → Good true (compat_with inner room) stops_operand s ts
+  unfolding compat_with
+  compat_good room less s ts known = fits_good true 3 room (behind take_one all) stops_operand s ts (λ fit. take_behind true all stops_operand (all_law fit) s ts known)
+    where
+      last : ℕ → ℕ → TypeName → ℕ → TypeName → ℕ → Reader Expr
+      last keyword opening t separator t2 closing = postfixed inner room (compat keyword opening t.words t.declr separator t2.words t2.declr closing)
+
+      second : ℕ → ℕ → TypeName → ℕ → Reader Expr
+      second keyword opening t separator = behind (inner.type_name (room - 1)) (λ t2. behind (token_at is_close_paren) (last keyword opening t separator t2))
+
+      all : ℕ → Reader Expr
+      all keyword = behind (token_at is_open_paren) (λ opening. behind (inner.type_name (room - 1)) (λ t. behind (token_at is_comma) (second keyword opening t)))
+
+      all_law : 3 ≤ room → (keyword : ℕ) → Law true (all keyword) any stops_operand
+      all_law fit keyword =
+          token_then true is_open_paren (kinds.Punct puncts.OpenParen) any stops_operand (λ opening. behind (inner.type_name (room - 1)) (λ t. behind (token_at is_comma) (second keyword opening t))) refl refl open_paren_end
+          (λ opening. closed_law true (inner.type_name (room - 1)) is_comma (kinds.Punct puncts.Comma) any stops_operand (second keyword opening) (type_before room less fit is_comma comma_type) refl comma_end
+          (λ t separator. closed_law true (inner.type_name (room - 1)) is_close_paren (kinds.Punct puncts.CloseParen) any stops_operand (last keyword opening t separator) (type_law room less fit) refl close_paren_end
+          (λ t2 closing. postfix_law room less (compat keyword opening t.words t.declr separator t2.words t2.declr closing)) (λ t2 closing. postfix_falls room (compat keyword opening t.words t.declr separator t2.words t2.declr closing)))
+          (λ t separator. closed_falls (inner.type_name (room - 1)) is_close_paren (last keyword opening t separator) (shrinks_falls (inner.type_name (room - 1)) (laws.types.shrinks (room - 1)))
+          (λ t2 closing. postfix_falls room (compat keyword opening t.words t.declr separator t2.words t2.declr closing))))
+
+  choose_good : (room : ℕ) → room < suc n → (s : HeldScopes) (ts : List Lexeme) → is_end (kind_at ts) ≡ false → Good true (choose_with inner room) stops_operand s ts
+  unfolding choose_with
+  choose_good room less s ts known = fits_good true 2 room (behind take_one all) stops_operand s ts (λ fit. take_behind true all stops_operand (all_law fit) s ts known)
+    where
+      value : Reader Expr
+      value = inner.expr Assigned nothing (room - 1)
+
+      value_falls : Falls value
+      value_falls = shrinks_falls value (laws.exprs.shrinks Assigned nothing (room - 1))
+
+      before_comma : 2 ≤ room → Law true value any is_comma
+      before_comma fit = expr_law n inner laws places Assigned room less fit any is_comma (λ kind h. refl) comma_operand
+
+      last : ℕ → ℕ → Expr → ℕ → Expr → ℕ → Expr → ℕ → Reader Expr
+      last keyword opening e separator e2 separator2 e3 closing = postfixed inner room (choose keyword opening e separator e2 separator2 e3 closing)
+
+      third : ℕ → ℕ → Expr → ℕ → Expr → ℕ → Reader Expr
+      third keyword opening e separator e2 separator2 = behind value (λ e3. behind (token_at is_close_paren) (last keyword opening e separator e2 separator2 e3))
+
+      second : ℕ → ℕ → Expr → ℕ → Reader Expr
+      second keyword opening e separator = behind value (λ e2. behind (token_at is_comma) (third keyword opening e separator e2))
+
+      all : ℕ → Reader Expr
+      all keyword = behind (token_at is_open_paren) (λ opening. behind value (λ e. behind (token_at is_comma) (second keyword opening e)))
+
+      third_falls : (keyword opening : ℕ) (e : Expr) (separator : ℕ) (e2 : Expr) (separator2 : ℕ) → Falls (third keyword opening e separator e2 separator2)
+      third_falls keyword opening e separator e2 separator2 =
+          closed_falls value is_close_paren (last keyword opening e separator e2 separator2) value_falls (λ e3 closing. postfix_falls room (choose keyword opening e separator e2 separator2 e3 closing))
+
+      all_law : 2 ≤ room → (keyword : ℕ) → Law true (all keyword) any stops_operand
+      all_law fit keyword =
+          token_then true is_open_paren (kinds.Punct puncts.OpenParen) any stops_operand (λ opening. behind value (λ e. behind (token_at is_comma) (second keyword opening e))) refl refl open_paren_end
+          (λ opening. closed_law true value is_comma (kinds.Punct puncts.Comma) any stops_operand (second keyword opening) (before_comma fit) refl comma_end
+          (λ e separator. closed_law true value is_comma (kinds.Punct puncts.Comma) any stops_operand (third keyword opening e separator) (before_comma fit) refl comma_end
+          (λ e2 separator2. closed_law true value is_close_paren (kinds.Punct puncts.CloseParen) any stops_operand (last keyword opening e separator e2 separator2)
+          (expr_law n inner laws places Assigned room less fit any is_close_paren (λ kind h. refl) (λ kind h. whole_operand kind (close_paren_whole kind h))) refl close_paren_end
+          (λ e3 closing. postfix_law room less (choose keyword opening e separator e2 separator2 e3 closing)) (λ e3 closing. postfix_falls room (choose keyword opening e separator e2 separator2 e3 closing)))
+          (third_falls keyword opening e separator))
+          (λ e separator. closed_falls value is_comma (third keyword opening e separator) value_falls (third_falls keyword opening e separator)))
+
+  -- An association: `default` or a type's name, a colon and a value. `default : 0` is one.
+  module _ (room : ℕ) (less : room < suc n) where
+    default_rest : ℕ → Reader Assoc
+    default_rest keyword = behind (token_at is_colon) (λ colon. behind (inner.expr Assigned nothing (room - 1)) (λ e. ends (default_assoc keyword colon e)))
+
+    value_part : 2 ≤ room → {T : Type 0} (make : Expr → T) → Law true (behind (inner.expr Assigned nothing (room - 1)) (λ e. ends (make e))) any stops_operand
+    value_part two make = mapped_law true (inner.expr Assigned nothing (room - 1)) make any stops_operand (expr_law n inner laws places Assigned room less two any stops_operand (λ kind h. refl) (λ kind h. h))
+
+    default_law : 2 ≤ room → (keyword : ℕ) → Law true (default_rest keyword) any stops_operand
+    unfolding default_rest
+    default_law two keyword =
+        token_then true is_colon (kinds.Punct puncts.Colon) any stops_operand (λ colon. behind (inner.expr Assigned nothing (room - 1)) (λ e. ends (default_assoc keyword colon e))) refl refl colon_end
+        (λ colon. value_part two (default_assoc keyword colon))
+
+    default_good : (s : HeldScopes) (ts : List Lexeme) → is_end (kind_at ts) ≡ false → Good true (default_assoc_with inner room) stops_operand s ts
+    unfolding default_assoc_with default_rest
+    default_good s ts known = fits_good true 2 room (behind take_one default_rest) stops_operand s ts (λ fit. take_behind true default_rest stops_operand (default_law fit) s ts known)
+
+    default_ready : 2 ≤ room → (s : HeldScopes) (at : ℕ) → Ready true (default_assoc_with inner room) is_default stops_operand s at
+    unfolding default_assoc_with default_rest
+    default_ready two s at =
+        ready_fits true 2 room (behind take_one default_rest) is_default stops_operand s at two
+        (ready_bind true take_one default_rest is_default any stops_operand s at (ready_take true (kinds.Keyword keywords.Default) is_default any s at refl) (λ keyword scopes given at. (default_law two keyword).ready scopes at))
+
+    typed_rest : TypeName → ℕ → Reader Assoc
+    typed_rest t colon = behind (inner.expr Assigned nothing (room - 1)) (λ e. ends (typed_assoc t.words t.declr colon e))
+
+    typed_good : (s : HeldScopes) (ts : List Lexeme) → Good true (typed_assoc_with inner room) stops_operand s ts
+    unfolding typed_assoc_with typed_rest
+    typed_good s ts =
+        fits_good true 3 room (behind (inner.type_name (room - 1)) (λ t. behind (token_at is_colon) (typed_rest t))) stops_operand s ts
+        (λ fit. (closed_law true (inner.type_name (room - 1)) is_colon (kinds.Punct puncts.Colon) any stops_operand typed_rest (type_before room less fit is_colon colon_type) refl colon_end
+        (λ t colon. value_part (omega (arith, fit)) (typed_assoc t.words t.declr colon))
+        (λ t colon. behind_falls (inner.expr Assigned nothing (room - 1)) (λ e. ends (typed_assoc t.words t.declr colon e))
+        (shrinks_falls (inner.expr Assigned nothing (room - 1)) (laws.exprs.shrinks Assigned nothing (room - 1))) (λ e. ends_falls (typed_assoc t.words t.declr colon e)))).good s ts)
+
+    abbrev typed_or_not : Reader Assoc
+    typed_or_not s ts = if begins_role Naming s (kind_at ts) then typed_assoc_with inner room s ts else refuses Unexpected ts
+
+    assoc_law : 2 ≤ room → Law true (assoc_with inner room) any stops_operand
+    unfolding assoc_with
+    assoc_law two = record {
+      good = λ s ts.
+          if_good_takes true (λ s. is_default) (default_assoc_with inner room) typed_or_not stops_operand s ts (λ is. default_good s ts (default_end (kind_at ts) is)) (λ is. other_good s ts is)
+          (assoc_shrinks [] none_tokens n inner laws room);
+      ready = λ s at.
+          ready_before true (assoc_with inner room) is_default any stops_operand stops_operand s at (λ kind h. h) (λ kind h. refl)
+          (ready_as true (default_assoc_with inner room) (assoc_with inner room) is_default stops_operand s at (λ k h. rw h refl) (default_ready two s at));
+    }
+      where
+        other_good : (s : HeldScopes) (ts : List Lexeme) → is_default (kind_at ts) ≡ false → Good true typed_or_not stops_operand s ts
+        other_good s ts off = by_type (begins_role Naming s (kind_at ts)) refl
+          where
+            by_type : (b : Bool) → begins_role Naming s (kind_at ts) ≡ b → Good true typed_or_not stops_operand s ts
+            by_type false is = refused_here true typed_or_not stops_operand s ts Unexpected (λ k e. rw (kind_same k ts e, is) refl)
+            by_type true is =
+                good_as true (typed_assoc_with inner room) typed_or_not stops_operand s ts (λ k e. rw (kind_same k ts e, is) refl)
+                (inl (λ x e. assoc_shrinks [] none_tokens n inner laws room s ts x (now x e))) (typed_good s ts)
+              where
+                now : (x : Found Assoc) → typed_assoc_with inner room s ts ≡ done x → assoc_with inner room s ts ≡ done x
+                now x e = rw (off, is) e
+
+  assocs_law : (room : ℕ) → room < suc n → 2 ≤ room → Law true (listed (assoc_with inner room) (next_assoc inner room)) any is_close_paren
+  unfolding next_assoc
+  assocs_law room less two =
+      listed_law true (next_assoc inner room) (next_assoc_falls [] none_tokens n inner laws room) stops_operand is_close_paren paren_operand close_paren_no_comma
+      (λ comma. mapped_law true (assoc_with inner room) one_more any is_close_paren
+      (law_before true (assoc_with inner room) any any stops_operand is_close_paren paren_operand (λ kind h. h) (assoc_law room less two)))
+      (assoc_with inner room) any (assoc_law room less two)
+    where
+      paren_operand : (kind : TokenKind) → is_close_paren kind ≡ true → stops_operand kind ≡ true
+      paren_operand kind h = whole_operand kind (close_paren_whole kind h)
+
+  generic_good : (room : ℕ) → room < suc n → (s : HeldScopes) (ts : List Lexeme) → is_end (kind_at ts) ≡ false → Good true (generic_with inner room) stops_operand s ts
+  unfolding generic_with
+  generic_good room less s ts known = fits_good true 3 room (behind take_one all) stops_operand s ts (λ fit. take_behind true all stops_operand (all_law fit) s ts known)
+    where
+      list : Reader (CommaList Assoc ⊥)
+      list = listed (assoc_with inner (room - 1)) (next_assoc inner (room - 1))
+
+      last : ℕ → ℕ → Expr → CommaList Assoc ⊥ → ℕ → Reader Expr
+      last keyword opening e xs closing = postfixed inner room (generic keyword opening e (assocs_from xs.items) closing)
+
+      second : ℕ → ℕ → Expr → ℕ → Reader Expr
+      second keyword opening e separator = behind list (λ xs. behind (token_at is_close_paren) (last keyword opening e xs))
+
+      all : ℕ → Reader Expr
+      all keyword = behind (token_at is_open_paren) (λ opening. behind (inner.expr Assigned nothing (room - 1)) (λ e. behind (token_at is_comma) (second keyword opening e)))
+
+      list_shrinks : Shrinks list
+      list_shrinks = listed_shrinks (assoc_with inner (room - 1)) (next_assoc inner (room - 1)) (next_assoc_falls [] none_tokens n inner laws (room - 1)) (assoc_shrinks [] none_tokens n inner laws (room - 1))
+
+      all_law : 3 ≤ room → (keyword : ℕ) → Law true (all keyword) any stops_operand
+      all_law fit keyword =
+          token_then true is_open_paren (kinds.Punct puncts.OpenParen) any stops_operand (λ opening. behind (inner.expr Assigned nothing (room - 1)) (λ e. behind (token_at is_comma) (second keyword opening e))) refl refl open_paren_end
+          (λ opening. closed_law true (inner.expr Assigned nothing (room - 1)) is_comma (kinds.Punct puncts.Comma) any stops_operand (second keyword opening)
+          (expr_law n inner laws places Assigned room less (omega arith) any is_comma (λ kind h. refl) comma_operand) refl comma_end
+          (λ e separator. closed_law true list is_close_paren (kinds.Punct puncts.CloseParen) any stops_operand (last keyword opening e) (assocs_law (room - 1) (omega (arith, less)) (omega (arith, fit))) refl close_paren_end
+          (λ xs closing. postfix_law room less (generic keyword opening e (assocs_from xs.items) closing)) (λ xs closing. postfix_falls room (generic keyword opening e (assocs_from xs.items) closing)))
+          (λ e separator. closed_falls list is_close_paren (last keyword opening e) (shrinks_falls list list_shrinks) (λ xs closing. postfix_falls room (generic keyword opening e (assocs_from xs.items) closing))))
+
   -- By what an operand begins with.
 
   name_good : (name room : ℕ) → room < suc n → (s : HeldScopes) (ts : List Lexeme) → is_end (kind_at ts) ≡ false → Good true (name_with inner name room) stops_operand s ts
@@ -364,6 +559,11 @@ module _ (n : ℕ) (inner : Inner) (laws : Laws [] n inner) (places : InnerLaws 
   unary_by_good openings.VaStart room less tight s ts known = va_two_good va_start room less s ts (known refl)
   unary_by_good openings.VaCopy room less tight s ts known = va_two_good va_copy room less s ts (known refl)
   unary_by_good openings.Offset room less tight s ts known = offset_good room less s ts (known refl)
+  unary_by_good openings.Part room less tight s ts known = part_good room less s ts (known refl)
+  unary_by_good openings.Label room less tight s ts known = label_good room s ts (known refl)
+  unary_by_good openings.Compat room less tight s ts known = compat_good room less s ts (known refl)
+  unary_by_good openings.Choose room less tight s ts known = choose_good room less s ts (known refl)
+  unary_by_good openings.Generic room less tight s ts known = generic_good room less s ts (known refl)
   unary_by_good openings.Nothing room less tight s ts known = refused_here true (unary_by inner openings.Nothing room) stops_operand s ts Unexpected (λ k e. refl)
 
   pub unary_good : (room : ℕ) → room < suc n → (s : HeldScopes) (ts : List Lexeme) → Good true (unary_with inner room) stops_operand s ts

@@ -2,7 +2,7 @@
 
 ghost use Rattle.std.specs.Prelude.{◌≡◌, ◌&&◌, not, List};
 ghost use Rattle.type_table.specs.declared.row.Row as row;
-ghost use Rattle.name_rules.specs.Values.{is_no_pointer};
+ghost use Rattle.name_rules.specs.Values.{is_base_value, is_no_pointer};
 ghost use Rattle.name_rules.specs.Checks.{wants_place, is_star};
 ghost use Rattle.shape_values.specs.Views.{shape_in};
 ghost use Rattle.shape_steps.specs.State as states;
@@ -87,11 +87,15 @@ pub fn has_no_pointer(stacks: &Stacks, types: &TypeTable, depth: usize) -> bool
     shape_values::is_no_pointer(types, &value)
 }
 
-/// Whether neither operand of `[ ]` is a pointer. Constant time.
-pub fn index_has_no_pointer(stacks: &Stacks, types: &TypeTable) -> bool
+/// Whether neither operand of `[ ]` is a pointer, nor in wider C the left one a vector. Constant time.
+pub fn index_has_no_pointer(stacks: &Stacks, types: &TypeTable, wide: bool) -> bool
     ensures { result ≡ (is_no_pointer (states.value_at 1 (state_in types.now stacks.now))
-        && is_no_pointer (states.value_at 0 (state_in types.now stacks.now))) }
+        && is_no_pointer (states.value_at 0 (state_in types.now stacks.now))
+        && not (wide && is_base_value (states.value_at 1 (state_in types.now stacks.now)))) }
 {
+    if wide && shape_values::is_base(types, &stacks.value_at(types, 1)) {
+        return false;
+    }
     if has_no_pointer(stacks, types, 1) {
         has_no_pointer(stacks, types, 0)
     } else {

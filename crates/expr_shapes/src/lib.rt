@@ -6,6 +6,7 @@ mod faults;
 mod forms;
 mod operands;
 mod operators;
+mod picks;
 mod plain;
 #[cfg(test)]
 mod tests;
@@ -18,5 +19,9 @@ pub use forms::{cast, named, offset, offset_index, offset_member, statements, va
 pub use operands::{extension, name, number, plain_operand, text};
 pub use operators::{
     arrow, assign, binary, call, comma, condition, index, member, post, prefix, sizeof,
+};
+pub use picks::{
+    choose, chosen, compat, has_of_type, is_of_type, label, no_type, select, selected,
+    selected_shape,
 };
 pub use plain::Plain;

@@ -1,10 +1,10 @@
 //! Operators.
 
-ghost use Rattle.std.specs.Prelude.{◌≡◌, ℕ, List, OnOk, if◌then◌else◌};
+ghost use Rattle.std.specs.Prelude.{◌≡◌, ◌&&◌, ℕ, Bool, List, OnOk, if◌then◌else◌};
 ghost use Rattle.type_table.specs.declared.row.Row as row;
 ghost use Rattle.name_rules.specs.Spellings.{Spelling};
 ghost use Rattle.name_rules.specs.Scopes.{Names};
-ghost use Rattle.name_rules.specs.Values.{a_place, cond_type};
+ghost use Rattle.name_rules.specs.Values.{a_place, cond_type, is_base_value, is_no_pointer};
 ghost use Rattle.shape_values.specs.Views.{some_type, some_value_type};
 ghost use Rattle.shape_steps.specs.State as states;
 ghost use Rattle.shape_steps.specs.Steps as steps;
@@ -103,9 +103,9 @@ pub fn prefix(
     sign: Punct,
 ) -> Result<(), NoMemory>
     requires { ArePlain types.now plain.now }
-    ensures { OnOk result ((u : Spelling) (s : Names) (token last : ℕ)
+    ensures { OnOk result ((u : Spelling) (s : Names) (token last : ℕ) (aims : Bool)
         → state_in types.now stacks.new
-        ≡ steps.expr_step u s (state_in types.now stacks.old) (exprs.Prefix sign token last)) }
+        ≡ steps.expr_step u s (state_in types.now stacks.old) (exprs.Prefix sign token last aims)) }
 {
     let shape = shape_values::prefix(types, plain.base, sign, &stacks.shape_at(0));
     stacks.put(1, &shape, false)
@@ -121,14 +121,31 @@ pub fn post(stacks: &mut Stacks, types: &TypeTable) -> Result<(), NoMemory>
     stacks.put(1, &ExprShape::Value(value), false)
 }
 
-/// `[ ]`. Constant time.
-pub fn index(stacks: &mut Stacks, types: &TypeTable) -> Result<(), NoMemory>
-    ensures { OnOk result ((u : Spelling) (s : Names) (token first last : ℕ)
-        → state_in types.now stacks.new
-        ≡ steps.expr_step u s (state_in types.now stacks.old) (exprs.Index token first last)) }
+/// Whether `[ ]` of wider C takes an element of a vector. Constant time.
+fn is_vector_index(
+    types: &TypeTable,
+    wide: bool,
+    first: &Option<ValueType>,
+    second: &Option<ValueType>,
+) -> bool
+    ensures { result ≡ (wide && (is_base_value (some_value_type types.now first.now)
+        && is_no_pointer (some_value_type types.now second.now))) }
+{
+    wide && shape_values::is_base(types, first) && shape_values::is_no_pointer(types, second)
+}
+
+/// `[ ]`; in wider C it may be of a vector, whose element is as it is. Constant time.
+pub fn index(stacks: &mut Stacks, types: &TypeTable, wide: bool) -> Result<(), NoMemory>
+    ensures { OnOk result ((u : Spelling) (s : Names) (token first last : ℕ) (aims : Bool)
+        → wide ≡ u.wide → state_in types.now stacks.new
+        ≡ steps.expr_step u s (state_in types.now stacks.old) (exprs.Index token first last aims)) }
 {
     let first = stacks.value_at(types, 1);
     let second = stacks.value_at(types, 0);
+    if is_vector_index(types, wide, &first, &second) {
+        let shape = stacks.shape_at(1);
+        return stacks.put(2, &shape, false);
+    }
     let ty = shape_values::index(types, &first, &second);
     stacks.put(2, &ExprShape::Place(ty), false)
 }
@@ -150,9 +167,9 @@ pub fn call(stacks: &mut Stacks, types: &TypeTable, count: u32) -> Result<(), No
 
 /// What a pointer before `->` points at. Constant time.
 pub fn arrow(stacks: &mut Stacks, types: &TypeTable) -> Result<(), NoMemory>
-    ensures { OnOk result ((u : Spelling) (s : Names) (token first last : ℕ)
+    ensures { OnOk result ((u : Spelling) (s : Names) (token first last : ℕ) (aims : Bool)
         → state_in types.now stacks.new
-        ≡ steps.expr_step u s (state_in types.now stacks.old) (exprs.Arrow token first last)) }
+        ≡ steps.expr_step u s (state_in types.now stacks.old) (exprs.Arrow token first last aims)) }
 {
     let value = stacks.value_at(types, 0);
     let ty = shape_values::target(types, &value);

@@ -19,7 +19,7 @@ fn text_is_indexed(rt: HostRuntime) -> Result<(), Fail> {
     // &1["s"]
     number(&mut stacks, &types, &plain, false)?;
     text(&mut stacks, &types, &plain)?;
-    index(&mut stacks, &types)?;
+    index(&mut stacks, &types, false)?;
     prefix(&mut stacks, &types, &plain, Punct::Ampersand)?;
     assert_eq!(rt;
         stacks.shape_at(0),

@@ -1,7 +1,7 @@
 -- What stands along the parts of a tape, and what the rule of a literal's list leaves as it was.
 use Rattle.std.proofs.Common.{◌≡◌, List, [], ◌∷◌, ◌++◌, refl, sym, ◌∙◌, ap, append_assoc}
 use Rattle.tape_ops.specs.declared.op.Op.{Op}
-use Rattle.c_tree.specs.Tree.{Init, init_value, init_braced, InitList, init_list, InitItems, no_init_items, more_init_items, Desigs, no_desigs, more_desigs, Desig, member_desig, index_desig}
+use Rattle.c_tree.specs.Tree.{Init, init_value, init_braced, InitList, init_list, InitItems, no_init_items, more_init_items, Desigs, no_desigs, more_desigs, Desig, member_desig, index_desig, range_desig, old_desig}
 use Rattle.c_tape.specs.Tape.{rule, rule_of_list, rule_of_items, desig_tape, desigs_tape}
 use Rattle.name_rules.specs.Spellings.{Spelling}
 use Rattle.name_rules.specs.Scopes.{Names}
@@ -42,6 +42,8 @@ module _ (u : Spelling) (s : Names) where
   desig_keeps : (d : Desig) → Keeps (desig_tape d)
   desig_keeps (member_desig before name) = one _ (λ st. refl)
   desig_keeps (index_desig opening e closing) = one _ (λ st. refl)
+  desig_keeps (range_desig opening e dots e2 closing) = one _ (λ st. refl)
+  desig_keeps (old_desig name colon) = one _ (λ st. refl)
 
   desigs_keep : (ds : Desigs) → Keeps (desigs_tape ds)
   desigs_keep no_desigs = none

@@ -6,11 +6,15 @@ use Rattle.tape_ops.specs.declared.op.Op.TheVariants as ops
 use Rattle.tape_ops.specs.declared.initialiser.InitOp.TheVariants as inits
 use Rattle.tape_ops.specs.declared.form.FormOp.TheVariants as forms
 use Rattle.tape_ops.specs.declared.statement.StmtOp.TheVariants as stmts
+use Rattle.tape_ops.specs.declared.expression.ExprOp.TheVariants as exprs
+use Rattle.c_words.specs.declared.kinds.Punct.{Punct}
+use Rattle.c_words.specs.declared.kinds.Punct.TheVariants as signs
+use Rattle.c_tree.specs.Addresses.{comes_by_pointer}
 use Rattle.c_tape.specs.Tests.{ends_in_value}
-use Rattle.c_tree.specs.Tree.{Expr, operation, cast, prefix, sizeof_value, sizeof_type, extension, index, call, dot, arrow, post, compound, name_use, number_use, char_use, text_use, paren, statement_expr, va_arg, va_start, va_copy, offset, Operator, comma, assign, cond, binary, SpecWords, SomeDeclr, InitList}
+use Rattle.c_tree.specs.Tree.{Expr, complex_part, label_use, compat, choose, generic, operation, cast, prefix, sizeof_value, sizeof_type, extension, index, call, dot, arrow, post, compound, name_use, number_use, char_use, text_use, paren, statement_expr, va_arg, va_start, va_copy, offset, Operator, comma, assign, cond, binary, SpecWords, SomeDeclr, InitList}
 use Rattle.c_tree.specs.Ends.{key_token, first_token, last_token}
 use Rattle.c_tree.specs.Firsts.{first_word}
-use Rattle.c_tape.specs.Tape.{init, stmt, form, in_scope, steps_tape, block_items_tape, expr_tape, operator_tape, words_tape, some_declr_tape, type_name_with, list_tape, rule_of_list}
+use Rattle.c_tape.specs.Tape.{prefix_tape, tape_in, quietly, assocs_tape, assoc_count, init, stmt, form, in_scope, steps_tape, block_items_tape, expr_tape, operator_tape, words_tape, some_declr_tape, type_name_with, list_tape, rule_of_list}
 use Rattle.name_rules.specs.Spellings.{Spelling, place}
 use Rattle.name_rules.specs.Scopes.{Names}
 use Rattle.name_rules.specs.Values.{Shape}
@@ -41,6 +45,11 @@ operator_ends before comma token first last = ends before _ token refl (λ st be
 operator_ends before (assign p) token first last = ends before _ token refl (λ st behind. refl)
 operator_ends before (cond middle colon) token first last = ends before _ token refl (λ st behind. refl)
 operator_ends before (binary p) token first last = ends before _ token refl (λ st behind. refl)
+
+-- the operand of `&` is only addressed
+prefix_ends : (token : ℕ) (p : Punct) (e : Expr) (aims : Bool) (addressed taken : List Op) → EndsAt (prefix_tape token p e aims addressed taken) token
+prefix_ends token signs.Ampersand e aims addressed taken = ends addressed (ops.Expr (exprs.Prefix signs.Ampersand token (last_token e) (comes_by_pointer false e))) token refl (λ st behind. refl)
+prefix_ends token p e aims addressed taken = ends taken (ops.Expr (exprs.Prefix p token (last_token e) aims)) token refl (λ st behind. refl)
 
 module _ (u : Spelling) (s : Names) where
   -- what the last op of a tape stands for
@@ -120,7 +129,7 @@ module _ (u : Spelling) (s : Names) where
     expr_stands (cast opening ws d closing e) called st =
         by_last (cast opening ws d closing e) called st (ends _ _ opening refl (λ st behind. refl))
     expr_stands (prefix token p e) called st =
-        by_last (prefix token p e) called st (ends _ _ token refl (λ st behind. refl))
+        by_last (prefix token p e) called st (prefix_ends token p e false (tape_in false true e) (expr_tape false e))
     expr_stands (sizeof_value word e) called st =
         by_last (sizeof_value word e) called st
         (ends (stmt stmts.Quiet ++ expr_tape false e) (ops.Form (forms.Sizeof word.token)) word.token refl (λ st behind. refl))
@@ -166,6 +175,22 @@ module _ (u : Spelling) (s : Names) where
         (ends (stmt stmts.Quiet ++ type_name_with (words_tape false ws) (some_declr_tape d) (first_word ws)
         ++ form (forms.OffsetMember name.token name.name) ++ steps_tape steps)
         (ops.Form (forms.Offset keyword)) keyword refl (λ st behind. refl))
+    expr_stands (complex_part keyword e) called st =
+        by_last (complex_part keyword e) called st (ends _ _ keyword refl (λ st behind. refl))
+    expr_stands (label_use token name) called st =
+        by_last (label_use token name) called st (ends [] _ token refl (λ st behind. refl))
+    expr_stands (compat keyword opening ws d separator ws2 d2 closing) called st =
+        by_last (compat keyword opening ws d separator ws2 d2 closing) called st
+        (ends (stmt stmts.Quiet ++ type_name_with (words_tape false ws) (some_declr_tape d) (first_word ws)
+        ++ type_name_with (words_tape false ws2) (some_declr_tape d2) (first_word ws2))
+        (ops.Form (forms.Compat keyword)) keyword refl (λ st behind. refl))
+    expr_stands (choose keyword opening e separator e2 separator2 e3 closing) called st =
+        by_last (choose keyword opening e separator e2 separator2 e3 closing) called st
+        (ends (quietly (expr_tape false e) ++ expr_tape false e2 ++ expr_tape false e3) (ops.Form (forms.Choose keyword)) keyword refl (λ st behind. refl))
+    expr_stands (generic keyword opening e xs closing) called st =
+        by_last (generic keyword opening e xs closing) called st
+        (ends (stmt stmts.Quiet ++ expr_tape false e ++ form forms.Control ++ assocs_tape xs)
+        (ops.Form (forms.Generic keyword (assoc_count xs))) keyword refl (λ st behind. refl))
 
 pub expressions_stand : ShapesAreLeft → ExpressionsStand
 expressions_stand left u s st before called e behind =

@@ -23,13 +23,14 @@ expr_op_key (exprs.Comma token) = Some token
 expr_op_key (exprs.Assign sign token first last) = Some token
 expr_op_key (exprs.Cond has_middle token first last) = Some token
 expr_op_key (exprs.Binary sign token first last) = Some token
-expr_op_key (exprs.Prefix sign token last) = Some token
+expr_op_key (exprs.Prefix sign token last aims) = Some token
 expr_op_key (exprs.Post sign token first) = Some token
-expr_op_key (exprs.Index token first last) = Some token
+expr_op_key (exprs.Index token first last aims) = Some token
 expr_op_key (exprs.Arg behind first last) = None
 expr_op_key (exprs.Call token count) = Some token
-expr_op_key (exprs.Arrow token first last) = None
+expr_op_key (exprs.Arrow token first last aims) = None
 expr_op_key (exprs.Dot token member name) = Some token
+expr_op_key (exprs.Label token) = Some token
 
 abbrev pub form_op_key : FormOp → Option ℕ
 form_op_key (forms.Cast token last) = Some token
@@ -41,6 +42,11 @@ form_op_key (forms.VaCopy token last) = Some token
 form_op_key (forms.OffsetMember token name) = None
 form_op_key (forms.OffsetIndex token) = None
 form_op_key (forms.Offset token) = Some token
+form_op_key (forms.Compat token) = Some token
+form_op_key forms.Control = None
+form_op_key forms.NoType = None
+form_op_key (forms.Choose token) = Some token
+form_op_key (forms.Generic token count) = Some token
 
 abbrev pub init_op_key : InitOp → Option ℕ
 init_op_key (inits.Value first last) = None

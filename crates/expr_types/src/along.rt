@@ -15,6 +15,7 @@ ghost use Rattle.expr_types.specs.Keys.{op_key};
 ghost use Rattle.expr_types.specs.Views.{found_at};
 
 use crate::keys::key;
+use found_names::FoundNames;
 use place_map::PlaceMap;
 use qual_base::{NoMemory, TokenId};
 use shape_stacks::Stacks;
@@ -22,7 +23,7 @@ use shape_values::ExprShape;
 use std::alloc::Global;
 use tape_ops::Op;
 use type_table::TypeTable;
-use unit_shapes::{FoundNames, ImplicitTypes, step};
+use unit_shapes::{ImplicitTypes, step};
 use unit_spelling::Spelling;
 
 /// The compound literal whose values are on the stack, with its type under them. Constant time.
@@ -90,7 +91,7 @@ fn pass(
         (state_in types.now stacks.old) op.now) op.now)) at)) }
 {
     let literal = literal(types, stacks);
-    step(stacks, spelling, names, types, implicit, *op)?;
+    step(stacks, spelling, names.names(), types, implicit, *op)?;
     let shape = ended(types, stacks, &literal, *op);
     add(types, found, spelling, &key(*op), &shape)
 }

@@ -28,6 +28,7 @@ fn expression_key(op: ExprOp) -> Option<TokenId>
         ExprOp::Call { token, .. } => Some(token),
         ExprOp::Arrow { .. } => None,
         ExprOp::Dot { token, .. } => Some(token),
+        ExprOp::Label { token } => Some(token),
     }
 }
 
@@ -45,6 +46,11 @@ fn form_key(op: FormOp) -> Option<TokenId>
         FormOp::OffsetMember { .. } => None,
         FormOp::OffsetIndex { .. } => None,
         FormOp::Offset { token } => Some(token),
+        FormOp::Compat { token } => Some(token),
+        FormOp::Control => None,
+        FormOp::NoType => None,
+        FormOp::Choose { token } => Some(token),
+        FormOp::Generic { token, .. } => Some(token),
     }
 }
 

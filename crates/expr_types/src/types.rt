@@ -9,13 +9,14 @@ ghost use Rattle.expr_types.specs.Along.{shapes_among, first_at};
 ghost use Rattle.expr_types.specs.Views.{some_shape_in, found_at, shape_of_place, type_of_place};
 
 use crate::along::find_unit;
+use found_names::FoundNames;
 use place_map::PlaceMap;
 use qual_base::{NoMemory, TokenId, UnitNo};
 use shape_values::{ExprShape, ValueType, value};
 use std::alloc::Global;
 use std::marker::Model;
 use type_table::TypeTable;
-use unit_shapes::{FoundNames, ImplicitTypes};
+use unit_shapes::ImplicitTypes;
 use unit_types::{Program, UnitTape};
 
 /// What is at the key tokens of units. Linear in their tapes, but for growth.

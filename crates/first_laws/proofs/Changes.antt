@@ -4,6 +4,7 @@ use Rattle.std.specs.Prelude.{◌&&◌, ◌||◌, if◌then◌else◌}
 use Rattle.std.proofs.lemmas.Bool.{eq-eqb, eqb-true}
 use Rattle.c_words.specs.declared.kinds.Keyword.{Keyword}
 use Rattle.c_words.specs.declared.kinds.Keyword.TheVariants as keywords
+use Rattle.c_syntax.specs.declared.parts.Identifier.{Identifier}
 use Rattle.c_tree.specs.declared.lexeme.Lexeme.{Lexeme}
 use Rattle.tape_ops.specs.declared.specifier.TagKind.{TagKind}
 use Rattle.type_table.specs.Types.{CType}
@@ -13,14 +14,17 @@ use Rattle.typedef_scope.specs.Scopes.{is_same, kind_in}
 use Rattle.c_units.specs.HeldScopes.{HeldScope, HeldScopes, with_kind, with_name, may_declare, is_name, hold, declare, release, release_as}
 use Rattle.c_units.specs.HeldScopes as held
 use Rattle.name_rules.specs.Spellings.{Spelling, Place, place, Named}
-use Rattle.name_rules.specs.Scopes.{Declared, declared_at, Meaning, means_type, means_thing, meaning_in, Names, Role, object_role, function_role, parameter_role, field_role, enumerator_role, Scope, Tagged, body_of, bound, has_body, inner_meaning, innermost, is_at_file, is_place, or_place, outer_scopes, sized, thing_of, with_declared, with_key}
+use Rattle.name_rules.specs.Scopes.{Declared, declared_at, Meaning, means_type, means_thing, meaning_in, Names, enter, Role, object_role, function_role, parameter_role, field_role, enumerator_role, Scope, Tagged, body_of, bound, has_body, inner_meaning, innermost, is_at_file, is_place, or_place, outer_scopes, sized, thing_of, with_declared, with_key}
 use Rattle.name_rules.specs.Pieces.{is_function}
+use Rattle.name_rules.specs.Identifiers.{OldParameter, Olds, identified, number_of_identifier, old_declared, old_declared_some, old_faults}
 use Rattle.name_rules.specs.Declaring.{Numbered, begun_body, begun_in, body_entered, declared_here, declared_member, declared_param, declared_some, declared_thing, declared_typedef, declaring, found_or_new, has_word, keep, linked, or_at, owner_where, scope_kept, static_where, tag_known, the_thing, thing_where, type_named, typedef_known, unnamed_member, untagged, used}
+use Rattle.type_rules.specs.Naming.{identifiers_named, typed_by}
 use Rattle.meaning_laws.specs.Meanings.{Differ}
 use Rattle.meaning_laws.proofs.Lists.{at_more, at_new, differ_before, last_is_new, linked_is, things_map}
 use Rattle.first_laws.specs.Firsts.{HasSkeletonAt, has_skeleton}
-use Rattle.first_laws.proofs.Words.{kind_own, kind_other, no_constant}
-use Rattle.first_laws.proofs.Fitting.{Agree, Agrees, Fine, FirstsAre, Fit, Holds, KeptFits, OneFits, ScopeAgrees, ScopesFit, Stands, Stay, agrees_stays, done, firsts_stay, kept_stays, outer_fit, scopes_stay, skeleton_stays}
+use Rattle.first_laws.proofs.Words.{AreOf, kind_own, kind_other, no_constant, other_way}
+use Rattle.first_laws.proofs.Growing.{Grew, Grown, one_name, same_grew}
+use Rattle.first_laws.proofs.Fitting.{Level, plain, Agree, Agrees, Fine, FirstsAre, Fit, Holds, KeptFits, OneFits, ScopeAgrees, ScopesFit, Stands, Stay, agrees_stays, done, firsts_stay, kept_stays, outer_fit, scopes_stay, skeleton_stays}
 
 new_stays : (ds : List Declared) (d : Declared) → Stay ds (ds ++ d ∷ [])
 new_stays ds d = record { stays = λ p it e. at_more ds (d ∷ []) p it e }
@@ -34,17 +38,19 @@ firsts_more es (x ∷ more) d h g = (h.0, firsts_more es more d h.1 g)
 last_found : (ds : List Declared) (d : Declared) → Differ (ds ++ d ∷ []) → declared_at (ds ++ d ∷ []) d.at ≡ Some d
 last_found ds d differ = at_new ds d (last_is_new ds d differ)
 
-other_way : (m n : ℕ) → nat_eq m n ≡ false → nat_eq n m ≡ false
-other_way m n e = by (nat_eq n m) refl
-  where
-    by : (b : Bool) → nat_eq n m ≡ b → b ≡ false
-    by false is = refl
-    by true is = let same : nat_eq m n ≡ true = eq-eqb m n (sym (eqb-true n m is)) in absurd cc
-
 -- the name that a declarator holds, where it has one
 abbrev pub holding : Option Named → Option ℕ → Option ℕ
 holding None q = q
 holding (Some it) q = Some it.name
+
+-- a held name is let go, or held on
+abbrev pub held_behind : Bool → Option ℕ → Option ℕ
+held_behind true q = None
+held_behind false q = q
+
+abbrev pub scopes_behind : Bool → Kind → HeldScopes → HeldScopes
+scopes_behind true kind h = release kind h
+scopes_behind false kind h = h
 
 -- a declaration of a name in its scope
 abbrev here_d : Names → Place → ℕ → Role → CType → Option Place → Declared
@@ -62,18 +68,18 @@ with_thing words at name s =
     static_where (has_word keywords.Static words) at.0 name (thing_where (is_place (linked name at s) at) name at s)
 
 module _ (u : Spelling) (N : ℕ → Type 0) (keys : (m n : ℕ) → N m → N n → u.key m ≡ u.key n → m ≡ n) where
-  abbrev A : Option ℕ → List (Option ℕ) → Option HeldScope → HeldScopes → Names → Type 0
+  abbrev A : Option ℕ → List Level → Option HeldScope → HeldScopes → Names → Type 0
   A q qs k h s = Agree u N q qs k h s
 
-  abbrev F : Option ℕ → List (Option ℕ) → Option HeldScope → HeldScopes → Names → List Lexeme → Type 0
+  abbrev F : Option ℕ → List Level → Option HeldScope → HeldScopes → Names → List Lexeme → Type 0
   F q qs k h s ts = Fit u N q qs k h s ts
 
-  abbrev S : List Declared → List (Option ℕ) → HeldScopes → List Scope → Type 0
+  abbrev S : List Declared → List Level → HeldScopes → List Scope → Type 0
   S ds qs h scopes = ScopesFit u N ds qs h scopes
 
   -- what says nothing of declarations and scopes
 
-  module _ {q : Option ℕ} {qs : List (Option ℕ)} {k : Option HeldScope} {h : HeldScopes} {s : Names} {ts : List Lexeme} where
+  module _ {q : Option ℕ} {qs : List Level} {k : Option HeldScope} {h : HeldScopes} {s : Names} {ts : List Lexeme} where
     pub alike : {t : Names} → t.declared ≡ s.declared → t.scopes ≡ s.scopes → t.kept ≡ s.kept → t.things ≡ s.things →
         F q qs k h s ts → F q qs k h t ts
     alike {t} d sc ke th f = record {
@@ -91,6 +97,10 @@ module _ (u : Spelling) (N : ℕ → Type 0) (keys : (m n : ℕ) → N m → N n
 
     pub type_fits : (at : Place) (t : CType) → F q qs k h s ts → F q qs k h (type_named at t s) ts
     type_fits at t f = alike refl refl refl refl f
+
+    pub typed_by_fits : (token : ℕ) (o : Option CType) → F q qs k h s ts → F q qs k h (typed_by u token o s).names ts
+    typed_by_fits token None f = alike refl refl refl refl f
+    typed_by_fits token (Some t) f = f
 
     pub sized_fits : (at : Place) (t : CType) → F q qs k h s ts → F q qs k h (sized at t s) ts
     sized_fits at t f = alike refl refl refl refl f
@@ -112,7 +122,7 @@ module _ (u : Spelling) (N : ℕ → Type 0) (keys : (m n : ℕ) → N m → N n
     tag_known_fits None n f = f
     tag_known_fits (Some tag) n f = key_fits (is_at_file s) false n tag f
 
-  module _ {q : Option ℕ} {qs : List (Option ℕ)} {k : Option HeldScope} {h : HeldScopes} {ts : List Lexeme} where
+  module _ {q : Option ℕ} {qs : List Level} {k : Option HeldScope} {h : HeldScopes} {ts : List Lexeme} where
     begun_fits : (b : Bool) (at : Place) (kind : TagKind) (tag : Option ℕ) (it : Numbered) → F q qs k h it.names ts →
         F q qs k h (begun_in b at kind tag it).names ts
     begun_fits true at kind tag it f = alike refl refl refl refl f
@@ -122,15 +132,28 @@ module _ (u : Spelling) (N : ℕ → Type 0) (keys : (m n : ℕ) → N m → N n
         F q qs k h (begun_body at kind tag it).names ts
     body_fits at kind tag it f = begun_fits (has_body (body_of it.names.aggregates it.number)) at kind tag it f
 
+  module _ {q : Option ℕ} {qs : List Level} {k : Option HeldScope} {h : HeldScopes} {ts : List Lexeme} where
+    -- identifiers of a list, and those of them that are not declared, are no declarations
+
+    pub identifiers_fit : (names : List Identifier) (it : Olds) → F q qs k h it.names ts →
+        F q qs k h (identifiers_named u names it).names ts
+    identifiers_fit [] it f = f
+    identifiers_fit (name ∷ names) it f =
+        identifiers_fit names (identified u name.token name.name it) (alike refl refl refl refl f)
+
+    pub old_faults_fit : (list : List OldParameter) (s : Names) → F q qs k h s ts → F q qs k h (old_faults u list s) ts
+    old_faults_fit [] s f = f
+    old_faults_fit (it ∷ others) s f = old_faults_fit others _ (alike refl refl refl refl f)
+
   -- tags of the innermost scope are no names
-  tagged_fit : (ds : List Declared) (q : Option ℕ) (qs : List (Option ℕ)) (h : HeldScopes) (scopes : List Scope)
-      (tags : List Tagged) → S ds (q ∷ qs) h scopes →
-      S ds (q ∷ qs) h (record (innermost scopes) { tags = tags } ∷ outer_scopes scopes)
+  tagged_fit : (ds : List Declared) (q : Option ℕ) (qs : List Level) (h : HeldScopes) (scopes : List Scope)
+      (tags : List Tagged) → S ds (plain q ∷ qs) h scopes →
+      S ds (plain q ∷ qs) h (record (innermost scopes) { tags = tags } ∷ outer_scopes scopes)
   tagged_fit ds q qs [] scopes tags f = absurd f
   tagged_fit ds q qs (scope ∷ h) [] tags f = absurd f
   tagged_fit ds q qs (scope ∷ h) (names ∷ scopes) tags f = f
 
-  pub found_fits : {q : Option ℕ} {qs : List (Option ℕ)} {k : Option HeldScope} {h : HeldScopes} {s : Names}
+  pub found_fits : {q : Option ℕ} {qs : List Level} {k : Option HeldScope} {h : HeldScopes} {s : Names}
       {ts : List Lexeme} (found : Option ℕ) (kind : TagKind) (token tag : ℕ) → F q qs k h s ts →
       F q qs k h (found_or_new found u kind token tag s).names ts
   found_fits (Some n) kind token tag f = f
@@ -145,12 +168,12 @@ module _ (u : Spelling) (N : ℕ → Type 0) (keys : (m n : ℕ) → N m → N n
   }
 
   -- a declaration that binds no name
-  alone : (q : Option ℕ) (qs : List (Option ℕ)) (k : Option HeldScope) (h : HeldScopes) (s : Names) (d : Declared) →
+  alone : (q : Option ℕ) (qs : List Level) (k : Option HeldScope) (h : HeldScopes) (s : Names) (d : Declared) →
       (has_skeleton d.role ≡ true → HasSkeletonAt (s.declared ++ d ∷ []) d.first) → A q qs k h s →
       A q qs k h (with_declared d s)
   alone q qs k h s d g it =
       let stay = new_stays s.declared d in record {
-        scopes = scopes_stay u N stay (q ∷ qs) h s.scopes it.scopes;
+        scopes = scopes_stay u N stay (plain q ∷ qs) h s.scopes it.scopes;
         kept = kept_stays u N stay k s.kept it.kept;
         things = things_map (HasSkeletonAt s.declared) (HasSkeletonAt (s.declared ++ d ∷ [])) (λ p. skeleton_stays stay p)
             s.things it.things;
@@ -179,24 +202,27 @@ module _ (u : Spelling) (N : ℕ → Type 0) (keys : (m n : ℕ) → N m → N n
           subst (λ (o : Option Kind). Agrees ds (meaning_in names (u.key n)) o)
           (sym (kind_other scope m kind n (apart (nat_eq m n) refl e))) (h n other)
 
-  bound_scopes : (ds : List Declared) (p q : Option ℕ) (qs : List (Option ℕ)) (h : HeldScopes) (scopes : List Scope) (m : ℕ)
+  bound_scopes : (ds : List Declared) (p q : Option ℕ) (qs : List Level) (h : HeldScopes) (scopes : List Scope) (m : ℕ)
       (kind : Kind) (it : Meaning) (scope : HeldScope) → scope.names ≡ (with_name (held.innermost h) m kind).names →
       Holds u N q scope → N m → Agrees ds (Some it) (kind_in (with_name (held.innermost h) m kind).names m) →
-      S ds (p ∷ qs) h scopes →
-      S ds (q ∷ qs) (scope ∷ held.leave h)
+      S ds (plain p ∷ qs) h scopes →
+      S ds (plain q ∷ qs) (scope ∷ held.leave h)
       (record (innermost scopes) { names = (u.key m, it) ∷ (innermost scopes).names } ∷ outer_scopes scopes)
   bound_scopes ds p q qs [] scopes m kind it scope e holds own g f = absurd f
   bound_scopes ds p q qs (old ∷ h) [] m kind it scope e holds own g f = absurd f
   bound_scopes ds p q qs (old ∷ h) (names ∷ scopes) m kind it scope e holds own g f = (
     (
-      holds,
-      λ n other. subst (λ (ks : List (ℕ × Kind)). Agrees ds (meaning_in ((u.key m, it) ∷ names.names) (u.key n))
-          (kind_in ks n)) (sym e) (bound_agrees ds names.names old m kind it own f.0.1 g n other),
+      (
+        holds,
+        λ n other. subst (λ (ks : List (ℕ × Kind)). Agrees ds (meaning_in ((u.key m, it) ∷ names.names) (u.key n))
+            (kind_in ks n)) (sym e) (bound_agrees ds names.names old m kind it own f.0.0.1 g n other),
+      ),
+      tt,
     ),
     f.1,
   )
 
-  bind : (p q : Option ℕ) (qs : List (Option ℕ)) (k : Option HeldScope) (h : HeldScopes) (s : Names) (m : ℕ) (kind : Kind)
+  bind : (p q : Option ℕ) (qs : List Level) (k : Option HeldScope) (h : HeldScopes) (s : Names) (m : ℕ) (kind : Kind)
       (it : Meaning) (scope : HeldScope) → scope.names ≡ (with_name (held.innermost h) m kind).names → Holds u N q scope →
       N m → Agrees s.declared (Some it) (kind_in (with_name (held.innermost h) m kind).names m) → A p qs k h s →
       A q qs k (scope ∷ held.leave h) (bound (u.key m) it s)
@@ -207,12 +233,37 @@ module _ (u : Spelling) (N : ℕ → Type 0) (keys : (m n : ℕ) → N m → N n
     firsts = f.firsts;
   }
 
+  -- a name that is bound while the grammar's scope still holds it
+
+  held_scopes : (ds : List Declared) (q : Option ℕ) (qs : List Level) (h : HeldScopes) (scopes : List Scope) (m : ℕ)
+      (it : Meaning) → ((k : Option Kind) → Agrees ds (Some it) k) → S ds (plain q ∷ qs) h scopes →
+      S ds (plain q ∷ qs) h
+      (record (innermost scopes) { names = (u.key m, it) ∷ (innermost scopes).names } ∷ outer_scopes scopes)
+  held_scopes ds q qs [] scopes m it g f = absurd f
+  held_scopes ds q qs (old ∷ h) [] m it g f = absurd f
+  held_scopes ds q qs (old ∷ h) (names ∷ scopes) m it g f =
+      (((f.0.0.0, λ n other. by n (nat_eq (u.key m) (u.key n)) (f.0.0.1 n other)), tt), f.1)
+    where
+      by : (n : ℕ) (b : Bool) → Agrees ds (meaning_in names.names (u.key n)) (kind_in old.names n) →
+          Agrees ds (if b then Some it else meaning_in names.names (u.key n)) (kind_in old.names n)
+      by n true h = g (kind_in old.names n)
+      by n false h = h
+
+  bind_held : (q : Option ℕ) (qs : List Level) (k : Option HeldScope) (h : HeldScopes) (s : Names) (m : ℕ) (it : Meaning) →
+      ((kind : Option Kind) → Agrees s.declared (Some it) kind) → A q qs k h s → A q qs k h (bound (u.key m) it s)
+  bind_held q qs k h s m it g f = record {
+    scopes = held_scopes s.declared q qs h s.scopes m it g f.scopes;
+    kept = f.kept;
+    things = f.things;
+    firsts = f.firsts;
+  }
+
   -- what the innermost scope says of a name
-  inner_fits : (ds : List Declared) (q : Option ℕ) (qs : List (Option ℕ)) (h : HeldScopes) (scopes : List Scope) →
-      S ds (q ∷ qs) h scopes → OneFits u N ds q (held.innermost h) (innermost scopes)
+  inner_fits : (ds : List Declared) (q : Option ℕ) (qs : List Level) (h : HeldScopes) (scopes : List Scope) →
+      S ds (plain q ∷ qs) h scopes → OneFits u N ds q (held.innermost h) (innermost scopes)
   inner_fits ds q qs [] scopes f = absurd f
   inner_fits ds q qs (scope ∷ h) [] f = absurd f
-  inner_fits ds q qs (scope ∷ h) (names ∷ scopes) f = f.0
+  inner_fits ds q qs (scope ∷ h) (names ∷ scopes) f = f.0.0
 
   -- where the name is no enumerator, what it means already has a skeleton, and so has what is declared anew
   first_is : (ds : List Declared) (o : Option Meaning) (kind : Option Kind) (at : Place) → Agrees ds o kind →
@@ -235,7 +286,7 @@ module _ (u : Spelling) (N : ℕ → Type 0) (keys : (m n : ℕ) → N m → N n
   release_is : (kind : Kind) (h : HeldScopes) (o : Option ℕ) → (held.innermost h).held ≡ o → release kind h ≡ release_as o kind h
   release_is kind h o e = ap (λ (name : Option ℕ). release_as name kind h) e
 
-  module _ {qs : List (Option ℕ)} {k : Option HeldScope} {h : HeldScopes} {s : Names} {ts : List Lexeme} where
+  module _ {qs : List Level} {k : Option HeldScope} {h : HeldScopes} {s : Names} {ts : List Lexeme} where
     none_released : (kind : Kind) → F None qs k h s ts → F None qs k (release kind h) s ts
     none_released kind f = record {
       names = f.names;
@@ -245,12 +296,13 @@ module _ (u : Spelling) (N : ℕ → Type 0) (keys : (m n : ℕ) → N m → N n
     }
 
     -- a declaration that is put behind all others, and the held name bound
-    released : (m : ℕ) (kind : Kind) (d : Declared) (it : Meaning) →
+    released : (lets : Bool) (m : ℕ) (kind : Kind) (d : Declared) (it : Meaning) →
         (Differ (s.declared ++ d ∷ []) → A (Some m) qs k h s →
         (has_skeleton d.role ≡ true → HasSkeletonAt (s.declared ++ d ∷ []) d.first)
-        × Agrees (s.declared ++ d ∷ []) (Some it) (kind_in (with_name (held.innermost h) m kind).names m)) →
-        F (Some m) qs k h s ts → F None qs k (release kind h) (bound (u.key m) it (with_declared d s)) ts
-    released m kind d it g f = record {
+        × ((kind : Option Kind) → Agrees (s.declared ++ d ∷ []) (Some it) kind)) →
+        F (Some m) qs k h s ts →
+        F (held_behind lets (Some m)) qs k (scopes_behind lets kind h) (bound (u.key m) it (with_declared d s)) ts
+    released true m kind d it g f = record {
       names = f.names;
       agree = λ differ.
           let old = f.agree (differ_before s.declared (d ∷ []) differ) in
@@ -259,22 +311,29 @@ module _ (u : Spelling) (N : ℕ → Type 0) (keys : (m n : ℕ) → N m → N n
           subst (λ (now : HeldScopes). A None qs k now (bound (u.key m) it (with_declared d s)))
           (sym (release_is kind h (Some m) holds.0))
           (bind (Some m) None qs k h (with_declared d s) m kind it
-          (record (with_name (held.innermost h) m kind) { held = None }) refl refl holds.1.0 facts.1
-          (alone (Some m) qs k h s d facts.0 old));
+          (record (with_name (held.innermost h) m kind) { held = None }) refl refl holds.1.0
+          (facts.1 (kind_in (with_name (held.innermost h) m kind).names m)) (alone (Some m) qs k h s d facts.0 old));
+    }
+    released false m kind d it g f = record {
+      names = f.names;
+      agree = λ differ.
+          let old = f.agree (differ_before s.declared (d ∷ []) differ) in
+          let facts = g differ old in
+          bind_held (Some m) qs k h (with_declared d s) m it facts.1 (alone (Some m) qs k h s d facts.0 old);
     }
 
-    pub typedef_fits : (m : ℕ) (kind : Kind) (at : Place) (t : CType) → F (Some m) qs k h s ts →
-        F None qs k (release kind h) (declared_typedef at (u.key m) t s) ts
-    typedef_fits m kind at t f =
-        released m kind _ (means_type t) (λ differ old. (λ is. absurd cc, tt)) f
+    pub typedef_fits : (lets : Bool) (m : ℕ) (kind : Kind) (at : Place) (t : CType) → F (Some m) qs k h s ts →
+        F (held_behind lets (Some m)) qs k (scopes_behind lets kind h) (declared_typedef at (u.key m) t s) ts
+    typedef_fits lets m kind at t f =
+        released lets m kind _ (means_type t) (λ differ old. (λ is. absurd cc, λ kind. tt)) f
 
     -- an object or parameter
-    pub object_fits : (m : ℕ) (kind : Kind) (at : Place) (role : Role) (t : CType) (own : Option Place) →
+    pub object_fits : (lets : Bool) (m : ℕ) (kind : Kind) (at : Place) (role : Role) (t : CType) (own : Option Place) →
         has_skeleton role ≡ true → F (Some m) qs k h s ts →
-        F None qs k (release kind h) (declared_here at (u.key m) role t own s) ts
-    object_fits m kind at role t own is f =
-        released m kind (here_d s at (u.key m) role t own) (means_thing (the_thing (inner_meaning s (u.key m)) at))
-        (λ differ old. let first = first_there differ old in (λ have. first, inl first)) f
+        F (held_behind lets (Some m)) qs k (scopes_behind lets kind h) (declared_here at (u.key m) role t own s) ts
+    object_fits lets m kind at role t own is f =
+        released lets m kind (here_d s at (u.key m) role t own) (means_thing (the_thing (inner_meaning s (u.key m)) at))
+        (λ differ old. let first = first_there differ old in (λ have. first, λ kind. inl first)) f
       where
         first_there : Differ (s.declared ++ here_d s at (u.key m) role t own ∷ []) → A (Some m) qs k h s →
             HasSkeletonAt (s.declared ++ here_d s at (u.key m) role t own ∷ [])
@@ -287,9 +346,10 @@ module _ (u : Spelling) (N : ℕ → Type 0) (keys : (m n : ℕ) → N m → N n
             (one.1 m one.0.1.0)) one.0.1.1 (d, last_found s.declared d differ, is)
 
     -- an object or function of the file
-    pub thing_fits : (m : ℕ) (kind : Kind) (words : List Keyword) (at : Place) (t : CType) → F (Some m) qs k h s ts →
-        F None qs k (release kind h) (declared_thing words at (u.key m) t s) ts
-    thing_fits m kind words at t f =
+    pub thing_fits : (lets : Bool) (m : ℕ) (kind : Kind) (words : List Keyword) (at : Place) (t : CType) →
+        F (Some m) qs k h s ts →
+        F (held_behind lets (Some m)) qs k (scopes_behind lets kind h) (declared_thing words at (u.key m) t s) ts
+    thing_fits lets m kind words at t f =
         by (has_word keywords.Static words) (is_place (linked (u.key m) at s) at)
         (owner_where (with_thing words at (u.key m) s) (linked (u.key m) at s) at (if is_function t then Some at else None))
       where
@@ -321,13 +381,13 @@ module _ (u : Spelling) (N : ℕ → Type 0) (keys : (m n : ℕ) → N m → N n
             (λ p e. skeleton_stays (new_stays s.declared (as_d owner)) p
             (linked_is (HasSkeletonAt s.declared) at.0 s.things (u.key m) old.things p e)) (here owner differ)
 
-        base : (owner : Option Place) → F None qs k (release kind h)
+        base : (owner : Option Place) → F (held_behind lets (Some m)) qs k (scopes_behind lets kind h)
             (bound (u.key m) (means_thing (linked (u.key m) at s)) (with_declared (as_d owner) s)) ts
         base owner =
-            released m kind (as_d owner) (means_thing (linked (u.key m) at s))
-            (λ differ old. let first = linked_has owner differ old in (λ have. first, inl first)) f
+            released lets m kind (as_d owner) (means_thing (linked (u.key m) at s))
+            (λ differ old. let first = linked_has owner differ old in (λ have. first, λ kind. inl first)) f
 
-        by : (b c : Bool) (owner : Option Place) → F None qs k (release kind h)
+        by : (b c : Bool) (owner : Option Place) → F (held_behind lets (Some m)) qs k (scopes_behind lets kind h)
             (bound (u.key m) (means_thing (linked (u.key m) at s)) (with_declared (as_d owner)
             (static_where b at.0 (u.key m) (thing_where c (u.key m) at s)))) ts
         by false false owner = base owner
@@ -359,17 +419,104 @@ module _ (u : Spelling) (N : ℕ → Type 0) (keys : (m n : ℕ) → N m → N n
           };
         }
 
-  module _ {qs : List (Option ℕ)} {k : Option HeldScope} {h : HeldScopes} {s : Names} {ts : List Lexeme} where
+  -- a held name that is let go where nothing is declared, behind parts that the names did not go through
+
+  more_kinds : (ds : List Declared) (o : Option Meaning) (old new : Option Kind) →
+      ((kind : Kind) → old ≡ Some kind → new ≡ Some kind) → Agrees ds o old → Agrees ds o new
+  more_kinds ds None old new g h = tt
+  more_kinds ds (Some (means_type t)) old new g h = tt
+  more_kinds ds (Some (means_thing p)) old new g (inl h) = inl h
+  more_kinds ds (Some (means_thing p)) old new g (inr h) = inr (h.0, g Constant h.1)
+
+  grown_agrees : (ds : List Declared) (names : List (ℕ × Meaning)) {kept : Bool} (scope now : HeldScope) → Grown kept scope now →
+      ScopeAgrees u N ds names scope → ScopeAgrees u N ds names now
+  grown_agrees ds names scope now g f m n =
+      more_kinds ds (meaning_in names (u.key m)) (kind_in scope.names m) (kind_in now.names m) (g.kinds m) (f m n)
+
+  held_is : (q : Option ℕ) (scope : HeldScope) → Holds u N q scope → scope.held ≡ q
+  held_is None scope g = g
+  held_is (Some m) scope g = g.0
+
+  one_let_go : (ds : List Declared) (q : Option ℕ) (qs : List Level) (kind : Kind) (outer : HeldScopes) (names : Scope)
+      (scopes : List Scope) (scope now : HeldScope) → Grown true scope now → OneFits u N ds q scope names → S ds qs outer scopes →
+      S ds (plain None ∷ qs) (release kind (now ∷ outer)) (names ∷ scopes)
+  one_let_go ds q qs kind outer names scopes scope now g one f =
+      subst (λ (t : HeldScopes). S ds (plain None ∷ qs) t (names ∷ scopes)) (sym (release_is kind (now ∷ outer) q held_now)) (by q held_now)
+    where
+      held_now : now.held ≡ q
+      held_now = g.holds refl ∙ held_is q scope one.0
+
+      by : (o : Option ℕ) → now.held ≡ o → S ds (plain None ∷ qs) (release_as o kind (now ∷ outer)) (names ∷ scopes)
+      by None e = (((e, grown_agrees ds names.names scope now g one.1), tt), f)
+      by (Some m) e = (
+        (
+          (
+            refl,
+            grown_agrees ds names.names now (with_name now m kind) (one_name now m kind)
+                (grown_agrees ds names.names scope now g one.1),
+          ),
+          tt,
+        ),
+        f,
+      )
+
+  scopes_let_go : (ds : List Declared) (q : Option ℕ) (qs : List Level) (kind : Kind) (h t : HeldScopes)
+      (scopes : List Scope) → Grew true h t → S ds (plain q ∷ qs) h scopes → S ds (plain None ∷ qs) (release kind t) scopes
+  scopes_let_go ds q qs kind [] t scopes g f = absurd f
+  scopes_let_go ds q qs kind (scope ∷ h) t [] g f = absurd f
+  scopes_let_go ds q qs kind (scope ∷ h) t (names ∷ scopes) g f =
+      let it = g scope h refl in
+      subst (λ (s : HeldScopes). S ds (plain None ∷ qs) (release kind s) (names ∷ scopes)) (sym it.are)
+      (one_let_go ds q qs kind h names scopes scope it.now it.grown f.0.0 f.1)
+
+  pub let_go : {q : Option ℕ} {qs : List Level} {k : Option HeldScope} {h t : HeldScopes} {s : Names} {ts vs : List Lexeme}
+      (kind : Kind) → Grew true h t → AreOf N vs → F q qs k h s ts → F None qs k (release kind t) s vs
+  let_go {q} {qs} {k} {h} {t} {s} kind g past f = record {
+    names = past;
+    agree = λ differ. let it = f.agree differ in record {
+      scopes = scopes_let_go s.declared q qs kind h t s.scopes g it.scopes;
+      kept = it.kept;
+      things = it.things;
+      firsts = it.firsts;
+    };
+  }
+
+  module _ {qs : List Level} {k : Option HeldScope} {h : HeldScopes} {s : Names} {ts : List Lexeme} where
+    -- nothing stands between
+    pub dropped : {q : Option ℕ} (kind : Kind) → F q qs k h s ts → F None qs k (release kind h) s ts
+    dropped kind f = let_go kind (same_grew h) f.names f
+
+    unnamed : {q : Option ℕ} (lets : Bool) (kind : Kind) → F q qs k h s ts → F (held_behind lets q) qs k (scopes_behind lets kind h) s ts
+    unnamed true kind f = dropped kind f
+    unnamed false kind f = f
+
+  module _ {qs : List Level} {k : Option HeldScope} {h : HeldScopes} {ts : List Lexeme} where
+    -- a name that is declared behind a list of identifiers
+    pub old_fits : (lets : Bool) (kind : Kind) (own : Option Place) (it : Option Named) (t : CType) (olds : Olds) →
+        F (holding it None) qs k h olds.names ts →
+        F (held_behind lets (holding it None)) qs k (scopes_behind lets kind h) (old_declared_some u own it t olds).names ts
+    old_fits lets kind own None t olds f = unnamed lets kind f
+    old_fits lets kind own (Some it) t olds f = by (number_of_identifier (u.key it.name) olds.list)
+      where
+        by : (o : Option ℕ) →
+            F (held_behind lets (Some it.name)) qs k (scopes_behind lets kind h) (old_declared u own it t o olds).names ts
+        by None = unnamed lets kind (alike refl refl refl refl f)
+        by (Some i) =
+            object_fits lets it.name kind (place u it.token) (parameter_role i) t own refl
+            (sized_fits (place u it.token) t (alike refl refl refl refl f))
+
+  module _ {qs : List Level} {k : Option HeldScope} {h : HeldScopes} {s : Names} {ts : List Lexeme} where
     pub param_fits : (it : Option Named) (i : ℕ) (own : Option Place) (t : CType) → F (holding it None) qs k h s ts →
         F None qs k (release Value h) (declared_param u it i own t s) ts
     param_fits None i own t f = none_released Value f
     param_fits (Some it) i own t f =
-        object_fits it.name Value (place u it.token) (parameter_role i) t own refl (sized_fits (place u it.token) t f)
+        object_fits true it.name Value (place u it.token) (parameter_role i) t own refl (sized_fits (place u it.token) t f)
 
-    pub some_fits : (kind : Kind) (untagged : Option ℕ) (it : Option Named) (words : List Keyword) (t : CType) →
-        F (holding it None) qs k h s ts → F None qs k (release kind h) (declared_some u untagged it words t s) ts
-    some_fits kind untagged None words t f = none_released kind f
-    some_fits kind untagged (Some it) words t f =
+    pub some_fits : (lets : Bool) (kind : Kind) (untagged : Option ℕ) (it : Option Named) (words : List Keyword) (t : CType) →
+        F (holding it None) qs k h s ts →
+        F (held_behind lets (holding it None)) qs k (scopes_behind lets kind h) (declared_some u untagged it words t s) ts
+    some_fits lets kind untagged None words t f = unnamed lets kind f
+    some_fits lets kind untagged (Some it) words t f =
         known_fits words (u.key it.name) untagged
         (by (has_word keywords.Typedef words) (is_at_file old || (is_function t || has_word keywords.Extern words)))
       where
@@ -379,16 +526,16 @@ module _ (u : Spelling) (N : ℕ → Type 0) (keys : (m n : ℕ) → N m → N n
         before : F (Some it.name) qs k h old ts
         before = sized_fits (place u it.token) t f
 
-        by : (b c : Bool) → F None qs k (release kind h)
+        by : (b c : Bool) → F (held_behind lets (Some it.name)) qs k (scopes_behind lets kind h)
             (if b then declared_typedef (place u it.token) (u.key it.name) t old
             else if c then declared_thing words (place u it.token) (u.key it.name) t old
             else declared_here (place u it.token) (u.key it.name) object_role t
             (if has_word keywords.Static words then None else old.enclosing) old) ts
-        by true c = typedef_fits it.name kind (place u it.token) t before
-        by false true = thing_fits it.name kind words (place u it.token) t before
-        by false false = object_fits it.name kind (place u it.token) object_role t _ refl before
+        by true c = typedef_fits lets it.name kind (place u it.token) t before
+        by false true = thing_fits lets it.name kind words (place u it.token) t before
+        by false false = object_fits lets it.name kind (place u it.token) object_role t _ refl before
 
-  module _ {q : Option ℕ} {qs : List (Option ℕ)} {k : Option HeldScope} {h : HeldScopes} {s : Names} {ts : List Lexeme} where
+  module _ {q : Option ℕ} {qs : List Level} {k : Option HeldScope} {h : HeldScopes} {s : Names} {ts : List Lexeme} where
     -- a member, which no scope declares
     field_fits : (at : Place) (n i : ℕ) (t : CType) (own : Option Place) → F q qs k h s ts →
         F q qs k h (declaring at (field_role n i) at t own s) ts
@@ -418,12 +565,12 @@ module _ (u : Spelling) (N : ℕ → Type 0) (keys : (m n : ℕ) → N m → N n
         Fine u N (Some m) qs k (hold m kind h) s ts
     hold_fits m kind other own f = by (may_declare (held.innermost h) m kind) refl
       where
-        holds_fit : (ds : List Declared) (h : HeldScopes) (scopes : List Scope) → S ds (q ∷ qs) h scopes →
+        holds_fit : (ds : List Declared) (h : HeldScopes) (scopes : List Scope) → S ds (plain q ∷ qs) h scopes →
             (kind_in (held.innermost h).names m ≡ Some Constant → ⊥) →
-            S ds (Some m ∷ qs) (record (held.innermost h) { held = Some m } ∷ held.leave h) scopes
+            S ds (plain (Some m) ∷ qs) (record (held.innermost h) { held = Some m } ∷ held.leave h) scopes
         holds_fit ds [] scopes g other = absurd g
         holds_fit ds (scope ∷ h) [] g other = absurd g
-        holds_fit ds (scope ∷ h) (names ∷ scopes) g other = (((refl, (own, other)), g.0.1), g.1)
+        holds_fit ds (scope ∷ h) (names ∷ scopes) g other = ((((refl, (own, other)), g.0.0.1), tt), g.1)
 
         by : (b : Bool) → may_declare (held.innermost h) m kind ≡ b → Fine u N (Some m) qs k
             (if b then Some (record (held.innermost h) { held = Some m } ∷ held.leave h) else None) s ts
@@ -489,32 +636,107 @@ module _ (u : Spelling) (N : ℕ → Type 0) (keys : (m n : ℕ) → N m → N n
 
   -- a function's own parameters and its body
 
-  module _ {q : Option ℕ} {qs : List (Option ℕ)} {s : Names} {ts : List Lexeme} where
-    pub kept_fits : {k : Option HeldScope} {h : HeldScopes} (own : Place) → F None (q ∷ qs) k h s ts →
+  module _ {q : Option ℕ} {qs : List Level} {s : Names} {ts : List Lexeme} where
+    pub kept_fits : {k : Option HeldScope} {h : HeldScopes} (own : Place) → F None (plain q ∷ qs) k h s ts →
         F q qs (Some (held.innermost h)) (held.leave h) (keep (Some own) s) ts
     kept_fits {k} {h} own f = record {
       names = f.names;
       agree = λ differ. let it = f.agree differ in record {
-        scopes = outer_fit u N s.declared None q qs h s.scopes it.scopes;
-        kept = inner_fits s.declared None (q ∷ qs) h s.scopes it.scopes;
+        scopes = outer_fit u N s.declared (plain None) (plain q) qs h s.scopes it.scopes;
+        kept = inner_fits s.declared None (plain q ∷ qs) h s.scopes it.scopes;
         things = it.things;
         firsts = it.firsts;
       };
     }
 
-    pub body_entered_fits : {scope : HeldScope} {h : HeldScopes} (at first : Place) (is_plain : Bool) →
-        F q qs (Some scope) h s ts → F None (q ∷ qs) None (scope ∷ h) (body_entered at first is_plain s) ts
-    body_entered_fits {scope} {h} at first is_plain f = record {
-      names = f.names;
-      agree = λ differ. let it = f.agree differ in record {
-        scopes = by s.kept it.kept it.scopes;
-        kept = tt;
-        things = it.things;
-        firsts = it.firsts;
-      };
-    }
+    -- a body may be counted or not
+    pub body_entered_fits : {scope : HeldScope} {h : HeldScopes} (at first : Place) (is_plain is_counted : Bool) →
+        F q qs (Some scope) h s ts → F None (plain q ∷ qs) None (scope ∷ h) (body_entered at first is_plain is_counted s) ts
+    body_entered_fits {scope} {h} at first is_plain is_counted f = counted is_counted
       where
-        by : (o : Option Scope) → KeptFits u N s.declared (Some scope) o → S s.declared (q ∷ qs) h s.scopes →
-            S s.declared (None ∷ (q ∷ qs)) (scope ∷ h) (scope_kept o s.scopes)
+        by : (o : Option Scope) → KeptFits u N s.declared (Some scope) o → S s.declared (plain q ∷ qs) h s.scopes →
+            S s.declared (plain None ∷ (plain q ∷ qs)) (scope ∷ h) (scope_kept o s.scopes)
         by None g more = absurd g
-        by (Some names) g more = (g, more)
+        by (Some names) g more = ((g, tt), more)
+
+        counted : (b : Bool) → F None (plain q ∷ qs) None (scope ∷ h) (body_entered at first is_plain b s) ts
+        counted true = record {
+          names = f.names;
+          agree = λ differ. let it = f.agree differ in record {
+            scopes = by s.kept it.kept it.scopes;
+            kept = tt;
+            things = it.things;
+            firsts = it.firsts;
+          };
+        }
+        counted false = record {
+          names = f.names;
+          agree = λ differ. let it = f.agree differ in record {
+            scopes = by s.kept it.kept it.scopes;
+            kept = tt;
+            things = it.things;
+            firsts = it.firsts;
+          };
+        }
+
+  -- The scope of parameters that are declared behind a list of identifiers. In the grammar they are declared behind the whole declarator,
+  -- in whose scope what else stands in it has declared enumerators by then. Among names nothing behind the list is known yet.
+
+  grown_holds : (q : Option ℕ) (scope now : HeldScope) → Grown true scope now → Holds u N q scope → Holds u N q now
+  grown_holds None scope now g h = g.holds refl ∙ h
+  grown_holds (Some m) scope now g h = (g.holds refl ∙ h.0, (h.1.0, λ is. h.1.1 (sym (g.same refl m h.0) ∙ is)))
+
+  grown_beside : (ds : List Declared) (q : Option ℕ) (qs : List Level) (scope : HeldScope) (outer t : HeldScopes)
+      (scopes : List Scope) → Grew true (scope ∷ outer) t → S ds (plain q ∷ qs) (scope ∷ outer) scopes →
+      S ds ((q, Some scope) ∷ qs) t scopes
+  grown_beside ds q qs scope outer t [] g f = absurd f
+  grown_beside ds q qs scope outer t (names ∷ scopes) g f =
+      let it = g scope outer refl in
+      subst (λ (now : HeldScopes). S ds ((q, Some scope) ∷ qs) now (names ∷ scopes)) (sym it.are) (
+        (
+          (grown_holds q scope it.now it.grown f.0.0.0, grown_agrees ds names.names scope it.now it.grown f.0.0.1),
+          f.0.0,
+        ),
+        f.1,
+      )
+
+  as_beside : (ds : List Declared) (q : Option ℕ) (qs : List Level) (scope : HeldScope) (outer t : HeldScopes)
+      (scopes : List Scope) → Grew true (scope ∷ outer) t → S ds ((q, Some scope) ∷ qs) t scopes →
+      S ds (plain q ∷ qs) (scope ∷ outer) scopes
+  as_beside ds q qs scope outer t scopes g f =
+      let it = g scope outer refl in
+      by it.now scopes (subst (λ (now : HeldScopes). S ds ((q, Some scope) ∷ qs) now scopes) it.are f)
+    where
+      by : (now : HeldScope) (scopes : List Scope) → S ds ((q, Some scope) ∷ qs) (now ∷ outer) scopes →
+          S ds (plain q ∷ qs) (scope ∷ outer) scopes
+      by now [] f = absurd f
+      by now (names ∷ scopes) f = ((f.0.1, tt), f.1)
+
+  pub beside_entered : {q : Option ℕ} {qs : List Level} {k : Option HeldScope} {s : Names} {ts vs : List Lexeme} (scope : HeldScope)
+      (outer t : HeldScopes) → Grew true (scope ∷ outer) t → AreOf N vs → F q qs k (scope ∷ outer) s ts →
+      F None ((q, Some scope) ∷ qs) k (held.enter t) (enter s) vs
+  beside_entered {q} {qs} {k} {s} scope outer t g past f = record {
+    names = past;
+    agree = λ differ. let it = f.agree differ in record {
+      scopes = (((refl, λ m n. tt), tt), grown_beside s.declared q qs scope outer t s.scopes g it.scopes);
+      kept = it.kept;
+      things = it.things;
+      firsts = it.firsts;
+    };
+  }
+
+  pub beside_kept : {q : Option ℕ} {qs : List Level} {k : Option HeldScope} {s : Names} {ts vs : List Lexeme} (own : Place)
+      (scope : HeldScope) (outer t w : HeldScopes) → Grew true (scope ∷ outer) t → held.leave w ≡ t → AreOf N ts →
+      F None ((q, Some scope) ∷ qs) k w s vs →
+      F q qs (Some (held.innermost w)) (scope ∷ outer) (keep (Some own) s) ts
+  beside_kept {q} {qs} {k} {s} own scope outer t w g left past f = record {
+    names = past;
+    agree = λ differ. let it = f.agree differ in record {
+      scopes = as_beside s.declared q qs scope outer t (outer_scopes s.scopes) g
+          (subst (λ (h : HeldScopes). S s.declared ((q, Some scope) ∷ qs) h (outer_scopes s.scopes)) left
+          (outer_fit u N s.declared (plain None) (q, Some scope) qs w s.scopes it.scopes));
+      kept = inner_fits s.declared None ((q, Some scope) ∷ qs) w s.scopes it.scopes;
+      things = it.things;
+      firsts = it.firsts;
+    };
+  }

@@ -28,6 +28,13 @@ abbrev pub FirstsAre : List Declared → List Declared → Type 0
 FirstsAre ds [] = Unit {0}
 FirstsAre ds (d ∷ more) = (has_skeleton d.role ≡ true → HasSkeletonAt ds d.first) × FirstsAre ds more
 
+-- of a scope that is open: the name that it holds, and another scope that its names fit too, where one is wanted
+abbrev pub Level : Type 0
+Level = Option ℕ × Option HeldScope
+
+abbrev pub plain : Option ℕ → Level
+plain q = (q, None)
+
 -- declarations stay where they are
 pub record Stay (ds es : List Declared) : Type 0 where
   pub stays : (p : Place) (d : Declared) → declared_at ds p ≡ Some d → declared_at es p ≡ Some d
@@ -62,12 +69,17 @@ module _ (u : Spelling) (N : ℕ → Type 0) where
   abbrev pub OneFits : List Declared → Option ℕ → HeldScope → Scope → Type 0
   OneFits ds q scope names = Holds q scope × ScopeAgrees ds names.names scope
 
+  abbrev pub BesideFits : List Declared → Level → Scope → Type 0
+  BesideFits ds (q, None) names = Unit {0}
+  BesideFits ds (q, Some scope) names = OneFits ds q scope names
+
   -- scopes one by one, with the names that they hold
-  abbrev pub ScopesFit : List Declared → List (Option ℕ) → HeldScopes → List Scope → Type 0
+  abbrev pub ScopesFit : List Declared → List Level → HeldScopes → List Scope → Type 0
   ScopesFit ds [] h scopes = Unit {0}
   ScopesFit ds (q ∷ qs) [] scopes = ⊥
   ScopesFit ds (q ∷ qs) (scope ∷ h) [] = ⊥
-  ScopesFit ds (q ∷ qs) (scope ∷ h) (names ∷ scopes) = OneFits ds q scope names × ScopesFit ds qs h scopes
+  ScopesFit ds (q ∷ qs) (scope ∷ h) (names ∷ scopes) =
+      (OneFits ds q.0 scope names × BesideFits ds q names) × ScopesFit ds qs h scopes
 
   -- the scope that is kept, where one is looked for
   abbrev pub KeptFits : List Declared → Option HeldScope → Option Scope → Type 0
@@ -75,20 +87,20 @@ module _ (u : Spelling) (N : ℕ → Type 0) where
   KeptFits ds (Some scope) None = ⊥
   KeptFits ds (Some scope) (Some names) = OneFits ds None scope names
 
-  pub record Agree (q : Option ℕ) (qs : List (Option ℕ)) (k : Option HeldScope) (h : HeldScopes) (s : Names) : Type 0 where
-    pub scopes : ScopesFit s.declared (q ∷ qs) h s.scopes
+  pub record Agree (q : Option ℕ) (qs : List Level) (k : Option HeldScope) (h : HeldScopes) (s : Names) : Type 0 where
+    pub scopes : ScopesFit s.declared (plain q ∷ qs) h s.scopes
     pub kept : KeptFits s.declared k s.kept
     pub things : ThingsAre (HasSkeletonAt s.declared) s.things
     pub firsts : FirstsAre s.declared s.declared
 
   -- before these tokens
-  pub record Fit (q : Option ℕ) (qs : List (Option ℕ)) (k : Option HeldScope) (h : HeldScopes) (s : Names)
+  pub record Fit (q : Option ℕ) (qs : List Level) (k : Option HeldScope) (h : HeldScopes) (s : Names)
       (ts : List Lexeme) : Type 0 where
     pub names : AreOf N ts
     pub agree : Differ s.declared → Agree q qs k h s
 
   -- where there are scopes, they fit
-  pub record Fine (q : Option ℕ) (qs : List (Option ℕ)) (k : Option HeldScope) (o : Option HeldScopes) (s : Names)
+  pub record Fine (q : Option ℕ) (qs : List Level) (k : Option HeldScope) (o : Option HeldScopes) (s : Names)
       (ts : List Lexeme) : Type 0 where
     pub fits : (h : HeldScopes) → o ≡ Some h → Fit q qs k h s ts
 
@@ -99,12 +111,17 @@ module _ (u : Spelling) (N : ℕ → Type 0) where
     one_stays q scope names h =
         (h.0, λ m n. agrees_stays stay (meaning_in names.names (u.key m)) (kind_in scope.names m) (h.1 m n))
 
-    pub scopes_stay : (qs : List (Option ℕ)) (h : HeldScopes) (scopes : List Scope) → ScopesFit ds qs h scopes →
+    beside_stays : (q : Level) (names : Scope) → BesideFits ds q names → BesideFits es q names
+    beside_stays (q, None) names h = tt
+    beside_stays (q, Some scope) names h = one_stays q scope names h
+
+    pub scopes_stay : (qs : List Level) (h : HeldScopes) (scopes : List Scope) → ScopesFit ds qs h scopes →
         ScopesFit es qs h scopes
     scopes_stay [] h scopes f = tt
     scopes_stay (q ∷ qs) [] scopes f = f
     scopes_stay (q ∷ qs) (scope ∷ h) [] f = f
-    scopes_stay (q ∷ qs) (scope ∷ h) (names ∷ scopes) f = (one_stays q scope names f.0, scopes_stay qs h scopes f.1)
+    scopes_stay (q ∷ qs) (scope ∷ h) (names ∷ scopes) f =
+        ((one_stays q.0 scope names f.0.0, beside_stays q names f.0.1), scopes_stay qs h scopes f.1)
 
     pub kept_stays : (k : Option HeldScope) (kept : Option Scope) → KeptFits ds k kept → KeptFits es k kept
     kept_stays None kept f = tt
@@ -112,7 +129,7 @@ module _ (u : Spelling) (N : ℕ → Type 0) where
     kept_stays (Some scope) (Some names) f = one_stays None scope names f
 
   -- what is round the innermost scope
-  pub outer_fit : (ds : List Declared) (p q : Option ℕ) (qs : List (Option ℕ)) (h : HeldScopes) (scopes : List Scope) →
+  pub outer_fit : (ds : List Declared) (p q : Level) (qs : List Level) (h : HeldScopes) (scopes : List Scope) →
       ScopesFit ds (p ∷ (q ∷ qs)) h scopes → ScopesFit ds (q ∷ qs) (held.leave h) (outer_scopes scopes)
   outer_fit ds p q qs [] scopes f = absurd f
   outer_fit ds p q qs (scope ∷ h) [] f = absurd f
@@ -121,7 +138,7 @@ module _ (u : Spelling) (N : ℕ → Type 0) where
 -- steps along the tokens of a tree
 
 module _ {u : Spelling} {N : ℕ → Type 0} where
-  module _ {q : Option ℕ} {qs : List (Option ℕ)} {k : Option HeldScope} where
+  module _ {q : Option ℕ} {qs : List Level} {k : Option HeldScope} where
     pub done : {h : HeldScopes} {s : Names} {ts : List Lexeme} → Fit u N q qs k h s ts → Fine u N q qs k (Some h) s ts
     done {h} {s} {ts} f = record {
       fits = λ other e. let same : h ≡ other = cc in subst (λ (it : HeldScopes). Fit u N q qs k it s ts) same f;
@@ -155,39 +172,47 @@ module _ {u : Spelling} {N : ℕ → Type 0} where
     eats [] f = f
     eats (t ∷ front) f = eats front (eat f)
 
-  pub step : {q r : Option ℕ} {qs rs : List (Option ℕ)} {k l : Option HeldScope} {o : Option HeldScopes}
+  pub step : {q r : Option ℕ} {qs rs : List Level} {k l : Option HeldScope} {o : Option HeldScopes}
       {next : HeldScopes → Option HeldScopes} {s t : Names} {ts vs : List Lexeme} → Fine u N q qs k o s ts →
       ((h : HeldScopes) → Fit u N q qs k h s ts → Fine u N r rs l (next h) t vs) → Fine u N r rs l (behind o next) t vs
   step {o = None} f g = record { fits = λ h e. absurd cc }
   step {o = Some before} f g = g before (f.fits before refl)
 
+  -- two parts behind another
+  pub step_two : {q r : Option ℕ} {qs rs : List Level} {k l : Option HeldScope} {o : Option HeldScopes}
+      (next last : HeldScopes → Option HeldScopes) {s t : Names} {ts vs : List Lexeme} → Fine u N q qs k o s ts →
+      ((h : HeldScopes) → Fit u N q qs k h s ts → Fine u N r rs l (behind (next h) last) t vs) →
+      Fine u N r rs l (behind (behind o next) last) t vs
+  step_two {o = None} next last f g = record { fits = λ h e. absurd cc }
+  step_two {o = Some before} next last f g = g before (f.fits before refl)
+
   -- a scope of its own
 
-  pub entered : {q : Option ℕ} {qs : List (Option ℕ)} {k : Option HeldScope} {h : HeldScopes} {s : Names} {ts : List Lexeme} →
-      Fit u N q qs k h s ts → Fit u N None (q ∷ qs) k (held.enter h) (enter s) ts
+  pub entered : {q : Option ℕ} {qs : List Level} {k : Option HeldScope} {h : HeldScopes} {s : Names} {ts : List Lexeme} →
+      Fit u N q qs k h s ts → Fit u N None (plain q ∷ qs) k (held.enter h) (enter s) ts
   entered f = record {
     names = f.names;
     agree = λ differ. let it = f.agree differ in record {
-      scopes = ((refl, λ m n. tt), it.scopes);
+      scopes = (((refl, λ m n. tt), tt), it.scopes);
       kept = it.kept;
       things = it.things;
       firsts = it.firsts;
     };
   }
 
-  pub left : {p q : Option ℕ} {qs : List (Option ℕ)} {k : Option HeldScope} {h : HeldScopes} {s : Names} {ts : List Lexeme} →
-      Fit u N p (q ∷ qs) k h s ts → Fit u N q qs k (held.leave h) (leave s) ts
+  pub left : {p q : Option ℕ} {qs : List Level} {k : Option HeldScope} {h : HeldScopes} {s : Names} {ts : List Lexeme} →
+      Fit u N p (plain q ∷ qs) k h s ts → Fit u N q qs k (held.leave h) (leave s) ts
   left {p = p} {q = q} {qs = qs} {h = h} {s = s} f = record {
     names = f.names;
     agree = λ differ. let it = f.agree differ in record {
-      scopes = outer_fit u N s.declared p q qs h s.scopes it.scopes;
+      scopes = outer_fit u N s.declared (plain p) (plain q) qs h s.scopes it.scopes;
       kept = it.kept;
       things = it.things;
       firsts = it.firsts;
     };
   }
 
-  pub own : {p q : Option ℕ} {qs : List (Option ℕ)} {k : Option HeldScope} {o : Option HeldScopes} {t : Names}
-      {vs : List Lexeme} → Fine u N p (q ∷ qs) k o t vs →
+  pub own : {p q : Option ℕ} {qs : List Level} {k : Option HeldScope} {o : Option HeldScopes} {t : Names}
+      {vs : List Lexeme} → Fine u N p (plain q ∷ qs) k o t vs →
       Fine u N q qs k (behind o (λ inner. Some (held.leave inner))) (leave t) vs
   own f = step f (λ h g. done (left g))

@@ -1,4 +1,5 @@
 mod Words
+mod Growing
 mod Fitting
 mod Changes
 mod Walk

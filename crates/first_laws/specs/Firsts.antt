@@ -51,7 +51,7 @@ NamesDiffer u all =
 -- a unit is well formed of some tokens, scopes of names included, whose different names have different numbers
 pub record IsScoped (it : Source) : Type 0 where
   pub all : List Lexeme
-  pub formed : IsWellFormed all it.items
+  pub formed : IsWellFormed it.spelling.wide all it.items
   pub names : NamesDiffer it.spelling all
 
 -- in such units what has a skeleton was first declared as what has one, where no two declarations are at one place

@@ -9,7 +9,7 @@ use crate::fault::Fault;
 use crate::words::Goal;
 use error_path::{Reaches, show};
 use flow_graph::{FlowGraph, PathProof, is_well_owned, names_elements};
-use lattice_core::{Entry, Lattice, Lattices, Level, Name, Pair, Sign};
+use lattice_core::{Deref, Entry, Lattice, Lattices, Level, Name, Pair, Sign};
 use lattice_solver::Solver;
 use match_summary::{Summaries, summarise};
 use qual_base::{EdgeId, LatticeNo, Numbered};
@@ -32,7 +32,7 @@ fn entry(alloc: Global, letter: u8) -> Result<Entry, Fault> {
         level: Level::Value,
         sign: Sign::Eq,
         write: false,
-        deref: false,
+        deref: Deref::No,
     })
 }
 

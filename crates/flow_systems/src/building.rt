@@ -5,7 +5,7 @@ ghost use Rattle.flow_graph.specs.System.{IsWithin};
 
 use crate::case::{Case, Row, Shape};
 use flow_graph::{Constraint, FlowGraph, Link, Site};
-use lattice_core::{Entry, Lattice, Lattices, Level, Name, Pair, Sign};
+use lattice_core::{Deref, Entry, Lattice, Lattices, Level, Name, Pair, Sign};
 use qual_base::{Elem, FuncId, LatticeNo, Numbered, Owner, SiteId, Span, TokenId, UnitNo, VarId};
 use std::alloc::{AllocError, Global};
 use std::process::Abort;
@@ -119,7 +119,7 @@ fn lattice_of(rt: &impl Abort, alloc: Global, shape: &Shape) -> Result<Lattice, 
             level: Level::Value,
             sign: Sign::Eq,
             write: false,
-            deref: false,
+            deref: Deref::No,
         })?;
     }
     let mut pairs = Vec::new(alloc);

@@ -1,78 +1,28 @@
-//! Names, each found at once by its place.
+//! Names, with what is one thing in several units.
 
-ghost use Rattle.std.specs.Prelude.{◌≡◌, ℕ, IfOk, map, option_map};
+ghost use Rattle.std.specs.Prelude.{◌≡◌, ℕ, IfOk, map, option_map, slice_get};
 ghost use Rattle.type_table.specs.Types.{CType};
-ghost use Rattle.name_rules.specs.Spellings.{Place};
 ghost use Rattle.name_rules.specs.Scopes.{declared_at, body_of};
 ghost use Rattle.name_rules.specs.Uses.{use_at, type_named_at};
 ghost use Rattle.name_rules.specs.Values.{member_in};
 ghost use Rattle.name_rules.specs.Linking.{link_of, body_faults};
-ghost use Rattle.place_map.specs.Firsts.{item_of, AreFirst};
-ghost use Rattle.place_map.specs.Values.{value_at};
-ghost use Rattle.unit_names.specs.Shown.{names_of, use_of, declared_of, known_of, fault_of};
-ghost use Rattle.found_names.specs.First.{use_place, use_or_missing, first_in, type_entry};
+ghost use Rattle.name_rules.specs.Values as rules;
+ghost use Rattle.unit_names.specs.Shown as shown;
+ghost use Rattle.unit_names.specs.Shown.{names_of, use_of, declared_of, own_of, known_of, aggregate_of, fault_of};
 
-use crate::member_map::{MemberMap, all_members};
 use name_links::{body_faults, link, links};
-use name_records::{Declared, Fault, Known, NameUse, TypeNamed, Use};
+use name_records::{Aggregate, Body, Declared, Fault, Known, Own, Use};
 use name_scopes::Place;
-use place_map::{PlaceIndex, PlaceMap};
+use place_map::PlaceMap;
 use qual_base::{NameId, NoMemory, StructId, TypeId};
 use std::alloc::Global;
 use std::marker::Model;
 use unit_names::Names;
 
-/// The number of the first use at each place. Linear in the uses, but for growth.
-#[tactic(auto, using(crate::proofs::Adding::numbers_on, crate::proofs::Adding::all_numbered))]
-fn first_uses(alloc: Global, uses: &[NameUse]) -> Result<PlaceIndex, NoMemory>
-    ensures { IfOk result (AreFirst use_place uses.now) }
-{
-    let mut found = PlaceIndex::new(alloc);
-    let mut number = 0u32;
-    for it in uses {
-        found.add(&it.at, number)?;
-        number = match number.checked_add(1) {
-            Some(next) => next,
-            None => return Err(NoMemory),
-        };
-    }
-    Ok(found)
-}
-
-/// The first type's name at each place. Linear in them, but for growth.
-fn first_types(alloc: Global, types: &[TypeNamed]) -> Result<PlaceMap<TypeId>, NoMemory>
-    ensures { IfOk result
-        (λ found. (p : Place) → value_at found p ≡ first_in type_entry types.now p) }
-{
-    let mut found = PlaceMap::new(alloc);
-    for it in types {
-        found.add(&it.at, &it.ty)?;
-    }
-    Ok(found)
-}
-
-/// What the use of a number stands for. Constant time.
-fn use_by(uses: &[NameUse], number: Option<u32>) -> Use
-    ensures { use_of result ≡ use_or_missing (item_of uses.now number) }
-{
-    match number {
-        Some(number) => match uses.get(number as usize) {
-            Some(it) => it.use_of,
-            None => Use::Missing,
-        },
-        None => Use::Missing,
-    }
-}
-
-/// The names of units, each found at once by its place. Clauses see the names. Memory is linear in them and in the tokens.
+/// The names of units, with what is one thing in several of them. Clauses see the names. Memory is linear in them.
 #[derive(Drop)]
 pub struct FoundNames {
     names: Names,
-    /// The number of the first use at each place.
-    uses: PlaceIndex,
-    /// The first type's name at each place.
-    types: PlaceMap<TypeId>,
-    members: MemberMap,
     /// Where what is one thing in several units was first declared.
     links: PlaceMap<Place>,
 }
@@ -89,21 +39,12 @@ impl Model for FoundNames {
 }
 
 impl FoundNames {
-    /// Finds names by their places. Linear in them, but for growth.
+    /// Finds what is one thing in several units. Linear in the names, but for growth.
     pub fn new(alloc: Global, names: Names) -> Result<Self, NoMemory>
         ensures { IfOk result (λ it. it ≡ names) }
     {
-        let uses = first_uses(alloc, names.uses())?;
-        let types = first_types(alloc, names.type_names())?;
-        let members = all_members(alloc, names.aggregates())?;
         let links = links(alloc, &names)?;
-        Ok(FoundNames {
-            names,
-            uses,
-            types,
-            members,
-            links,
-        })
+        Ok(FoundNames { names, links })
     }
 
     /// The names.
@@ -117,7 +58,7 @@ impl FoundNames {
     pub fn use_at(&self, at: &Place) -> Use
         ensures { (t : ℕ → CType) → use_of result ≡ use_at (names_of t self.now).uses at.now }
     {
-        use_by(self.names.uses(), self.uses.get(at))
+        self.names.use_at(at)
     }
 
     /// The type whose name begins at a place. Constant time.
@@ -125,7 +66,7 @@ impl FoundNames {
         ensures { (t : ℕ → CType) → option_map t result
             ≡ type_named_at (names_of t self.now).type_names at.now }
     {
-        self.types.get(at)
+        self.names.type_at(at)
     }
 
     /// The first declaration at a place. Constant time.
@@ -156,6 +97,47 @@ impl FoundNames {
         ensures { (t : ℕ → CType) → option_map (known_of t) result
             ≡ member_in (body_of (names_of t self.now).aggregates number) name }
     {
-        self.members.get(number, name)
+        self.names.member_at(number, name)
+    }
+
+    /// A struct, union or enum by its number. Constant time.
+    pub fn aggregate(&self, number: StructId) -> Option<&Aggregate>
+        ensures { (t : ℕ → CType) → option_map (λ it. aggregate_of t it.now) result
+            ≡ slice_get (names_of t self.now).aggregates number }
+    {
+        self.names.aggregate(number)
+    }
+
+    /// The members of a struct, where it has a body. Constant time.
+    pub fn body(&self, number: StructId) -> Option<&Body>
+        ensures { (t : ℕ → CType) → option_map (λ it. shown.body_of t it.now) result
+            ≡ body_of (names_of t self.now).aggregates number }
+    {
+        self.names.body(number)
+    }
+
+    /// Whether a struct, union or enum is a union. Constant time.
+    pub fn is_union(&self, number: StructId) -> bool
+        ensures { (t : ℕ → CType) → result
+            ≡ rules.is_union_at (slice_get (names_of t self.now).aggregates number) }
+    {
+        self.names.is_union(number)
+    }
+
+    /// The own member of a struct with a number. Constant time.
+    pub fn own_at(&self, number: StructId, own: usize) -> Option<Own>
+        ensures { (t : ℕ → CType) → option_map (own_of t) result
+            ≡ slice_get (rules.own_of (names_of t self.now).aggregates number) own }
+    {
+        self.names.own_at(number, own)
+    }
+
+    /// The own member of a struct that an item without designators initialises, by the number of the next one. Constant time.
+    pub fn next_own(&self, number: StructId, next: usize) -> Option<Own>
+        ensures { (t : ℕ → CType) → option_map (own_of t) result
+            ≡ slice_get (rules.own_of (names_of t self.now).aggregates number)
+            (rules.own_number (names_of t self.now).aggregates number next) }
+    {
+        self.names.next_own(number, next)
     }
 }

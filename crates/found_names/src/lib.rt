@@ -2,7 +2,5 @@
 #![tactic(auto)]
 
 mod found;
-mod member_map;
-mod members;
 
 pub use found::FoundNames;

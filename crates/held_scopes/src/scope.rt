@@ -1,7 +1,7 @@
 //! One scope: the names that it declares, and the name that it holds.
 
 ghost use Rattle.std.specs.Prelude.{◌≡◌, drop, reverse, None, OnOk, OnErr};
-ghost use Rattle.c_units.specs.HeldScopes.{no_scope};
+ghost use Rattle.c_units.specs.HeldScopes.{new_scope};
 ghost use Rattle.held_scopes.specs.Changed.{bound, holding};
 
 use qual_base::{NameId, NoMemory};
@@ -17,6 +17,7 @@ use typedef_scope::Kind;
 pub struct Closed {
     names: Vec<(NameId, Kind)>,
     held: Option<NameId>,
+    wide: bool,
 }
 
 impl Model for Closed {
@@ -25,17 +26,22 @@ impl Model for Closed {
 
     ghost Value = { HeldScope };
 
-    ghost view = { λ s. record { names = reverse s.names.items; held = s.held } };
+    ghost view = { λ s. record {
+      names = reverse s.names.items;
+      held = s.held;
+      wide = s.wide;
+    } };
 }
 
 impl Closed {
-    /// A scope without names. Takes no memory.
-    pub(crate) fn new(alloc: Global) -> Self
-        ensures { result ≡ no_scope }
+    /// A scope without names, of a unit that is read as wider C or not. Takes no memory.
+    pub(crate) fn new(alloc: Global, wide: bool) -> Self
+        ensures { result ≡ new_scope wide }
     {
         Closed {
             names: Vec::new(alloc),
             held: None,
+            wide,
         }
     }
 
@@ -44,6 +50,13 @@ impl Closed {
         ensures { reverse result.now ≡ self.now.names }
     {
         self.names.as_slice()
+    }
+
+    /// Whether its unit is read as wider C.
+    pub(crate) fn is_wide(&self) -> bool
+        ensures { result ≡ self.now.wide }
+    {
+        self.wide
     }
 
     /// The name that the scope holds.

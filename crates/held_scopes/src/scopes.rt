@@ -64,16 +64,26 @@ fn bind_in(
 }
 
 impl Scopes {
-    /// One open scope, without names.
-    pub fn new(alloc: Global) -> Result<Self, NoMemory>
-        ensures { IfOk result (λ s. s ≡ held.file_scope) }
+    /// One open scope, without names, of a unit that is read as wider C or not.
+    pub fn new(alloc: Global, wide: bool) -> Result<Self, NoMemory>
+        ensures { IfOk result (λ s. s ≡ held.file_scope wide) }
     {
         let mut scopes = Scopes {
             open: Vec::new(alloc),
             names: NameScopes::new(alloc),
         };
-        scopes.enter()?;
+        scopes.reopen(Closed::new(alloc, wide))?;
         Ok(scopes)
+    }
+
+    /// Whether the unit is read as wider C. Takes no memory, and constant time.
+    pub fn is_wide(&self) -> bool
+        ensures { result ≡ held.is_wide self.now }
+    {
+        match self.open.last() {
+            Some(scope) => scope.is_wide(),
+            None => false,
+        }
     }
 
     /// Opens a scope without names inside the innermost. For want of memory the scopes stay as
@@ -83,7 +93,8 @@ impl Scopes {
         ensures err { OnErr result (self.new ≡ self.old) }
     {
         let alloc = *self.open.allocator();
-        self.reopen(Closed::new(alloc))
+        let wide = self.is_wide();
+        self.reopen(Closed::new(alloc, wide))
     }
 
     /// Opens a scope that was closed, inside the innermost. For want of memory the scopes stay as
@@ -121,7 +132,7 @@ impl Scopes {
                 self.names.leave();
                 scope
             }
-            None => Closed::new(*self.open.allocator()),
+            None => Closed::new(*self.open.allocator(), false),
         }
     }
 
@@ -157,7 +168,7 @@ impl Scopes {
                 Ok(())
             }
             None => {
-                let mut scope = Closed::new(*self.open.allocator());
+                let mut scope = Closed::new(*self.open.allocator(), false);
                 scope.hold(name);
                 self.reopen(scope)
             }
@@ -194,7 +205,7 @@ impl Scopes {
                 Ok(())
             }
             None => {
-                let mut scope = Closed::new(*self.open.allocator());
+                let mut scope = Closed::new(*self.open.allocator(), false);
                 scope.push(name, kind)?;
                 self.reopen(scope)
             }

@@ -62,7 +62,7 @@ fn take(walk: &mut Walk, step: Step) -> Result<bool, NoMemory> {
 
 /// The number of the first step whose answer is another than the one that is awaited.
 fn first_unmet(alloc: Global, steps: &[Step]) -> Result<Option<usize>, NoMemory> {
-    let scopes = Scopes::new(alloc)?;
+    let scopes = Scopes::new(alloc, false)?;
     let closed = Vec::new(alloc);
     let mut walk = Walk { scopes, closed };
     for (n, step) in steps.iter().enumerate() {
@@ -251,7 +251,7 @@ fn others(scopes: &Scopes) -> u32 {
 
 #[test]
 fn many_names_and_scopes_are_told_apart(rt: HostRuntime) -> Result<(), Fail> {
-    let mut scopes = Scopes::new(rt.alloc())?;
+    let mut scopes = Scopes::new(rt.alloc(), false)?;
     for n in 0..3000 {
         let _new = scopes.declare(NameId::new(n), kind_at(n))?;
     }

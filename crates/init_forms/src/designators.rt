@@ -1,5 +1,6 @@
 //! Designators (C99, 6.7.8).
 
+ghost use Rattle.std.specs.Prelude.{◌≡◌, IfOk};
 ghost use Rattle.c_reading.specs.Expressing.{begins_desig};
 ghost use Rattle.c_reading.specs.Initialising.{member_desig_with, index_desig_with, desig_with};
 ghost use Rattle.c_reading.specs.Initialising.{equal_behind};
@@ -7,18 +8,23 @@ ghost use Rattle.c_reading.specs.Knot.{knot};
 ghost use Rattle.c_reading.specs.Reading.{repeated, repeated_turn};
 ghost use Rattle.c_tree.specs.Lists.{desigs_from};
 ghost use Rattle.init_forms.specs.Seen.{ReadsDesig, ReadsDesigs, desig_trees};
+ghost use Rattle.c_nodes.specs.Sized.{expr};
+ghost use Rattle.c_reading.specs.Initialising as inits;
+ghost use Rattle.c_tree.specs.Tree.{more_desigs, no_desigs, old_desig};
 ghost use Rattle.reader_base.specs.Gives.{Takes};
 ghost use Rattle.reader_base.specs.Lent.{Lends};
 ghost use Rattle.reader_base.specs.Looping.{IsLoop, Turns};
 
-use c_nodes::{SizedDesig, SizedDesigs};
+use c_nodes::{SizedDesig, SizedDesigs, SizedExpr};
 use c_reading::{Reach, turns_take_tokens};
-use decl_nodes::{index_desig, member_desig};
-use qual_base::TokenId;
+use c_syntax::Identifier;
+use decl_nodes::{index_desig, member_desig, old_desig, range_desig};
+use qual_base::{NoMemory, TokenId};
 use reader_base::{
     Answer, Ask, Begun, Place, ReadError, begins_desig, close_bracket, equal, expr_inside, is_dot,
-    kind_at, name, room_for, take_one,
+    is_dots, kind_at, name, room_for, take_one,
 };
+use std::alloc::Global;
 
 /// `Desig = . Name`, at the dot.
 #[tactic(auto, unfolding(c_reading::specs::Initialising::member_desig_with, c_reading::specs::Reading::fits, c_reading::specs::Reading::and_then))]
@@ -29,6 +35,59 @@ fn member(room: u16, place: &mut Place, depth: u32) -> Result<SizedDesig, ReadEr
     let dot = take_one(place)?;
     let name = name(place)?;
     Ok(member_desig(dot, name))
+}
+
+/// `... cond ]`, behind the first value of a range.
+#[tactic(auto, unfolding(c_reading::specs::Initialising::range_behind, c_reading::specs::Reading::and_then))]
+fn range_behind<'a, F>(
+    lent: &F,
+    opening: TokenId,
+    first: SizedExpr,
+    room: u16,
+    place: &mut Place<'a>,
+    depth: u32,
+) -> Result<SizedDesig, ReadError>
+where
+    F: Fn(Ask, &mut Place<'a>) -> Result<Answer, ReadError>,
+    requires { Lends F.Fn lent.now depth }
+    ensures { ReadsDesig place.old place.new result
+        (inits.range_behind (knot depth) opening (expr first) room) }
+{
+    let dots = take_one(place)?;
+    let inside = room.saturating_sub(2);
+    let last = expr_inside(
+        lent,
+        Reach::Conditional,
+        Begun::Nothing,
+        inside,
+        place,
+        depth,
+    )?;
+    let closing = close_bracket(place)?;
+    Ok(range_desig(opening, first, dots, last, closing))
+}
+
+/// `Desig = [ cond ]`, in wider C `[ cond ... cond ]` too, behind the first value.
+#[tactic(auto, unfolding(c_reading::specs::Initialising::index_behind, c_reading::specs::Reading::and_then))]
+fn index_behind<'a, F>(
+    lent: &F,
+    opening: TokenId,
+    first: SizedExpr,
+    room: u16,
+    place: &mut Place<'a>,
+    depth: u32,
+) -> Result<SizedDesig, ReadError>
+where
+    F: Fn(Ask, &mut Place<'a>) -> Result<Answer, ReadError>,
+    requires { Lends F.Fn lent.now depth }
+    ensures { ReadsDesig place.old place.new result
+        (inits.index_behind (knot depth) opening (expr first) room) }
+{
+    if place.scopes.is_wide() && is_dots(kind_at(place.rest)) {
+        return range_behind(lent, opening, first, room, place, depth);
+    }
+    let closing = close_bracket(place)?;
+    Ok(index_desig(opening, first, closing))
 }
 
 /// `Desig = [ cond ]`, at the bracket.
@@ -55,8 +114,7 @@ where
         place,
         depth,
     )?;
-    let closing = close_bracket(place)?;
-    Ok(index_desig(opening, index, closing))
+    index_behind(lent, opening, index, room, place, depth)
 }
 
 /// A designator.
@@ -144,4 +202,18 @@ pub(crate) fn equal_behind(
             Ok(Some(equal))
         }
     }
+}
+
+/// `OldDesig = Name :`, as designators that stand alone.
+pub(crate) fn old_desigs(
+    alloc: Global,
+    name: Identifier,
+    colon: TokenId,
+) -> Result<SizedDesigs, NoMemory>
+    ensures { IfOk result (λ ds. desigs_from ds.items.items
+        ≡ more_desigs (old_desig name colon) no_desigs) }
+{
+    let mut known = SizedDesigs::new(alloc);
+    known.push(old_desig(name, colon))?;
+    Ok(known)
 }

@@ -7,17 +7,18 @@ ghost use Rattle.c_reading.specs.Knot.{knot};
 ghost use Rattle.c_reading.specs.Reading.{comma_turn, run};
 ghost use Rattle.init_forms.specs.Seen.{ReadsItem};
 ghost use Rattle.init_forms.specs.Listed.{ReadsListing, listing, only};
+ghost use Rattle.c_reading.specs.Initialising as inits;
 ghost use Rattle.reader_base.specs.Lent.{Lends, ReadsInitList};
 ghost use Rattle.reader_base.specs.Looping.{IsLoop, Turns};
 
-use crate::designators::{desigs, equal_behind};
+use crate::designators::{desigs, equal_behind, old_desigs};
 use crate::values::init_here;
 use c_nodes::{SizedInitItem, SizedInitItems, SizedInitList};
 use c_reading::{Fault, turns_take_tokens};
-use qual_base::{NoMemory, TokenId};
+use qual_base::{NameId, NoMemory, TokenId};
 use reader_base::{
-    Answer, Ask, Place, ReadError, close_brace, is_close_brace, is_comma, is_open_brace, kind_at,
-    refused, room_for, take_one,
+    Answer, Ask, Place, ReadError, behind_first, close_brace, colon, is_close_brace, is_colon,
+    is_comma, is_open_brace, kind_at, name, refused, room_for, spelled_name, take_one,
 };
 use std::alloc::Global;
 
@@ -29,7 +30,72 @@ pub struct Listing {
 }
 
 /// `InitItem = [Desig+ =] init`.
-#[tactic(auto, unfolding(c_reading::specs::Initialising::init_item_with, c_reading::specs::Reading::and_then), using(crate::proofs::Pushed::desigs_are))]
+#[tactic(auto, unfolding(c_reading::specs::Initialising::plain_item, c_reading::specs::Reading::and_then), using(crate::proofs::Pushed::desigs_are))]
+fn plain_item<'a, F>(
+    lent: &F,
+    room: u16,
+    place: &mut Place<'a>,
+    depth: u32,
+) -> Result<SizedInitItem, ReadError>
+where
+    F: Fn(Ask, &mut Place<'a>) -> Result<Answer, ReadError>,
+    requires { Lends F.Fn lent.now depth }
+    ensures { ReadsItem place.old place.new result (inits.plain_item (knot depth) room) }
+{
+    let desigs = desigs(lent, room, place, depth)?;
+    let equal = equal_behind(&desigs, place)?;
+    let init = init_here(lent, room, place, depth)?;
+    Ok(decl_nodes::init_item(desigs, equal, init))
+}
+
+/// `InitItem = OldDesig init`, at the name.
+#[tactic(auto, unfolding(c_reading::specs::Initialising::old_item, c_reading::specs::Reading::and_then))]
+fn old_item<'a, F>(
+    lent: &F,
+    room: u16,
+    place: &mut Place<'a>,
+    depth: u32,
+) -> Result<SizedInitItem, ReadError>
+where
+    F: Fn(Ask, &mut Place<'a>) -> Result<Answer, ReadError>,
+    requires { Lends F.Fn lent.now depth }
+    ensures { ReadsItem place.old place.new result (inits.old_item (knot depth) room) }
+{
+    let name = name(place)?;
+    let colon = colon(place)?;
+    let desigs = old_desigs(place.alloc, name, colon)?;
+    let init = init_here(lent, room, place, depth)?;
+    Ok(decl_nodes::init_item(desigs, None, init))
+}
+
+/// An item that begins with a name, in wider C, by the token behind the name: a typedef name that is no designator is refused
+/// there.
+#[tactic(auto, unfolding(c_reading::specs::Initialising::named_init_item, c_reading::specs::Reading::fits))]
+fn named_item<'a, F>(
+    lent: &F,
+    name: NameId,
+    room: u16,
+    place: &mut Place<'a>,
+    depth: u32,
+) -> Result<SizedInitItem, ReadError>
+where
+    F: Fn(Ask, &mut Place<'a>) -> Result<Answer, ReadError>,
+    requires { Lends F.Fn lent.now depth }
+    ensures { ReadsItem place.old place.new result
+        (inits.named_init_item (knot depth) name room) }
+{
+    room_for(2, room, place)?;
+    if is_colon(kind_at(behind_first(place.rest))) {
+        return old_item(lent, room, place, depth);
+    }
+    if place.scopes.names_type(name) {
+        return Err(refused(Fault::Unexpected, behind_first(place.rest)));
+    }
+    plain_item(lent, room, place, depth)
+}
+
+/// `InitItem = [Desig+ =] init | OldDesig init`.
+#[tactic(auto, unfolding(c_reading::specs::Initialising::init_item_with))]
 fn item<'a, F>(
     lent: &F,
     room: u16,
@@ -41,10 +107,10 @@ where
     requires { Lends F.Fn lent.now depth }
     ensures { ReadsItem place.old place.new result (init_item_with (knot depth) room) }
 {
-    let desigs = desigs(lent, room, place, depth)?;
-    let equal = equal_behind(&desigs, place)?;
-    let init = init_here(lent, room, place, depth)?;
-    Ok(decl_nodes::init_item(desigs, equal, init))
+    match spelled_name(kind_at(place.rest)) {
+        Some(name) if place.scopes.is_wide() => named_item(lent, name, room, place, depth),
+        _ => plain_item(lent, room, place, depth),
+    }
 }
 
 /// Each turn over items takes a token.

@@ -17,6 +17,10 @@ pub record Covers (n : ℕ) (tape : List Op) (text k : List Lexeme) : Type 0 whe
 pub record CoversBoth (n : ℕ) (tape other : List Op) (text k : List Lexeme) : Type 0 where
   pub both : counted n tape + counted n other + numbered n k ≤ numbered n text
 
+-- the same of a tape in which another one stands, whose tokens are not in the text
+pub record CoversBut (n : ℕ) (other tape : List Op) (text k : List Lexeme) : Type 0 where
+  pub most : counted n tape + numbered n k ≤ numbered n text + counted n other
+
 -- no op has the number as its key
 pub record IsMute (n : ℕ) (tape : List Op) : Type 0 where
   pub none : counted n tape ≡ 0
@@ -141,3 +145,35 @@ module _ {n : ℕ} where
     most = (let e = counted_append n (xs ++ ms) us in let f = counted_append n xs ms in
         let a = p.both in let b = q.none in omega (arith, e, f, a, b));
   }
+
+  -- the ops of another tape stand on none of the tokens
+
+  pub reached : (os : List Op) {xs : List Op} {t k : List Lexeme} → Covers n xs t k → CoversBut n os (xs ++ os) t k
+  reached os {xs} p = record { most = (let e = counted_append n xs os in let a = p.most in omega (arith, e, a)) }
+
+  pub unreached : {os xs : List Op} {t k : List Lexeme} → Covers n xs t k → CoversBut n os xs t k
+  unreached p = record { most = (let a = p.most in omega (arith, a)) }
+
+  pub but_mute : {os xs ys : List Op} {t k : List Lexeme} → CoversBut n os xs t k → IsMute n ys → CoversBut n os (xs ++ ys) t k
+  but_mute {xs = xs} {ys = ys} p q =
+      record { most = (let e = counted_append n xs ys in let a = p.most in let b = q.none in omega (arith, e, a, b)) }
+
+  pub but_then : {os xs ys : List Op} {t m k : List Lexeme} → CoversBut n os xs t m → Covers n ys m k →
+      CoversBut n os (xs ++ ys) t k
+  but_then {xs = xs} {ys = ys} p q =
+      record { most = (let e = counted_append n xs ys in let a = p.most in let b = q.most in omega (arith, e, a, b)) }
+
+  pub then_but : {os xs ys : List Op} {t m k : List Lexeme} → Covers n xs t m → CoversBut n os ys m k →
+      CoversBut n os (xs ++ ys) t k
+  then_but {xs = xs} {ys = ys} p q =
+      record { most = (let e = counted_append n xs ys in let a = p.most in let b = q.most in omega (arith, e, a, b)) }
+
+  pub but_past : {os xs : List Op} {t m k : List Lexeme} → CoversBut n os xs t m → Covers n [] m k → CoversBut n os xs t k
+  but_past p q = record { most = (let a = p.most in let b = q.most in omega (arith, a, b)) }
+
+  pub but_before : {os xs : List Op} {t m k : List Lexeme} → Covers n [] t m → CoversBut n os xs m k → CoversBut n os xs t k
+  but_before p q = record { most = (let a = p.most in let b = q.most in omega (arith, a, b)) }
+
+  -- that tape stands behind
+  pub paid : {os xs : List Op} {t m k : List Lexeme} → CoversBut n os xs t m → Covers n os m k → Covers n xs t k
+  paid p q = record { most = (let a = p.most in let b = q.most in omega (arith, a, b)) }

@@ -2,6 +2,7 @@
 use Rattle.std.proofs.Common.{Bool, true, false, List, [], ◌∷◌, ℕ, Option, None, Some, refl}
 use Rattle.std.specs.Prelude.{if◌then◌else◌}
 use Rattle.c_words.specs.declared.kinds.Punct.{Punct}
+use Rattle.c_words.specs.declared.kinds.Punct.TheVariants as signs
 use Rattle.c_syntax.specs.declared.parts.Identifier.{Identifier}
 use Rattle.c_syntax.specs.declared.parts.Word.{Word}
 use Rattle.c_syntax.specs.declared.parts.Group.{Group}
@@ -18,10 +19,10 @@ use Rattle.tape_ops.specs.declared.op.Op.{Op}
 use Rattle.tape_ops.specs.declared.specifier.SpecOp.TheVariants as specs
 use Rattle.tape_ops.specs.declared.specifier.TagKind.{TagKind}
 use Rattle.c_tree.specs.declared.lexeme.Lexeme.{Lexeme}
-use Rattle.c_tree.specs.Tree.{Exprs, no_exprs, more_exprs, Declr, pointer, declr_name, declr_paren, array, params, abs_pointer, abs_paren, abs_array, abs_params, SomeDeclr, no_declr, some_declr, Init, init_value, init_braced, InitList, init_list, InitItems, no_init_items, more_init_items, Desigs, no_desigs, more_desigs, Desig, member_desig, index_desig, Dots}
-use Rattle.c_tree.specs.Text.{some_sign_text, tag_text, words_text, extensions_text, texts_text, group_text, tokens_between, attr_text, attrs_text, label_text, assert_text, qual_text, quals_text, pointer_words_text, array_words_text, dots_text}
-use Rattle.c_tape.specs.Tape.{quals_tape, pointer_word_tape, pointer_words_tape, array_word_tape, array_words_tape, dots_tape, pieces, some_pieces, desig_tape, desigs_tape, rule, rule_of_list, rule_of_items, arguments, tag_tape, body_tape, quietly, in_scope, specs_with, type_name_with, params_with, spec}
-use Rattle.key_laws.proofs.Counts.{Covers, CoversBoth, first_of, IsMute, empty, mute, mutes, join, skip, skips, then_mute, mute_then, text_only}
+use Rattle.c_tree.specs.Tree.{Expr, identifiers, base_name, range_desig, old_desig, Exprs, no_exprs, more_exprs, Declr, pointer, declr_name, declr_paren, array, params, abs_pointer, abs_paren, abs_array, abs_params, SomeDeclr, no_declr, some_declr, Init, init_value, init_braced, InitList, init_list, InitItems, no_init_items, more_init_items, Desigs, no_desigs, more_desigs, Desig, member_desig, index_desig, Dots}
+use Rattle.c_tree.specs.Text.{other_names_text, names_text, some_sign_text, tag_text, words_text, extensions_text, texts_text, group_text, tokens_between, attr_text, attrs_text, label_text, assert_text, qual_text, quals_text, pointer_words_text, array_words_text, dots_text}
+use Rattle.c_tape.specs.Tape.{identifiers_tape, prefix_tape, quals_tape, pointer_word_tape, pointer_words_tape, array_word_tape, array_words_tape, dots_tape, pieces, some_pieces, desig_tape, desigs_tape, rule, rule_of_list, rule_of_items, arguments, tag_tape, body_tape, quietly, in_scope, specs_with, type_name_with, params_with, spec}
+use Rattle.key_laws.proofs.Counts.{Covers, CoversBoth, keyed, own, first_of, IsMute, empty, mute, mutes, join, skip, skips, then_mute, mute_then, text_only}
 
 module _ {n : ℕ} where
   -- ops without keys
@@ -61,6 +62,8 @@ module _ {n : ℕ} where
     pieces_mute (abs_paren opening attrs d closing) = pieces_mute d
     pieces_mute (abs_array d opening words size closing) = mutes (mutes (array_words_mute words) (mute refl)) (some_pieces_mute d)
     pieces_mute (abs_params d opening ps dots closing) = mutes (mutes (dots_mute dots) (mute refl)) (some_pieces_mute d)
+    pieces_mute (identifiers d opening names closing) = mutes (mute refl) (pieces_mute d)
+    pieces_mute (base_name token) = empty
 
     some_pieces_mute : (d : SomeDeclr) → IsMute n (some_pieces d)
     some_pieces_mute no_declr = empty
@@ -69,6 +72,8 @@ module _ {n : ℕ} where
   desig_mute : (d : Desig) → IsMute n (desig_tape d)
   desig_mute (member_desig before name) = mute refl
   desig_mute (index_desig opening e closing) = mute refl
+  desig_mute (range_desig opening e dots e2 closing) = mute refl
+  desig_mute (old_desig name colon) = mute refl
 
   desigs_mute : (ds : Desigs) → IsMute n (desigs_tape ds)
   desigs_mute no_desigs = empty
@@ -103,7 +108,17 @@ module _ {n : ℕ} where
   void_mute true = mute refl
   void_mute false = empty
 
+  pub identifiers_mute : (names : List Identifier) → IsMute n (identifiers_tape names)
+  identifiers_mute [] = empty
+  identifiers_mute (name ∷ names) = mutes (mute refl) (identifiers_mute names)
+
   -- what stands round other nodes
+
+  -- an operator before its operand, from what covers the tape of the operand only addressed and that of it taken
+  pub prefix_covers : (p : Punct) (e : Expr) (aims : Bool) {it : Lexeme} {addressed taken : List Op} {t k : List Lexeme} →
+      Covers n addressed t k → Covers n taken t k → Covers n (prefix_tape it.at p e aims addressed taken) (it ∷ t) k
+  prefix_covers signs.Ampersand e aims p q = keyed p (own refl)
+  prefix_covers sign e aims p q = keyed q (own refl)
 
   pub quiet_covers : {tape : List Op} {t k : List Lexeme} → Covers n tape t k → Covers n (quietly tape) t k
   quiet_covers p = then_mute (mute_then (mute refl) p) (mute refl)
@@ -136,6 +151,16 @@ module _ {n : ℕ} where
   pub tag_skip : (tag : Option Identifier) {xs : List Op} {t k : List Lexeme} → Covers n xs t k → Covers n xs (tag_text tag t) k
   tag_skip None h = h
   tag_skip (Some tag) h = skip h
+
+  other_names_skip : (names : List Identifier) {xs : List Op} {t k : List Lexeme} → Covers n xs t k →
+      Covers n xs (other_names_text names t) k
+  other_names_skip [] h = h
+  other_names_skip (name ∷ names) h = skip (skip (other_names_skip names h))
+
+  pub names_skip : (names : List Identifier) {xs : List Op} {t k : List Lexeme} → Covers n xs t k →
+      Covers n xs (names_text names t) k
+  names_skip [] h = h
+  names_skip (name ∷ names) h = skip (other_names_skip names h)
 
   pub words_skip : (words : List Word) {xs : List Op} {t k : List Lexeme} → Covers n xs t k → Covers n xs (words_text words t) k
   words_skip [] h = h

@@ -26,13 +26,14 @@ expr_key (exprs.Comma token) = None
 expr_key (exprs.Assign sign token first last) = None
 expr_key (exprs.Cond has_middle token first last) = Some token
 expr_key (exprs.Binary sign token first last) = Some token
-expr_key (exprs.Prefix sign token last) = Some token
+expr_key (exprs.Prefix sign token last aims) = Some token
 expr_key (exprs.Post sign token first) = None
-expr_key (exprs.Index token first last) = None
+expr_key (exprs.Index token first last aims) = None
 expr_key (exprs.Arg behind first last) = None
 expr_key (exprs.Call token count) = None
-expr_key (exprs.Arrow token first last) = None
+expr_key (exprs.Arrow token first last aims) = None
 expr_key (exprs.Dot token member name) = None
+expr_key (exprs.Label token) = Some token
 
 abbrev pub form_key : FormOp → Option ℕ
 form_key (forms.Cast token last) = Some token
@@ -44,6 +45,11 @@ form_key (forms.VaCopy token last) = Some token
 form_key (forms.OffsetMember token name) = None
 form_key (forms.OffsetIndex token) = None
 form_key (forms.Offset token) = Some token
+form_key (forms.Compat token) = Some token
+form_key forms.Control = None
+form_key forms.NoType = None
+form_key (forms.Choose token) = Some token
+form_key (forms.Generic token count) = Some token
 
 abbrev pub init_key : InitOp → Option ℕ
 init_key (inits.Value first last) = None
@@ -79,6 +85,9 @@ spec_key (specs.Untagged kind token) = None
 spec_key specs.BodyEnd = None
 spec_key (specs.Enumerator token name) = Some token
 spec_key (specs.UnnamedMember token) = Some token
+spec_key specs.PartBegin = None
+spec_key (specs.TypeofEnd token) = None
+spec_key specs.TypeEnd = None
 spec_key specs.SpecsEnd = None
 
 abbrev pub declr_key : DeclrOp → Option ℕ
@@ -90,6 +99,10 @@ declr_key declrs.Pointer = None
 declr_key declrs.Array = None
 declr_key (declrs.Function has_ellipsis) = None
 declr_key declrs.Declare = None
+declr_key declrs.AutoBegin = None
+declr_key (declrs.AutoEnd token) = None
+declr_key (declrs.Identifier token name) = None
+declr_key declrs.OldParam = None
 declr_key declrs.Member = None
 declr_key (declrs.TypeName first) = None
 declr_key declrs.DeclarationEnd = None

@@ -21,13 +21,14 @@ expr_token (exprs.Comma token) = Some token
 expr_token (exprs.Assign sign token first last) = Some token
 expr_token (exprs.Cond has_middle token first last) = Some token
 expr_token (exprs.Binary sign token first last) = Some token
-expr_token (exprs.Prefix sign token last) = Some token
+expr_token (exprs.Prefix sign token last aims) = Some token
 expr_token (exprs.Post sign token first) = Some token
-expr_token (exprs.Index token first last) = Some token
+expr_token (exprs.Index token first last aims) = Some token
 expr_token (exprs.Arg behind first last) = None
 expr_token (exprs.Call token count) = Some token
-expr_token (exprs.Arrow token first last) = None
+expr_token (exprs.Arrow token first last aims) = None
 expr_token (exprs.Dot token member name) = Some token
+expr_token (exprs.Label token) = Some token
 
 abbrev pub op_token : Op → Option ℕ
 op_token (ops.Expr op) = expr_token op

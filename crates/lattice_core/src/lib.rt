@@ -97,6 +97,15 @@ impl Flows {
     }
 }
 
+/// Where an element bounds pointers: nowhere, where they are dereferenced, or where what they point at is read or
+/// written.
+#[derive(Clone, Copy, PartialEq, Eq, Debug, Drop)]
+pub enum Deref {
+    No,
+    Yes,
+    Access,
+}
+
 /// An element as it is written.
 #[derive(Drop, Debug)]
 pub struct Entry {
@@ -104,7 +113,7 @@ pub struct Entry {
     pub level: Level,
     pub sign: Sign,
     pub write: bool,
-    pub deref: bool,
+    pub deref: Deref,
 }
 
 /// An order line as it is written: the element named `low` is below the one named `high`.

@@ -1,6 +1,6 @@
 //! What no clause says: that building succeeds with ample memory, and worked cases by hand.
 
-use crate::{Entry, Lattice, LatticeFault, Lattices, Level, Name, Pair, Sign};
+use crate::{Deref, Entry, Lattice, LatticeFault, Lattices, Level, Name, Pair, Sign};
 use qual_base::{Elem, ElemSet, LatticeNo};
 use std::alloc::{AllocError, Global};
 use std::test::Fail;
@@ -22,7 +22,7 @@ fn entries(alloc: Global, names: &str) -> Result<Vec<Entry>, AllocError> {
             level,
             sign: Sign::Eq,
             write: false,
-            deref: false,
+            deref: Deref::No,
         })?;
     }
     Ok(all)
@@ -145,7 +145,7 @@ fn a_chain_of_64_is_closed_from_its_last_line_on(rt: HostRuntime) -> Result<(), 
             level: Level::Value,
             sign: Sign::Pos,
             write: true,
-            deref: false,
+            deref: Deref::No,
         })?;
         if all.len() == 64 {
             break;

@@ -21,7 +21,7 @@ use Rattle.lattice_file.proofs.GapUnique.{gap_one, IsStuck}
 use Rattle.lattice_file.proofs.LexemeUnique.{Takes, InGap, InWord, AtQuote, AtSign, kind_of, Begins, begins, lexeme_stuck, stuck_at, stuck_end, not_gap}
 use Rattle.lattice_file.proofs.StepLeads.{leads}
 use Rattle.lattice_file.proofs.StepSeen.{Seen, AtEnd, Further, sees}
-use Rattle.lattice_file.proofs.StepAble.{IsReady, able, ready, proper}
+use Rattle.lattice_file.proofs.StepAble.{IsReady, able, ready, wide_stays, proper}
 use Rattle.lattice_file.proofs.OneReading.{no_lexeme, step_one}
 
 -- parts of the bytes
@@ -100,34 +100,37 @@ goes_before standing front rest all gap goes = by (sees standing rest all goes)
         leads standing lexeme new front after all e (record { behind = takes.behind; gap = gap_before front rest takes.behind gap takes.gap; spells = takes.spells }) on
 
 -- a reader stands at a place: the texts that begin with what stands before it are those that go on from there
-pub record Stands (bytes : List ℕ) (at : ℕ) (standing : Standing) : Type 0 where
+pub record Stands (wide : Bool) (bytes : List ℕ) (at : ℕ) (standing : Standing) : Type 0 where
   pub within : at ≤ length bytes
   pub ready : IsReady standing
-  pub reads : (tail : List ℕ) (all : List BlockView) → Resembles tail (drop at bytes) → GoesFrom standing tail all → IsLatticeText all (take at bytes ++ tail)
-  pub only : (tail : List ℕ) (all : List BlockView) → Resembles tail (drop at bytes) → IsLatticeText all (take at bytes ++ tail) → GoesFrom standing tail all
+  pub wide_is : standing.given.wide ≡ wide
+  pub reads : (tail : List ℕ) (all : List BlockView) → Resembles tail (drop at bytes) → GoesFrom standing tail all → IsLatticeText wide all (take at bytes ++ tail)
+  pub only : (tail : List ℕ) (all : List BlockView) → Resembles tail (drop at bytes) → IsLatticeText wide all (take at bytes ++ tail) → GoesFrom standing tail all
 
-pub stands_first : (bytes : List ℕ) (standing : Standing) → standing.stage ≡ stages.Outside → standing.draft.blocks ≡ [] → Stands bytes 0 standing
-stands_first bytes standing outside empty = record {
+pub stands_first : (wide : Bool) (bytes : List ℕ) (standing : Standing) → standing.stage ≡ stages.Outside → standing.given.wide ≡ wide → standing.draft.blocks ≡ [] → Stands wide bytes 0 standing
+stands_first wide bytes standing outside wide_is empty = record {
   within = omega arith;
   ready = subst (λ (s : Stage). IsReady (record { stage = s; given = standing.given; draft = standing.draft })) (sym outside) tt;
+  wide_is = wide_is;
   reads = λ tail all _ goes.
       let P : Stage → Type 0 = λ s. Goes s standing.given standing.draft tail all in
       let here : P stages.Outside = subst P outside goes in
       let same : all ≡ here.0 = here.2 ∙ ap (λ (bs : List BlockView). bs ++ here.0) empty in
-      rw same here.1;
+      rw same (subst (λ (w : Bool). IsLatticeText w here.0 tail) wide_is here.1);
   only = λ tail all _ text.
       let P : Stage → Type 0 = λ s. Goes s standing.given standing.draft tail all in
-      subst P (sym outside) (all, text, ap (λ (bs : List BlockView). bs ++ all) (sym empty));
+      subst P (sym outside) (all, subst (λ (w : Bool). IsLatticeText w all tail) (sym wide_is) text, ap (λ (bs : List BlockView). bs ++ all) (sym empty));
 }
 
-pub stands_next : (bytes : List ℕ) (at start end : ℕ) (old new : Standing) → Stands bytes at old → at ≤ start → start < end → end ≤ length bytes → GapGoes bytes at start → LexemeGoes old new bytes start end → Stands bytes end new
-stands_next bytes at start end old new stands le less within gap goes = record {
+pub stands_next : (wide : Bool) (bytes : List ℕ) (at start end : ℕ) (old new : Standing) → Stands wide bytes at old → at ≤ start → start < end → end ≤ length bytes → GapGoes bytes at start → LexemeGoes old new bytes start end → Stands wide bytes end new
+stands_next wide bytes at start end old new stands le less within gap goes = record {
   within = within;
   ready = ready old goes.lexeme new goes.next_is;
+  wide_is = wide_stays old goes.lexeme new goes.next_is ∙ stands.wide_is;
   reads = λ tail all likes on.
-      subst (λ (text : List ℕ). IsLatticeText all text) (whole tail) (stands.reads (front tail) all (alike tail) (leads old goes.lexeme new (front tail) tail all goes.next_is (takes tail likes) on));
+      subst (λ (text : List ℕ). IsLatticeText wide all text) (whole tail) (stands.reads (front tail) all (alike tail) (leads old goes.lexeme new (front tail) tail all goes.next_is (takes tail likes) on));
   only = λ tail all likes text.
-      step_one old goes.lexeme new (front tail) tail all goes.next_is (takes tail likes) (stands.only (front tail) all (alike tail) (subst (λ (text : List ℕ). IsLatticeText all text) (sym (whole tail)) text));
+      step_one old goes.lexeme new (front tail) tail all goes.next_is (takes tail likes) (stands.only (front tail) all (alike tail) (subst (λ (text : List ℕ). IsLatticeText wide all text) (sym (whole tail)) text));
 }
   where
     front : List ℕ → List ℕ
@@ -143,32 +146,32 @@ stands_next bytes at start end old new stands le less within gap goes = record {
     takes tail likes = record { behind = slice_range bytes start end ++ tail; gap = gap (slice_range bytes start end ++ tail) (inl (slice_long bytes tail start end less within)); spells = goes.spells tail likes }
 
 -- where what is read cannot go on
-bad_at : (bytes : List ℕ) (at place : ℕ) (standing : Standing) → Stands bytes at standing → at ≤ place → place ≤ length bytes →
+bad_at : (wide : Bool) (bytes : List ℕ) (at place : ℕ) (standing : Standing) → Stands wide bytes at standing → at ≤ place → place ≤ length bytes →
     (tail : List ℕ) (all : List BlockView) → Resembles (slice_range bytes at place ++ tail) (drop at bytes) → GoesFrom standing (slice_range bytes at place ++ tail) all →
-    ((tail : List ℕ) (all : List BlockView) → first tail ≡ first (drop place bytes) → GoesFrom standing (slice_range bytes at place ++ tail) all → ⊥) → IsFirstBad bytes place
-bad_at bytes at place standing stands le within tail all likes goes fails = record {
+    ((tail : List ℕ) (all : List BlockView) → first tail ≡ first (drop place bytes) → GoesFrom standing (slice_range bytes at place ++ tail) all → ⊥) → IsFirstBad wide bytes place
+bad_at wide bytes at place standing stands le within tail all likes goes fails = record {
   within = within;
   begins = record {
     more = tail;
     blocks = all;
-    text = subst (λ (text : List ℕ). IsLatticeText all text) (take_front bytes tail at place le within) (stands.reads (slice_range bytes at place ++ tail) all likes goes);
+    text = subst (λ (text : List ℕ). IsLatticeText wide all text) (take_front bytes tail at place le within) (stands.reads (slice_range bytes at place ++ tail) all likes goes);
   };
   ends_in_bytes = λ less begins.
       let byte = get_or bytes place 0 in
       let same : take (place + 1) bytes ++ begins.more ≡ take place bytes ++ (byte ∷ begins.more) =
       ap (λ (front : List ℕ). front ++ begins.more) (take_more bytes place 0 less) ∙ append_assoc (take place bytes) (byte ∷ []) begins.more in
       let here : first (byte ∷ begins.more) ≡ first (drop place bytes) = ap first (sym (drop-cons bytes place 0 less)) in
-      refuse (byte ∷ begins.more) begins.blocks here (subst (λ (text : List ℕ). IsLatticeText begins.blocks text) same begins.text);
+      refuse (byte ∷ begins.more) begins.blocks here (subst (λ (text : List ℕ). IsLatticeText wide begins.blocks text) same begins.text);
   ends_behind = λ e blocks text.
       let over : drop place bytes ≡ [] = drop_over bytes place (omega (arith, e)) in
       let same : bytes ≡ take place bytes ++ [] = sym (take-append-drop place bytes) ∙ ap (λ (rest : List ℕ). take place bytes ++ rest) over in
-      refuse [] blocks (ap first (sym over)) (subst (λ (text : List ℕ). IsLatticeText blocks text) same text);
+      refuse [] blocks (ap first (sym over)) (subst (λ (text : List ℕ). IsLatticeText wide blocks text) same text);
 }
   where
-    refuse : (tail : List ℕ) (all : List BlockView) → first tail ≡ first (drop place bytes) → IsLatticeText all (take place bytes ++ tail) → ⊥
+    refuse : (tail : List ℕ) (all : List BlockView) → first tail ≡ first (drop place bytes) → IsLatticeText wide all (take place bytes ++ tail) → ⊥
     refuse tail all here text =
         fails tail all here (stands.only (slice_range bytes at place ++ tail) all (inl (slice_first bytes tail at place le here))
-        (subst (λ (text : List ℕ). IsLatticeText all text) (sym (take_front bytes tail at place le within)) text))
+        (subst (λ (text : List ℕ). IsLatticeText wide all text) (sym (take_front bytes tail at place le within)) text))
 
 slash_gap : (b : ℕ) → Some b ≡ Some 47 → kind_of b ≡ InGap
 slash_gap b e = subst (λ (b : ℕ). kind_of b ≡ InGap) (same b e) refl
@@ -181,13 +184,13 @@ slash_lexeme lexeme bytes slash begins =
     let here : Some begins.byte ≡ Some 47 = sym (ap first begins.is) ∙ slash in
     not_gap lexeme (sym (slash_gap begins.byte here) ∙ begins.kind)
 
-pub gap_bad : (bytes : List ℕ) (at place : ℕ) (standing : Standing) → Stands bytes at standing → GapFails bytes at place → IsFirstBad bytes place
-gap_bad bytes at place standing stands fails =
+pub gap_bad : (wide : Bool) (bytes : List ℕ) (at place : ℕ) (standing : Standing) → Stands wide bytes at standing → GapFails bytes at place → IsFirstBad wide bytes place
+gap_bad wide bytes at place standing stands fails =
     let comment = fails.comment in
     let on : at ≤ place = omega (arith, fails.later, comment.later) in
     let a = able standing stands.ready in
     let tail = comment.more ++ 10 ∷ a.more in
-    bad_at bytes at place standing stands on comment.within tail a.all (inl (slice_long bytes tail at place (omega (arith, fails.later, comment.later)) comment.within))
+    bad_at wide bytes at place standing stands on comment.within tail a.all (inl (slice_long bytes tail at place (omega (arith, fails.later, comment.later)) comment.within))
     (goes_before standing (slice_range bytes at place ++ tail) (10 ∷ a.more) a.all (through tail (10 ∷ a.more) (comment.ends (10 ∷ a.more)) (inl (slice_long bytes tail fails.at place comment.later comment.within))) a.goes)
     (λ tail all here goes. refuse tail here all (sees standing (slice_range bytes at place ++ tail) all goes))
   where
@@ -221,11 +224,11 @@ gap_bad bytes at place standing stands fails =
             gap_one (slice_range bytes at place ++ tail) takes.behind (slice_range bytes fails.at place ++ tail) takes.gap gap (lexeme_stuck lexeme takes.behind b) stuck in
             slash_lexeme lexeme takes.behind (ap first same ∙ slash) b
 
-pub end_bad : (bytes : List ℕ) (at start : ℕ) (standing : Standing) → Stands bytes at standing → at ≤ start → start ≡ length bytes → GapGoes bytes at start → (standing.stage ≡ stages.Outside → ⊥) → IsFirstBad bytes start
-end_bad bytes at start standing stands le over gap inside =
+pub end_bad : (wide : Bool) (bytes : List ℕ) (at start : ℕ) (standing : Standing) → Stands wide bytes at standing → at ≤ start → start ≡ length bytes → GapGoes bytes at start → (standing.stage ≡ stages.Outside → ⊥) → IsFirstBad wide bytes start
+end_bad wide bytes at start standing stands le over gap inside =
     let a = able standing stands.ready in
     let rest : List ℕ = 10 ∷ a.more in
-    bad_at bytes at start standing stands le (omega (arith, over)) rest a.all (fresh bytes a.more at start (omega (arith, over))) (goes_before standing (slice_range bytes at start ++ rest) rest a.all (gap rest (inr refl)) a.goes)
+    bad_at wide bytes at start standing stands le (omega (arith, over)) rest a.all (fresh bytes a.more at start (omega (arith, over))) (goes_before standing (slice_range bytes at start ++ rest) rest a.all (gap rest (inr refl)) a.goes)
     (λ tail all here goes.
     let none : tail ≡ [] = first_none tail (here ∙ ap first (drop_over bytes start (omega (arith, over)))) in
     let end : Gap (slice_range bytes at start ++ tail) [] = subst (λ (t : List ℕ). Gap (slice_range bytes at start ++ t) []) (sym none) (gap [] (inl (ap first (sym (drop_over bytes start (omega (arith, over))))))) in
@@ -257,9 +260,9 @@ lexeme_first (x ∷ a) (y ∷ b) e h = subst (λ (z : ℕ). not (is_blank z || n
     same : (x y : ℕ) → Some x ≡ Some y → x ≡ y
     same x y e = cc
 
-pub lexeme_bad : (bytes : List ℕ) (at start place : ℕ) (standing : Standing) → Stands bytes at standing → at ≤ start → start < length bytes → GapGoes bytes at start → begins_lexeme (drop start bytes) ≡ true →
-    LexemeFails standing bytes start place → IsFirstBad bytes place
-lexeme_bad bytes at start place standing stands le inside gap stops fails = by fails.begins
+pub lexeme_bad : (wide : Bool) (bytes : List ℕ) (at start place : ℕ) (standing : Standing) → Stands wide bytes at standing → at ≤ start → start < length bytes → GapGoes bytes at start → begins_lexeme (drop start bytes) ≡ true →
+    LexemeFails standing bytes start place → IsFirstBad wide bytes place
+lexeme_bad wide bytes at start place standing stands le inside gap stops fails = by fails.begins
   where
     on : at ≤ place
     on = omega (arith, le, fails.later)
@@ -292,25 +295,25 @@ lexeme_bad bytes at start place standing stands le inside gap stops fails = by f
     none : (tail : List ℕ) (all : List BlockView) → first tail ≡ first (drop place bytes) → GoesFrom standing (slice_range bytes at place ++ tail) all → ⊥
     none tail all here goes = seen_fails tail all here (sees standing (slice_range bytes at place ++ tail) all goes)
 
-    by : (place ≡ start) ⊎ LexemeBegins standing bytes start place → IsFirstBad bytes place
+    by : (place ≡ start) ⊎ LexemeBegins standing bytes start place → IsFirstBad wide bytes place
     by (inl e) =
         let a = able standing stands.ready in
         let rest : List ℕ = 10 ∷ a.more in
         let there : Gap (slice_range bytes at place ++ rest) rest = subst (λ (p : ℕ). Gap (slice_range bytes at p ++ rest) rest) (sym e) (gap rest (inr refl)) in
-        bad_at bytes at place standing stands on fails.within rest a.all (fresh bytes a.more at place fails.within) (goes_before standing (slice_range bytes at place ++ rest) rest a.all there a.goes) none
+        bad_at wide bytes at place standing stands on fails.within rest a.all (fresh bytes a.more at place fails.within) (goes_before standing (slice_range bytes at place ++ rest) rest a.all there a.goes) none
     by (inr b) =
         let a = able b.new (ready standing b.lexeme b.new b.next_is) in
         let rest : List ℕ = 10 ∷ a.more in
         let tail = b.more ++ rest in
         let takes : Takes b.lexeme (slice_range bytes at place ++ tail) rest =
         record { behind = slice_range bytes start place ++ tail; gap = gap_to tail (inl (slice_long bytes tail start place b.longer fails.within)); spells = b.spells a.more } in
-        bad_at bytes at place standing stands on fails.within tail a.all (inl (slice_long bytes tail at place (omega (arith, le, b.longer)) fails.within))
+        bad_at wide bytes at place standing stands on fails.within tail a.all (inl (slice_long bytes tail at place (omega (arith, le, b.longer)) fails.within))
         (leads standing b.lexeme b.new (slice_range bytes at place ++ tail) rest a.all b.next_is takes a.goes) none
 
 -- the bytes end where a block may begin
-pub end_reads : (bytes : List ℕ) (at start : ℕ) (standing : Standing) (blocks : List BlockView) → Stands bytes at standing → at ≤ start → start ≡ length bytes → GapGoes bytes at start → standing.stage ≡ stages.Outside →
-    blocks ≡ standing.draft.blocks → IsLatticeText blocks bytes
-end_reads bytes at start standing blocks stands le over gap outside is =
+pub end_reads : (wide : Bool) (bytes : List ℕ) (at start : ℕ) (standing : Standing) (blocks : List BlockView) → Stands wide bytes at standing → at ≤ start → start ≡ length bytes → GapGoes bytes at start → standing.stage ≡ stages.Outside →
+    blocks ≡ standing.draft.blocks → IsLatticeText wide blocks bytes
+end_reads wide bytes at start standing blocks stands le over gap outside is =
     let none : drop start bytes ≡ [] = drop_over bytes start (omega (arith, over)) in
     let likes : first [] ≡ first (drop start bytes) = ap first (sym none) in
     let P : Stage → Type 0 = λ s. Goes s standing.given standing.draft (slice_range bytes at start ++ []) blocks in
@@ -318,9 +321,9 @@ end_reads bytes at start standing blocks stands le over gap outside is =
     subst P (sym outside) ([], End (slice_range bytes at start ++ []) (gap [] (inl likes)), is ∙ sym (append-nil standing.draft.blocks)) in
     let whole : take at bytes ++ (slice_range bytes at start ++ []) ≡ bytes =
     take_front bytes [] at start le (omega (arith, over)) ∙ ap (λ (rest : List ℕ). take start bytes ++ rest) (sym none) ∙ take-append-drop start bytes in
-    subst (λ (text : List ℕ). IsLatticeText blocks text) whole (stands.reads (slice_range bytes at start ++ []) blocks (inl (slice_first bytes [] at start le likes)) goes)
+    subst (λ (text : List ℕ). IsLatticeText wide blocks text) whole (stands.reads (slice_range bytes at start ++ []) blocks (inl (slice_first bytes [] at start le likes)) goes)
 
-pub fault_first : (bytes : List ℕ) (at start : ℕ) (reader : Reader) (fault : TextFault) → Stands bytes at (standing_of reader) → at ≤ start → start < length bytes → GapGoes bytes at start → begins_lexeme (drop start bytes) ≡ true →
-    IsLexemeFault reader bytes start fault → IsTextFault bytes fault
-fault_first bytes at start reader (At place) stands le inside gap stops fails = lexeme_bad bytes at start place (standing_of reader) stands le inside gap stops fails
-fault_first bytes at start reader NoMemory stands le inside gap stops fails = tt
+pub fault_first : (wide : Bool) (bytes : List ℕ) (at start : ℕ) (reader : Reader) (fault : TextFault) → Stands wide bytes at (standing_of reader) → at ≤ start → start < length bytes → GapGoes bytes at start → begins_lexeme (drop start bytes) ≡ true →
+    IsLexemeFault reader bytes start fault → IsTextFault wide bytes fault
+fault_first wide bytes at start reader (At place) stands le inside gap stops fails = lexeme_bad wide bytes at start place (standing_of reader) stands le inside gap stops fails
+fault_first wide bytes at start reader NoMemory stands le inside gap stops fails = tt

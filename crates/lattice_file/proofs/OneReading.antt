@@ -1,5 +1,5 @@
 -- Bytes are a text of one list of blocks alone.
-use Rattle.std.proofs.Common.{◌≡◌, ℕ, zero, suc, ◌<◌, ◌≤◌, List, [], ◌∷◌, length, refl, sym, ◌∙◌, ap, subst, arith, Some}
+use Rattle.std.proofs.Common.{◌≡◌, ℕ, Bool, zero, suc, ◌<◌, ◌≤◌, List, [], ◌∷◌, length, refl, sym, ◌∙◌, ap, subst, arith, Some}
 use Rattle.lattice_file.specs.declared.blocks.Stage.TheVariants as stages
 use Rattle.lattice_core.specs.Passing.{no_flows}
 use Rattle.lattice_file.specs.Blocks.{BlockView}
@@ -57,8 +57,8 @@ one_from (suc n) old bytes a b h ga gb = by (λ new rest less ha hb. one_from n 
         let less : length rest < n = omega (arith, shorter, gap_shorter bytes takes.behind takes.gap, h) in
         again new rest less goes (step_one old lexeme new bytes rest b e takes gb)
 
-abbrev pub first_standing : Standing
-first_standing = At stages.Outside no_attribute (record { name = []; entries = []; pairs = []; flows = no_flows; blocks = [] })
+abbrev pub first_standing : Bool → Standing
+first_standing wide = At stages.Outside (no_attribute wide) (record { name = []; entries = []; pairs = []; flows = no_flows; blocks = [] })
 
-pub one_reading : (a b : List BlockView) (bytes : List ℕ) → IsLatticeText a bytes → IsLatticeText b bytes → a ≡ b
-one_reading a b bytes ta tb = one_from (suc (length bytes)) first_standing bytes a b (omega arith) (a, ta, refl) (b, tb, refl)
+pub one_reading : (wide : Bool) (a b : List BlockView) (bytes : List ℕ) → IsLatticeText wide a bytes → IsLatticeText wide b bytes → a ≡ b
+one_reading wide a b bytes ta tb = one_from (suc (length bytes)) (first_standing wide) bytes a b (omega arith) (a, ta, refl) (b, tb, refl)

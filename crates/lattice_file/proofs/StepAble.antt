@@ -9,6 +9,7 @@ use Rattle.lattice_core.specs.declared.Flows.{Flows}
 use Rattle.lattice_core.specs.Passing.{no_flows}
 use Rattle.lattice_core.specs.declared.Level.TheVariants.{Ref, Value}
 use Rattle.lattice_core.specs.declared.Sign.TheVariants.{Pos, Neg, Eq}
+use Rattle.lattice_core.specs.declared.Deref.TheVariants as derefs
 use Rattle.lattice_file.specs.declared.words.Attribute.{Attribute}
 use Rattle.lattice_file.specs.declared.words.Attribute.TheVariants as attributes
 use Rattle.lattice_file.specs.declared.words.Given.{Given}
@@ -17,13 +18,14 @@ use Rattle.lattice_file.specs.declared.blocks.Stage.TheVariants as stages
 use Rattle.lattice_file.specs.declared.passing.BlockAttribute.{BlockAttribute}
 use Rattle.lattice_file.specs.declared.passing.BlockAttribute.TheVariants.{Ptrflow, Fieldflow}
 use Rattle.lattice_file.specs.Blocks.{BlockView}
-use Rattle.lattice_file.specs.Text.{End, is_element_name, attribute_word, has_attribute, entry_of, no_attribute, Gives, block_attribute_word, has_flow, GivesFlow}
+use Rattle.lattice_file.specs.Text.{End, is_element_name, attribute_word, has_attribute, is_deref, entry_of, no_attribute, Gives, block_attribute_word, has_flow, GivesFlow}
 use Rattle.lattice_file.specs.Going.{Draft}
 use Rattle.lattice_file.specs.Steps.{Lexeme, WordLexeme, SignLexeme, TextLexeme, Spells, Standing, GoesFrom, only_if, attribute_named, with_value, flow_named, with_flow, has_all_flows, is_full, is_nonempty, next_by_word, with_block, with_entry, next_by_sign, next_by_text, next}
 use Rattle.std.specs.List.{list_all}
 use Rattle.lattice_file.specs.Text.{Nothing, Blank, stands_in_words, is_letter, is_name_byte, begins_with_dollar}
 use Rattle.lattice_file.proofs.LexemeUnique.{IsProper, kind_of, AtSign}
 use Rattle.lattice_file.proofs.GapUnique.{and_first, and_second, or_cases}
+use Rattle.lattice_file.proofs.GoingLemmas.{gives_wide}
 use Rattle.lattice_file.proofs.StepLeads.{At, some_is, only_is, first_is, map_is, attribute_is, value_is, word_is, named_new, flow_is, flow_new, gives_flow, leads}
 
 -- an attribute is left where one may come
@@ -35,85 +37,91 @@ IsReadyAt _ given draft = Unit {0}
 abbrev pub IsReady : Standing → Type 0
 IsReady standing = IsReadyAt standing.stage standing.given standing.draft
 
-ready_as : (to new : Standing) → to ≡ new → IsReady to → IsReady new
-ready_as to new e h = subst IsReady e h
+ready_as : (wide : Bool) (to new : Standing) → to ≡ new → IsReady to → to.given.wide ≡ wide → IsReady new × (new.given.wide ≡ wide)
+ready_as wide to new e h is = (subst IsReady e h, subst (λ (s : Standing). s.given.wide ≡ wide) e is)
 
 not_full : (b : Bool) → not b ≡ true → b ≡ false
 not_full true e = absurd cc
 not_full false e = refl
 
-ready_word : (stage : Stage) (given : Given) (draft : Draft) (word : List ℕ) (new : Standing) → next_by_word stage given draft word ≡ Some new → IsReady new
-ready_word stages.Outside given draft word new e = let p = only_is (bytes_eq word (codes "partial")) (At stages.Order given draft) new e in ready_as (At stages.Order given draft) new p.1 tt
-ready_word stages.Order given draft word new e = let p = only_is (bytes_eq word (codes "order")) (At stages.Open given draft) new e in ready_as (At stages.Open given draft) new p.1 tt
+ready_word : (stage : Stage) (given : Given) (draft : Draft) (word : List ℕ) (new : Standing) → next_by_word stage given draft word ≡ Some new → IsReady new × (new.given.wide ≡ given.wide)
+ready_word stages.Outside given draft word new e = let p = only_is (bytes_eq word (codes "partial")) (At stages.Order given draft) new e in ready_as given.wide (At stages.Order given draft) new p.1 tt refl
+ready_word stages.Order given draft word new e = let p = only_is (bytes_eq word (codes "order")) (At stages.Open given draft) new e in ready_as given.wide (At stages.Open given draft) new p.1 tt refl
 ready_word stages.Open given draft word new e = absurd cc
 ready_word stages.FlowName given draft word new e =
-    let p = map_is (λ attribute. At (stages.FlowEquals attribute) given draft) (flow_named draft.flows word) new e in ready_as (At (stages.FlowEquals p.0) given draft) new p.2 tt
+    let p = map_is (λ attribute. At (stages.FlowEquals attribute) given draft) (flow_named draft.flows word) new e in ready_as given.wide (At (stages.FlowEquals p.0) given draft) new p.2 tt refl
 ready_word (stages.FlowEquals attribute) given draft word new e = absurd cc
 ready_word (stages.FlowValue attribute) given draft word new e =
-    let p = map_is (λ flows. At stages.Flowed given (record draft { flows = flows })) (with_flow attribute draft.flows word) new e in ready_as (At stages.Flowed given (record draft { flows = p.0 })) new p.2 tt
+    let p = map_is (λ flows. At stages.Flowed given (record draft { flows = flows })) (with_flow attribute draft.flows word) new e in ready_as given.wide (At stages.Flowed given (record draft { flows = p.0 })) new p.2 tt refl
 ready_word stages.Flowed given draft word new e = absurd cc
 ready_word stages.Braced given draft word new e = absurd cc
 ready_word stages.Items given draft word new e =
-    let to = At stages.Named given (record draft { name = word }) in let p = only_is (is_element_name word) to new e in ready_as to new p.1 tt
+    let to = At stages.Named given (record draft { name = word }) in let p = only_is (is_element_name word) to new e in ready_as given.wide to new p.1 tt refl
 ready_word stages.Named given draft word new e = absurd cc
 ready_word stages.High given draft word new e =
-    let to = At stages.Items given (record draft { pairs = draft.pairs ++ record { low = draft.name; high = word } ∷ [] }) in let p = only_is (is_element_name word) to new e in ready_as to new p.1 tt
+    let to = At stages.Items given (record draft { pairs = draft.pairs ++ record { low = draft.name; high = word } ∷ [] }) in let p = only_is (is_element_name word) to new e in ready_as given.wide to new p.1 tt refl
 ready_word stages.Attribute given draft word new e =
-    let p = map_is (λ attribute. At (stages.Equals attribute) given draft) (attribute_named given word) new e in ready_as (At (stages.Equals p.0) given draft) new p.2 tt
+    let p = map_is (λ attribute. At (stages.Equals attribute) given draft) (attribute_named given word) new e in ready_as given.wide (At (stages.Equals p.0) given draft) new p.2 tt refl
 ready_word (stages.Equals attribute) given draft word new e = absurd cc
 ready_word (stages.Value attribute) given draft word new e =
-    let p = map_is (λ then. At stages.Attributed then draft) (with_value attribute given word) new e in ready_as (At stages.Attributed p.0 draft) new p.2 tt
+    let p = map_is (λ then. At stages.Attributed then draft) (with_value attribute given word) new e in ready_as given.wide (At stages.Attributed p.0 draft) new p.2 tt (gives_wide attribute given p.0 word (value_is attribute given p.0 word p.1))
 ready_word stages.Attributed given draft word new e = absurd cc
 
-ready_sign : (stage : Stage) (given : Given) (draft : Draft) (sign : ℕ) (new : Standing) → next_by_sign stage given draft sign ≡ Some new → IsReady new
+ready_sign : (stage : Stage) (given : Given) (draft : Draft) (sign : ℕ) (new : Standing) → next_by_sign stage given draft sign ≡ Some new → IsReady new × (new.given.wide ≡ given.wide)
 ready_sign stages.Outside given draft sign new e = absurd cc
 ready_sign stages.Order given draft sign new e = absurd cc
 ready_sign stages.Open given draft sign new e = by (first_is (only_if (nat_eq sign 123) (At stages.Items given (record draft { entries = []; pairs = []; flows = no_flows }))) _ new e)
   where
-    by : (only_if (nat_eq sign 123) (At stages.Items given (record draft { entries = []; pairs = []; flows = no_flows })) ≡ Some new) ⊎ (only_if (nat_eq sign 91) (At stages.FlowName given (record draft { flows = no_flows })) ≡ Some new) → IsReady new
-    by (inl e) = let to = At stages.Items given (record draft { entries = []; pairs = []; flows = no_flows }) in let p = only_is (nat_eq sign 123) to new e in ready_as to new p.1 tt
-    by (inr e) = let to = At stages.FlowName given (record draft { flows = no_flows }) in let p = only_is (nat_eq sign 91) to new e in ready_as to new p.1 refl
+    by : (only_if (nat_eq sign 123) (At stages.Items given (record draft { entries = []; pairs = []; flows = no_flows })) ≡ Some new) ⊎ (only_if (nat_eq sign 91) (At stages.FlowName given (record draft { flows = no_flows })) ≡ Some new) → IsReady new × (new.given.wide ≡ given.wide)
+    by (inl e) = let to = At stages.Items given (record draft { entries = []; pairs = []; flows = no_flows }) in let p = only_is (nat_eq sign 123) to new e in ready_as given.wide to new p.1 tt refl
+    by (inr e) = let to = At stages.FlowName given (record draft { flows = no_flows }) in let p = only_is (nat_eq sign 91) to new e in ready_as given.wide to new p.1 refl refl
 ready_sign stages.FlowName given draft sign new e = absurd cc
 ready_sign (stages.FlowEquals attribute) given draft sign new e =
-    let p = only_is (nat_eq sign 61) (At (stages.FlowValue attribute) given draft) new e in ready_as (At (stages.FlowValue attribute) given draft) new p.1 tt
+    let p = only_is (nat_eq sign 61) (At (stages.FlowValue attribute) given draft) new e in ready_as given.wide (At (stages.FlowValue attribute) given draft) new p.1 tt refl
 ready_sign (stages.FlowValue attribute) given draft sign new e = absurd cc
 ready_sign stages.Flowed given draft sign new e = by (first_is (only_if (nat_eq sign 44 && not (has_all_flows draft.flows)) (At stages.FlowName given draft)) _ new e)
   where
-    by : (only_if (nat_eq sign 44 && not (has_all_flows draft.flows)) (At stages.FlowName given draft) ≡ Some new) ⊎ (only_if (nat_eq sign 93) (At stages.Braced given draft) ≡ Some new) → IsReady new
+    by : (only_if (nat_eq sign 44 && not (has_all_flows draft.flows)) (At stages.FlowName given draft) ≡ Some new) ⊎ (only_if (nat_eq sign 93) (At stages.Braced given draft) ≡ Some new) → IsReady new × (new.given.wide ≡ given.wide)
     by (inl e) =
         let p = only_is (nat_eq sign 44 && not (has_all_flows draft.flows)) (At stages.FlowName given draft) new e in
-        ready_as (At stages.FlowName given draft) new p.1 (not_full (has_all_flows draft.flows) (and_second (nat_eq sign 44) (not (has_all_flows draft.flows)) p.0))
-    by (inr e) = let p = only_is (nat_eq sign 93) (At stages.Braced given draft) new e in ready_as (At stages.Braced given draft) new p.1 tt
+        ready_as given.wide (At stages.FlowName given draft) new p.1 (not_full (has_all_flows draft.flows) (and_second (nat_eq sign 44) (not (has_all_flows draft.flows)) p.0)) refl
+    by (inr e) = let p = only_is (nat_eq sign 93) (At stages.Braced given draft) new e in ready_as given.wide (At stages.Braced given draft) new p.1 tt refl
 ready_sign stages.Braced given draft sign new e =
-    let to = At stages.Items given (record draft { entries = []; pairs = [] }) in let p = only_is (nat_eq sign 123) to new e in ready_as to new p.1 tt
+    let to = At stages.Items given (record draft { entries = []; pairs = [] }) in let p = only_is (nat_eq sign 123) to new e in ready_as given.wide to new p.1 tt refl
 ready_sign stages.Items given draft sign new e =
-    let p = only_is (nat_eq sign 125 && is_nonempty draft.entries) (At stages.Outside given (with_block draft)) new e in ready_as (At stages.Outside given (with_block draft)) new p.1 tt
-ready_sign stages.Named given draft sign new e = by (first_is (only_if (nat_eq sign 91) (At stages.Attribute no_attribute draft)) _ new e)
+    let p = only_is (nat_eq sign 125 && is_nonempty draft.entries) (At stages.Outside given (with_block draft)) new e in ready_as given.wide (At stages.Outside given (with_block draft)) new p.1 tt refl
+ready_sign stages.Named given draft sign new e = by (first_is (only_if (nat_eq sign 91) (At stages.Attribute (no_attribute given.wide) draft)) _ new e)
   where
-    by : (only_if (nat_eq sign 91) (At stages.Attribute no_attribute draft) ≡ Some new) ⊎ (only_if (nat_eq sign 60) (At stages.High given draft) ≡ Some new) → IsReady new
-    by (inl e) = let p = only_is (nat_eq sign 91) (At stages.Attribute no_attribute draft) new e in ready_as (At stages.Attribute no_attribute draft) new p.1 refl
-    by (inr e) = let p = only_is (nat_eq sign 60) (At stages.High given draft) new e in ready_as (At stages.High given draft) new p.1 tt
+    by : (only_if (nat_eq sign 91) (At stages.Attribute (no_attribute given.wide) draft) ≡ Some new) ⊎ (only_if (nat_eq sign 60) (At stages.High given draft) ≡ Some new) → IsReady new × (new.given.wide ≡ given.wide)
+    by (inl e) = let p = only_is (nat_eq sign 91) (At stages.Attribute (no_attribute given.wide) draft) new e in ready_as given.wide (At stages.Attribute (no_attribute given.wide) draft) new p.1 refl refl
+    by (inr e) = let p = only_is (nat_eq sign 60) (At stages.High given draft) new e in ready_as given.wide (At stages.High given draft) new p.1 tt refl
 ready_sign stages.High given draft sign new e = absurd cc
 ready_sign stages.Attribute given draft sign new e = absurd cc
 ready_sign (stages.Equals attribute) given draft sign new e =
-    let p = only_is (nat_eq sign 61) (At (stages.Value attribute) given draft) new e in ready_as (At (stages.Value attribute) given draft) new p.1 tt
+    let p = only_is (nat_eq sign 61) (At (stages.Value attribute) given draft) new e in ready_as given.wide (At (stages.Value attribute) given draft) new p.1 tt refl
 ready_sign (stages.Value attribute) given draft sign new e = absurd cc
 ready_sign stages.Attributed given draft sign new e = by (first_is (only_if (nat_eq sign 44 && not (is_full given)) (At stages.Attribute given draft)) _ new e)
   where
-    by : (only_if (nat_eq sign 44 && not (is_full given)) (At stages.Attribute given draft) ≡ Some new) ⊎ (only_if (nat_eq sign 93) (At stages.Items given (with_entry given draft)) ≡ Some new) → IsReady new
+    by : (only_if (nat_eq sign 44 && not (is_full given)) (At stages.Attribute given draft) ≡ Some new) ⊎ (only_if (nat_eq sign 93) (At stages.Items given (with_entry given draft)) ≡ Some new) → IsReady new × (new.given.wide ≡ given.wide)
     by (inl e) =
         let p = only_is (nat_eq sign 44 && not (is_full given)) (At stages.Attribute given draft) new e in
-        ready_as (At stages.Attribute given draft) new p.1 (not_full (is_full given) (and_second (nat_eq sign 44) (not (is_full given)) p.0))
-    by (inr e) = let p = only_is (nat_eq sign 93) (At stages.Items given (with_entry given draft)) new e in ready_as (At stages.Items given (with_entry given draft)) new p.1 tt
+        ready_as given.wide (At stages.Attribute given draft) new p.1 (not_full (is_full given) (and_second (nat_eq sign 44) (not (is_full given)) p.0)) refl
+    by (inr e) = let p = only_is (nat_eq sign 93) (At stages.Items given (with_entry given draft)) new e in ready_as given.wide (At stages.Items given (with_entry given draft)) new p.1 tt refl
 
-ready_text : (stage : Stage) (given : Given) (draft : Draft) (new : Standing) → next_by_text stage given draft ≡ Some new → IsReady new
-ready_text (stages.Value attributes.Color) given draft new e = let to = At stages.Attributed (record given { color = true }) draft in ready_as to new (some_is to new e) tt
+ready_text : (stage : Stage) (given : Given) (draft : Draft) (new : Standing) → next_by_text stage given draft ≡ Some new → IsReady new × (new.given.wide ≡ given.wide)
+ready_text (stages.Value attributes.Color) given draft new e = let to = At stages.Attributed (record given { color = true }) draft in ready_as given.wide to new (some_is to new e) tt refl
 ready_text _ given draft new e = absurd cc
 
+follows : (old : Standing) (lexeme : Lexeme) (new : Standing) → next old lexeme ≡ Some new → IsReady new × (new.given.wide ≡ old.given.wide)
+follows old (WordLexeme word) new e = ready_word old.stage old.given old.draft word new e
+follows old (SignLexeme sign) new e = ready_sign old.stage old.given old.draft sign new e
+follows old TextLexeme new e = ready_text old.stage old.given old.draft new e
+
 pub ready : (old : Standing) (lexeme : Lexeme) (new : Standing) → next old lexeme ≡ Some new → IsReady new
-ready old (WordLexeme word) new e = ready_word old.stage old.given old.draft word new e
-ready old (SignLexeme sign) new e = ready_sign old.stage old.given old.draft sign new e
-ready old TextLexeme new e = ready_text old.stage old.given old.draft new e
+ready old lexeme new e = (follows old lexeme new e).0
+
+pub wide_stays : (old : Standing) (lexeme : Lexeme) (new : Standing) → next old lexeme ≡ Some new → new.given.wide ≡ old.given.wide
+wide_stays old lexeme new e = (follows old lexeme new e).1
 
 -- what may come is proper
 as_proper : (word name : List ℕ) → word ≡ name → IsProper (WordLexeme name) → IsProper (WordLexeme word)
@@ -170,7 +178,9 @@ value_proper attributes.Sign given then word (Neg, e, f) = as_proper word (codes
 value_proper attributes.Sign given then word (Eq, e, f) = as_proper word (codes "eq") e (101, codes "q", refl, refl)
 value_proper attributes.Color given then word h = absurd h
 value_proper attributes.Write given then word (e, f) = as_proper word (codes "yes") e (121, codes "es", refl, refl)
-value_proper attributes.Deref given then word (e, f) = as_proper word (codes "yes") e (121, codes "es", refl, refl)
+value_proper attributes.Deref given then word (derefs.No, e, f) = absurd e
+value_proper attributes.Deref given then word (derefs.Yes, e, f) = as_proper word (codes "yes") e (121, codes "es", refl, refl)
+value_proper attributes.Deref given then word (derefs.Access, (wide, e), f) = as_proper word (codes "access") e (97, codes "ccess", refl, refl)
 
 block_attribute_proper : (attribute : BlockAttribute) → IsProper (WordLexeme (block_attribute_word attribute))
 block_attribute_proper Ptrflow = (112, codes "trflow", refl, refl)
@@ -229,10 +239,10 @@ proper_sign stages.Flowed given draft sign new e = by (first_is (only_if (nat_eq
 proper_sign stages.Braced given draft sign new e = as_sign sign 123 (only_is (nat_eq sign 123) (At stages.Items given (record draft { entries = []; pairs = [] })) new e).0 refl
 proper_sign stages.Items given draft sign new e =
     as_sign sign 125 (and_first (nat_eq sign 125) (is_nonempty draft.entries) (only_is (nat_eq sign 125 && is_nonempty draft.entries) (At stages.Outside given (with_block draft)) new e).0) refl
-proper_sign stages.Named given draft sign new e = by (first_is (only_if (nat_eq sign 91) (At stages.Attribute no_attribute draft)) _ new e)
+proper_sign stages.Named given draft sign new e = by (first_is (only_if (nat_eq sign 91) (At stages.Attribute (no_attribute given.wide) draft)) _ new e)
   where
-    by : (only_if (nat_eq sign 91) (At stages.Attribute no_attribute draft) ≡ Some new) ⊎ (only_if (nat_eq sign 60) (At stages.High given draft) ≡ Some new) → kind_of sign ≡ AtSign
-    by (inl e) = as_sign sign 91 (only_is (nat_eq sign 91) (At stages.Attribute no_attribute draft) new e).0 refl
+    by : (only_if (nat_eq sign 91) (At stages.Attribute (no_attribute given.wide) draft) ≡ Some new) ⊎ (only_if (nat_eq sign 60) (At stages.High given draft) ≡ Some new) → kind_of sign ≡ AtSign
+    by (inl e) = as_sign sign 91 (only_is (nat_eq sign 91) (At stages.Attribute (no_attribute given.wide) draft) new e).0 refl
     by (inr e) = as_sign sign 60 (only_is (nat_eq sign 60) (At stages.High given draft) new e).0 refl
 proper_sign stages.High given draft sign new e = absurd cc
 proper_sign stages.Attribute given draft sign new e = absurd cc
@@ -288,7 +298,7 @@ able_value attributes.Sign given draft = let then = record given { sign = Some E
 able_value attributes.Color given draft =
     let then = record given { color = true } in able_by (At (stages.Value attributes.Color) given draft) TextLexeme (At stages.Attributed then draft) (34 ∷ 34 ∷ []) refl (λ more. ([], refl, refl)) (able_attributed then draft)
 able_value attributes.Write given draft = let then = record given { write = true } in able_word (At (stages.Value attributes.Write) given draft) (codes "yes") (At stages.Attributed then draft) refl (able_attributed then draft)
-able_value attributes.Deref given draft = let then = record given { deref = true } in able_word (At (stages.Value attributes.Deref) given draft) (codes "yes") (At stages.Attributed then draft) refl (able_attributed then draft)
+able_value attributes.Deref given draft = let then = record given { deref = derefs.Yes } in able_word (At (stages.Value attributes.Deref) given draft) (codes "yes") (At stages.Attributed then draft) refl (able_attributed then draft)
 
 able_equals : (attribute : Attribute) (given : Given) (draft : Draft) → Able (At (stages.Equals attribute) given draft)
 able_equals attribute given draft = able_sign (At (stages.Equals attribute) given draft) 61 (At (stages.Value attribute) given draft) refl (able_value attribute given draft)
@@ -299,13 +309,13 @@ able_attribute given draft h = by_level (is_some given.level) refl
     able_with : (attribute : Attribute) → has_attribute given attribute ≡ false → Able (At stages.Attribute given draft)
     able_with attribute e = able_word (At stages.Attribute given draft) (attribute_word attribute) (At (stages.Equals attribute) given draft) (rw (named_new given attribute e) refl) (able_equals attribute given draft)
 
-    by_deref : (e : is_some given.level ≡ true) (f : is_some given.sign ≡ true) (g : given.color ≡ true) (i : given.write ≡ true) (b : Bool) → given.deref ≡ b → Able (At stages.Attribute given draft)
+    by_deref : (e : is_some given.level ≡ true) (f : is_some given.sign ≡ true) (g : given.color ≡ true) (i : given.write ≡ true) (b : Bool) → is_deref given.deref ≡ b → Able (At stages.Attribute given draft)
     by_deref e f g i false j = able_with attributes.Deref j
     by_deref e f g i true j = let full : is_full given ≡ true = rw (e, f, g, i, j) refl in let clash : false ≡ true = sym h ∙ full in absurd cc
 
     by_write : (e : is_some given.level ≡ true) (f : is_some given.sign ≡ true) (g : given.color ≡ true) (b : Bool) → given.write ≡ b → Able (At stages.Attribute given draft)
     by_write e f g false j = able_with attributes.Write j
-    by_write e f g true j = by_deref e f g j given.deref refl
+    by_write e f g true j = by_deref e f g j (is_deref given.deref) refl
 
     by_color : (e : is_some given.level ≡ true) (f : is_some given.sign ≡ true) (b : Bool) → given.color ≡ b → Able (At stages.Attribute given draft)
     by_color e f false j = able_with attributes.Color j
@@ -320,7 +330,7 @@ able_attribute given draft h = by_level (is_some given.level) refl
     by_level true j = by_sign j (is_some given.sign) refl
 
 able_named : (given : Given) (draft : Draft) → Able (At stages.Named given draft)
-able_named given draft = able_sign (At stages.Named given draft) 91 (At stages.Attribute no_attribute draft) refl (able_attribute no_attribute draft refl)
+able_named given draft = able_sign (At stages.Named given draft) 91 (At stages.Attribute (no_attribute given.wide) draft) refl (able_attribute (no_attribute given.wide) draft refl)
 
 able_items : (given : Given) (draft : Draft) → Able (At stages.Items given draft)
 able_items given draft = let then = record draft { name = codes "$a" } in able_word (At stages.Items given draft) (codes "$a") (At stages.Named given then) refl (able_named given then)

@@ -12,6 +12,8 @@ use Rattle.lattice_core.specs.declared.Flows.{Flows}
 use Rattle.lattice_core.specs.Passing.{no_flows}
 use Rattle.lattice_core.specs.declared.Level.{Level}
 use Rattle.lattice_core.specs.declared.Sign.{Sign}
+use Rattle.lattice_core.specs.declared.Deref.{Deref}
+use Rattle.lattice_core.specs.declared.Deref.TheVariants as derefs
 use Rattle.lattice_core.specs.declared.Level.TheVariants.{Ref, Value}
 use Rattle.lattice_core.specs.declared.Sign.TheVariants.{Pos, Neg, Eq}
 use Rattle.lattice_file.specs.declared.words.Attribute.{Attribute}
@@ -22,9 +24,9 @@ use Rattle.lattice_file.specs.declared.blocks.Stage.TheVariants as stages
 use Rattle.lattice_file.specs.declared.passing.BlockAttribute.{BlockAttribute}
 use Rattle.lattice_file.specs.declared.passing.BlockAttribute.TheVariants.{Ptrflow, Fieldflow}
 use Rattle.lattice_file.specs.Blocks.{BlockView}
-use Rattle.lattice_file.specs.Text.{TakesWord, TakesSign, TakesText, Word, Color, is_element_name, attribute_word, has_attribute, no_attribute, Gives, IsLevel, IsSign, block_attribute_word, has_flow, direction_word, GivesFlow, Plain, WithFlows}
+use Rattle.lattice_file.specs.Text.{TakesWord, TakesSign, TakesText, Word, Color, is_element_name, attribute_word, has_attribute, no_attribute, Gives, IsLevel, IsSign, IsDeref, block_attribute_word, has_flow, direction_word, GivesFlow, Plain, WithFlows}
 use Rattle.lattice_file.specs.Going.{Draft, Goes, GoesBehindAttribute, EndEntry, Comma, GoesBehindName, Bracket, Below, GoesOnOpen, GoesBehindFlow, EndFlows, CommaFlows}
-use Rattle.lattice_file.specs.Steps.{Lexeme, WordLexeme, SignLexeme, TextLexeme, Standing, GoesFrom, only_if, map_some, if_named, attribute_named, level_named, sign_named, with_value, if_flow, flow_named, direction_named, with_flow, has_all_flows, is_full, is_nonempty, with_block, with_entry, next_by, next}
+use Rattle.lattice_file.specs.Steps.{Lexeme, WordLexeme, SignLexeme, TextLexeme, Standing, GoesFrom, only_if, map_some, if_named, attribute_named, level_named, sign_named, deref_named, with_value, if_flow, flow_named, direction_named, with_flow, has_all_flows, is_full, is_nonempty, with_block, with_entry, next_by, next}
 use Rattle.lattice_file.proofs.GapUnique.{and_first, and_second}
 use Rattle.lattice_file.proofs.LexemeUnique.{Takes}
 use Rattle.lattice_file.proofs.GoingLemmas.{open_goes, close_goes, name_goes, attribute_goes, flow_goes}
@@ -124,6 +126,16 @@ sign_is word sign e = by (first_is (only_if (bytes_eq word (codes "pos")) Pos) _
     by (inl e) = let p = only_is (bytes_eq word (codes "pos")) Pos sign e in subst (λ (s : Sign). IsSign word s) p.1 (word_is word (codes "pos") p.0)
     by (inr e) = by_last (first_is (only_if (bytes_eq word (codes "neg")) Neg) _ sign e)
 
+deref_is : (wide : Bool) (word : List ℕ) (deref : Deref) → deref_named wide word ≡ Some deref → IsDeref wide word deref
+deref_is wide word deref e = by (first_is (only_if (bytes_eq word (codes "yes")) derefs.Yes) _ deref e)
+  where
+    by : (only_if (bytes_eq word (codes "yes")) derefs.Yes ≡ Some deref) ⊎ (only_if (wide && bytes_eq word (codes "access")) derefs.Access ≡ Some deref) → IsDeref wide word deref
+    by (inl e) = let p = only_is (bytes_eq word (codes "yes")) derefs.Yes deref e in subst (λ (d : Deref). IsDeref wide word d) p.1 (word_is word (codes "yes") p.0)
+    by (inr e) =
+        let p = only_is (wide && bytes_eq word (codes "access")) derefs.Access deref e in
+        let named : word ≡ codes "access" = word_is word (codes "access") (and_second wide (bytes_eq word (codes "access")) p.0) in
+        subst (λ (d : Deref). IsDeref wide word d) p.1 (and_first wide (bytes_eq word (codes "access")) p.0, named)
+
 pub value_is : (attribute : Attribute) (given then : Given) (word : List ℕ) → with_value attribute given word ≡ Some then → Gives attribute word given then
 value_is attributes.Level given then word e =
     let p = map_is (λ level. record given { level = Some level }) (level_named word) then e in (p.0, level_is word p.0 p.1, sym p.2)
@@ -131,7 +143,8 @@ value_is attributes.Sign given then word e =
     let p = map_is (λ sign. record given { sign = Some sign }) (sign_named word) then e in (p.0, sign_is word p.0 p.1, sym p.2)
 value_is attributes.Color given then word e = absurd cc
 value_is attributes.Write given then word e = let p = only_is (bytes_eq word (codes "yes")) (record given { write = true }) then e in (word_is word (codes "yes") p.0, sym p.1)
-value_is attributes.Deref given then word e = let p = only_is (bytes_eq word (codes "yes")) (record given { deref = true }) then e in (word_is word (codes "yes") p.0, sym p.1)
+value_is attributes.Deref given then word e =
+    let p = map_is (λ deref. record given { deref = deref }) (deref_named given.wide word) then e in (p.0, deref_is given.wide word p.0 p.1, sym p.2)
 
 pub is_value : (attribute : Attribute) (given then : Given) (word : List ℕ) → Gives attribute word given then → with_value attribute given word ≡ Some then
 is_value attributes.Level given then word (Ref, e, f) = rw (e, f) refl
@@ -141,7 +154,9 @@ is_value attributes.Sign given then word (Neg, e, f) = rw (e, f) refl
 is_value attributes.Sign given then word (Eq, e, f) = rw (e, f) refl
 is_value attributes.Color given then word h = absurd h
 is_value attributes.Write given then word (e, f) = rw (e, f) refl
-is_value attributes.Deref given then word (e, f) = rw (e, f) refl
+is_value attributes.Deref given then word (derefs.No, e, f) = absurd e
+is_value attributes.Deref given then word (derefs.Yes, e, f) = rw (e, f) refl
+is_value attributes.Deref given then word (derefs.Access, (wide, e), f) = rw (e, f, wide) refl
 
 if_flow_is : (flows : Flows) (word : List ℕ) (attribute new : BlockAttribute) → if_flow flows word attribute ≡ Some new → (word ≡ block_attribute_word new) × (has_flow flows new ≡ false)
 if_flow_is flows word attribute new e =
@@ -203,7 +218,7 @@ moved to new after all e goes = subst (λ (s : Standing). GoesFrom s after all) 
 leads_word : (stage : Stage) (given : Given) (draft : Draft) (word : List ℕ) → Leads stage given draft (WordLexeme word)
 leads_word stages.Outside given draft word new rest after all e takes goes =
     let p = only_is (bytes_eq word (codes "partial")) (At stages.Order given draft) new e in
-    open_goes draft rest after all (subst (λ (w : List ℕ). TakesWord w rest after) (word_is word (codes "partial") p.0) (takes_word word rest after takes)) (moved (At stages.Order given draft) new after all p.1 goes)
+    open_goes given.wide draft rest after all (subst (λ (w : List ℕ). TakesWord w rest after) (word_is word (codes "partial") p.0) (takes_word word rest after takes)) (moved (At stages.Order given draft) new after all p.1 goes)
 leads_word stages.Order given draft word new rest after all e takes goes =
     let p = only_is (bytes_eq word (codes "order")) (At stages.Open given draft) new e in
     (after, subst (λ (w : List ℕ). TakesWord w rest after) (word_is word (codes "order") p.0) (takes_word word rest after takes), moved (At stages.Open given draft) new after all p.1 goes)
@@ -211,7 +226,7 @@ leads_word stages.Open given draft word new rest after all e takes goes = absurd
 leads_word stages.FlowName given draft word new rest after all e takes goes =
     let p = map_is (λ attribute. At (stages.FlowEquals attribute) given draft) (flow_named draft.flows word) new e in
     let q = flow_is draft.flows word p.0 p.1 in
-    flow_goes p.0 draft.flows draft.blocks rest after all q.1 (subst (λ (w : List ℕ). TakesWord w rest after) q.0 (takes_word word rest after takes)) (moved (At (stages.FlowEquals p.0) given draft) new after all p.2 goes)
+    flow_goes given.wide p.0 draft.flows draft.blocks rest after all q.1 (subst (λ (w : List ℕ). TakesWord w rest after) q.0 (takes_word word rest after takes)) (moved (At (stages.FlowEquals p.0) given draft) new after all p.2 goes)
 leads_word (stages.FlowEquals attribute) given draft word new rest after all e takes goes = absurd cc
 leads_word (stages.FlowValue attribute) given draft word new rest after all e takes goes =
     let p = map_is (λ flows. At stages.Flowed given (record draft { flows = flows })) (with_flow attribute draft.flows word) new e in
@@ -227,7 +242,7 @@ leads_word stages.Flowed given draft word new rest after all e takes goes = absu
 leads_word stages.Braced given draft word new rest after all e takes goes = absurd cc
 leads_word stages.Items given draft word new rest after all e takes goes =
     let p = only_is (is_element_name word) (At stages.Named given (record draft { name = word })) new e in
-    name_goes (record draft { name = word }) rest after all p.0 (takes_word word rest after takes) (moved (At stages.Named given (record draft { name = word })) new after all p.1 goes)
+    name_goes given.wide (record draft { name = word }) rest after all p.0 (takes_word word rest after takes) (moved (At stages.Named given (record draft { name = word })) new after all p.1 goes)
 leads_word stages.Named given draft word new rest after all e takes goes = absurd cc
 leads_word stages.High given draft word new rest after all e takes goes =
     let to = At stages.Items given (record draft { pairs = draft.pairs ++ record { low = draft.name; high = word } ∷ [] }) in
@@ -251,7 +266,7 @@ leads_sign stages.Outside given draft sign new rest after all e takes goes = abs
 leads_sign stages.Order given draft sign new rest after all e takes goes = absurd cc
 leads_sign stages.Open given draft sign new rest after all e takes goes = by (first_is (only_if (nat_eq sign 123) (At stages.Items given (record draft { entries = []; pairs = []; flows = no_flows }))) _ new e)
   where
-    by : (only_if (nat_eq sign 123) (At stages.Items given (record draft { entries = []; pairs = []; flows = no_flows })) ≡ Some new) ⊎ (only_if (nat_eq sign 91) (At stages.FlowName given (record draft { flows = no_flows })) ≡ Some new) → GoesOnOpen draft rest all
+    by : (only_if (nat_eq sign 123) (At stages.Items given (record draft { entries = []; pairs = []; flows = no_flows })) ≡ Some new) ⊎ (only_if (nat_eq sign 91) (At stages.FlowName given (record draft { flows = no_flows })) ≡ Some new) → GoesOnOpen given.wide draft rest all
     by (inl e) =
         let to = At stages.Items given (record draft { entries = []; pairs = []; flows = no_flows }) in
         let p = only_is (nat_eq sign 123) to new e in
@@ -273,7 +288,7 @@ leads_sign (stages.FlowEquals attribute) given draft sign new rest after all e t
 leads_sign (stages.FlowValue attribute) given draft sign new rest after all e takes goes = absurd cc
 leads_sign stages.Flowed given draft sign new rest after all e takes goes = by (first_is (only_if (nat_eq sign 44 && not (has_all_flows draft.flows)) (At stages.FlowName given draft)) _ new e)
   where
-    by : (only_if (nat_eq sign 44 && not (has_all_flows draft.flows)) (At stages.FlowName given draft) ≡ Some new) ⊎ (only_if (nat_eq sign 93) (At stages.Braced given draft) ≡ Some new) → GoesBehindFlow draft.flows draft.blocks rest all
+    by : (only_if (nat_eq sign 44 && not (has_all_flows draft.flows)) (At stages.FlowName given draft) ≡ Some new) ⊎ (only_if (nat_eq sign 93) (At stages.Braced given draft) ≡ Some new) → GoesBehindFlow given.wide draft.flows draft.blocks rest all
     by (inl e) =
         let p = only_is (nat_eq sign 44 && not (has_all_flows draft.flows)) (At stages.FlowName given draft) new e in
         CommaFlows after (sign_same sign 44 rest after (and_first (nat_eq sign 44) (not (has_all_flows draft.flows)) p.0) takes) (moved (At stages.FlowName given draft) new after all p.1 goes)
@@ -286,12 +301,12 @@ leads_sign stages.Braced given draft sign new rest after all e takes goes =
     record { behind = after; sign = sign_same sign 123 rest after p.0 takes; items = moved to new after all p.1 goes }
 leads_sign stages.Items given draft sign new rest after all e takes goes =
     let p = only_is (nat_eq sign 125 && is_nonempty draft.entries) (At stages.Outside given (with_block draft)) new e in
-    close_goes draft.flows draft.entries draft.pairs draft.blocks rest after all (nonempty_long draft.entries (and_second (nat_eq sign 125) (is_nonempty draft.entries) p.0))
+    close_goes given.wide draft.flows draft.entries draft.pairs draft.blocks rest after all (nonempty_long draft.entries (and_second (nat_eq sign 125) (is_nonempty draft.entries) p.0))
     (sign_same sign 125 rest after (and_first (nat_eq sign 125) (is_nonempty draft.entries) p.0) takes) (moved (At stages.Outside given (with_block draft)) new after all p.1 goes)
-leads_sign stages.Named given draft sign new rest after all e takes goes = by (first_is (only_if (nat_eq sign 91) (At stages.Attribute no_attribute draft)) _ new e)
+leads_sign stages.Named given draft sign new rest after all e takes goes = by (first_is (only_if (nat_eq sign 91) (At stages.Attribute (no_attribute given.wide) draft)) _ new e)
   where
-    by : (only_if (nat_eq sign 91) (At stages.Attribute no_attribute draft) ≡ Some new) ⊎ (only_if (nat_eq sign 60) (At stages.High given draft) ≡ Some new) → GoesBehindName draft rest all
-    by (inl e) = let p = only_is (nat_eq sign 91) (At stages.Attribute no_attribute draft) new e in Bracket after (sign_same sign 91 rest after p.0 takes) (moved (At stages.Attribute no_attribute draft) new after all p.1 goes)
+    by : (only_if (nat_eq sign 91) (At stages.Attribute (no_attribute given.wide) draft) ≡ Some new) ⊎ (only_if (nat_eq sign 60) (At stages.High given draft) ≡ Some new) → GoesBehindName given.wide draft rest all
+    by (inl e) = let p = only_is (nat_eq sign 91) (At stages.Attribute (no_attribute given.wide) draft) new e in Bracket after (sign_same sign 91 rest after p.0 takes) (moved (At stages.Attribute (no_attribute given.wide) draft) new after all p.1 goes)
     by (inr e) = let p = only_is (nat_eq sign 60) (At stages.High given draft) new e in Below after (sign_same sign 60 rest after p.0 takes) (moved (At stages.High given draft) new after all p.1 goes)
 leads_sign stages.High given draft sign new rest after all e takes goes = absurd cc
 leads_sign stages.Attribute given draft sign new rest after all e takes goes = absurd cc

@@ -1,5 +1,5 @@
 -- What goes on from where a reader stands begins with a lexeme that may come, or ends outside the blocks.
-use Rattle.std.proofs.Common.{◌≡◌, ℕ, ◌<◌, Bool, true, false, ◌&&◌, List, [], ◌∷◌, ◌++◌, length, refl, sym, ◌∙◌, ap, Some, append_assoc, append-nil}
+use Rattle.std.proofs.Common.{◌≡◌, ℕ, ◌<◌, Bool, true, false, ◌&&◌, List, [], ◌∷◌, ◌++◌, length, refl, sym, ◌∙◌, ap, subst, Some, append_assoc, append-nil}
 use Rattle.std.specs.Prelude.{codes, is_some}
 use Rattle.lattice_core.specs.declared.Entry.{Entry}
 use Rattle.lattice_core.specs.declared.Pair.{Pair}
@@ -13,17 +13,18 @@ use Rattle.lattice_file.specs.declared.blocks.Stage.TheVariants as stages
 use Rattle.lattice_file.specs.declared.passing.BlockAttribute.{BlockAttribute}
 use Rattle.lattice_file.specs.declared.passing.BlockAttribute.TheVariants.{Ptrflow, Fieldflow}
 use Rattle.lattice_file.specs.Blocks.{BlockView}
-use Rattle.lattice_file.specs.Text.{Gap, TakesValue, Word, Color, Attributes, Last, More, Items, Close, EntryItem, LineItem, IsLatticeText, End, NextBlock, BlockAttributes, LastFlow, MoreFlows, Head, Plain, WithFlows, TakesSign, block_attribute_word, has_flow, attribute_word, has_attribute, entry_of, no_attribute}
+use Rattle.lattice_file.specs.Text.{Gap, TakesValue, Word, Color, Attributes, Last, More, Items, Close, EntryItem, LineItem, IsLatticeText, End, NextBlock, BlockAttributes, LastFlow, MoreFlows, Head, Plain, WithFlows, block_attribute_word, has_flow, attribute_word, has_attribute, is_deref, entry_of, no_attribute}
 use Rattle.lattice_file.specs.Going.{Draft, Goes, GoesOnItems, GoesBehindAttribute, EndEntry, Comma, Bracket, Below, GoesOnBraced, EndFlows, CommaFlows}
 use Rattle.lattice_file.specs.Steps.{Lexeme, WordLexeme, SignLexeme, TextLexeme, Standing, GoesFrom, is_full, has_all_flows, is_nonempty, with_block, with_entry, next}
 use Rattle.lattice_file.proofs.LexemeUnique.{Takes}
+use Rattle.lattice_file.proofs.GoingLemmas.{value_wide}
 use Rattle.lattice_file.proofs.StepLeads.{At, word_takes, sign_takes, text_takes, named_new, is_value, flow_new, flow_given, long_nonempty}
 
 pub data Seen (old : Standing) (rest : List ℕ) (all : List BlockView) : Type 0 where
   AtEnd : old.stage ≡ stages.Outside → Gap rest [] → all ≡ old.draft.blocks → Seen old rest all
   Further : (lexeme : Lexeme) (new : Standing) (after : List ℕ) → next old lexeme ≡ Some new → Takes lexeme rest after → GoesFrom new after all → Seen old rest all
 
-sees_outside : (given : Given) (draft : Draft) (rest : List ℕ) (all more : List BlockView) → IsLatticeText more rest → all ≡ draft.blocks ++ more → Seen (At stages.Outside given draft) rest all
+sees_outside : (given : Given) (draft : Draft) (rest : List ℕ) (all more : List BlockView) → IsLatticeText given.wide more rest → all ≡ draft.blocks ++ more → Seen (At stages.Outside given draft) rest all
 sees_outside given draft rest all more (End _ gap) is = AtEnd refl gap (is ∙ append-nil draft.blocks)
 sees_outside given draft rest all more (NextBlock block blocks _ b1 b2 b3 behind partial order head items filled others) is =
     Further (WordLexeme (codes "partial")) (At stages.Order given draft) b1 refl (word_takes (codes "partial") rest b1 partial) (
@@ -37,8 +38,8 @@ sees_outside given draft rest all more (NextBlock block blocks _ b1 b2 b3 behind
       },
     )
 
-sees_items : (given : Given) (draft : Draft) (rest behind : List ℕ) (all more : List BlockView) (more_entries : List Entry) (more_pairs : List Pair) → Items more_entries more_pairs rest behind →
-    0 < length (draft.entries ++ more_entries) → IsLatticeText more behind → all ≡ draft.blocks ++ record { entries = draft.entries ++ more_entries; pairs = draft.pairs ++ more_pairs; flows = draft.flows } ∷ more →
+sees_items : (given : Given) (draft : Draft) (rest behind : List ℕ) (all more : List BlockView) (more_entries : List Entry) (more_pairs : List Pair) → Items given.wide more_entries more_pairs rest behind →
+    0 < length (draft.entries ++ more_entries) → IsLatticeText given.wide more behind → all ≡ draft.blocks ++ record { entries = draft.entries ++ more_entries; pairs = draft.pairs ++ more_pairs; flows = draft.flows } ∷ more →
     Seen (At stages.Items given draft) rest all
 sees_items given draft rest behind all more more_entries more_pairs (Close _ _ sign) filled others is =
     let long : is_nonempty draft.entries ≡ true = long_nonempty draft.entries (rw (append-nil draft.entries) at filled) in
@@ -89,14 +90,19 @@ sees_items given draft rest behind all more more_entries more_pairs (LineItem lo
       };
     }))
 
+as_then : (attribute : Attribute) (given then end : Given) (draft : Draft) (b2 b3 behind : List ℕ) (all : List BlockView) → TakesValue attribute given then b2 b3 →
+    GoesOnItems given.wide draft.flows (draft.entries ++ entry_of draft.name end ∷ []) draft.pairs draft.blocks behind all → GoesOnItems then.wide draft.flows (draft.entries ++ entry_of draft.name end ∷ []) draft.pairs draft.blocks behind all
+as_then attribute given then end draft b2 b3 behind all value items =
+    subst (λ (w : Bool). GoesOnItems w draft.flows (draft.entries ++ entry_of draft.name end ∷ []) draft.pairs draft.blocks behind all) (sym (value_wide attribute given then b2 b3 value)) items
+
 sees_attributes : (given end : Given) (draft : Draft) (rest behind : List ℕ) (all : List BlockView) → Attributes given end rest behind →
-    GoesOnItems draft.flows (draft.entries ++ entry_of draft.name end ∷ []) draft.pairs draft.blocks behind all → Seen (At stages.Attribute given draft) rest all
+    GoesOnItems given.wide draft.flows (draft.entries ++ entry_of draft.name end ∷ []) draft.pairs draft.blocks behind all → Seen (At stages.Attribute given draft) rest all
 sees_attributes given end draft rest behind all (Last attribute _ _ _ b1 b2 b3 _ free word equals value sign) items =
     Further (WordLexeme (attribute_word attribute)) (At (stages.Equals attribute) given draft) b1 (rw (named_new given attribute free) refl) (word_takes (attribute_word attribute) rest b1 word)
-    (b2, equals, record { then = end; behind = b3; value = value; attributes = EndEntry behind sign items })
+    (b2, equals, record { then = end; behind = b3; value = value; attributes = EndEntry behind sign (as_then attribute given end end draft b2 b3 behind all value items) })
 sees_attributes given end draft rest behind all (More attribute _ then _ _ b1 b2 b3 b4 _ free word equals value sign others) items =
     Further (WordLexeme (attribute_word attribute)) (At (stages.Equals attribute) given draft) b1 (rw (named_new given attribute free) refl) (word_takes (attribute_word attribute) rest b1 word)
-    (b2, equals, record { then = then; behind = b3; value = value; attributes = Comma b4 sign (record { end = end; behind = behind; attributes = others; items = items }) })
+    (b2, equals, record { then = then; behind = b3; value = value; attributes = Comma b4 sign (record { end = end; behind = behind; attributes = others; items = as_then attribute given then end draft b2 b3 behind all value items }) })
 
 sees_value : (attribute : Attribute) (given then : Given) (draft : Draft) (rest behind : List ℕ) (all : List BlockView) → TakesValue attribute given then rest behind →
     GoesBehindAttribute then draft behind all → Seen (At (stages.Value attribute) given draft) rest all
@@ -109,22 +115,22 @@ free_full : (given : Given) (attribute : Attribute) → has_attribute given attr
 free_full given attributes.Level e = rw e refl
 free_full given attributes.Sign e = by (is_some given.level)
   where
-    by : (a : Bool) → (a && is_some given.sign && given.color && given.write && given.deref) ≡ false
+    by : (a : Bool) → (a && is_some given.sign && given.color && given.write && is_deref given.deref) ≡ false
     by true = rw e refl
     by false = refl
 free_full given attributes.Color e = by (is_some given.level && is_some given.sign)
   where
-    by : (a : Bool) → (a && given.color && given.write && given.deref) ≡ false
+    by : (a : Bool) → (a && given.color && given.write && is_deref given.deref) ≡ false
     by true = rw e refl
     by false = refl
 free_full given attributes.Write e = by (is_some given.level && is_some given.sign && given.color)
   where
-    by : (a : Bool) → (a && given.write && given.deref) ≡ false
+    by : (a : Bool) → (a && given.write && is_deref given.deref) ≡ false
     by true = rw e refl
     by false = refl
 free_full given attributes.Deref e = by (is_some given.level && is_some given.sign && given.color && given.write)
   where
-    by : (a : Bool) → (a && given.deref) ≡ false
+    by : (a : Bool) → (a && is_deref given.deref) ≡ false
     by true = e
     by false = refl
 
@@ -133,7 +139,7 @@ attributes_free given end rest behind (Last attribute _ _ _ b1 b2 b3 _ free word
 attributes_free given end rest behind (More attribute _ then _ _ b1 b2 b3 b4 _ free word equals value sign others) = free_full given attribute free
 
 sees_flows : (given : Given) (draft : Draft) (end : Flows) (rest behind : List ℕ) (all : List BlockView) → BlockAttributes draft.flows end rest behind →
-    GoesOnBraced end draft.blocks behind all → Seen (At stages.FlowName given draft) rest all
+    GoesOnBraced given.wide end draft.blocks behind all → Seen (At stages.FlowName given draft) rest all
 sees_flows given draft end rest behind all (LastFlow _ _ _ b1 _ takes sign) braced =
     Further (WordLexeme (block_attribute_word takes.attribute)) (At (stages.FlowEquals takes.attribute) given draft) takes.b1 (rw (flow_new draft.flows takes.attribute takes.free) refl)
     (word_takes (block_attribute_word takes.attribute) rest takes.b1 takes.name)
@@ -153,7 +159,7 @@ sees_flows given draft end rest behind all (MoreFlows _ then _ _ b1 b2 _ takes s
       },
     )
 
-sees_open : (given : Given) (draft : Draft) (flows : Flows) (rest behind : List ℕ) (all : List BlockView) → Head flows rest behind → GoesOnItems flows [] [] draft.blocks behind all → Seen (At stages.Open given draft) rest all
+sees_open : (given : Given) (draft : Draft) (flows : Flows) (rest behind : List ℕ) (all : List BlockView) → Head flows rest behind → GoesOnItems given.wide flows [] [] draft.blocks behind all → Seen (At stages.Open given draft) rest all
 sees_open given draft flows rest behind all (Plain _ _ sign) items =
     Further (SignLexeme 123) (At stages.Items given (record draft { entries = []; pairs = []; flows = no_flows })) behind refl (sign_takes 123 rest behind sign) items
 sees_open given draft flows rest behind all (WithFlows _ _ b1 b2 _ sign attributes brace) items =
@@ -185,7 +191,7 @@ sees_at stages.Flowed given draft rest all (CommaFlows behind sign goes) =
     Further (SignLexeme 44) (At stages.FlowName given draft) behind (rw (flows_free draft.flows goes.end behind goes.behind goes.attributes) refl) (sign_takes 44 rest behind sign) goes
 sees_at stages.Braced given draft rest all goes = Further (SignLexeme 123) (At stages.Items given (record draft { entries = []; pairs = [] })) goes.behind refl (sign_takes 123 rest goes.behind goes.sign) goes.items
 sees_at stages.Items given draft rest all goes = sees_items given draft rest goes.behind all goes.more goes.more_entries goes.more_pairs goes.items goes.filled goes.others goes.is
-sees_at stages.Named given draft rest all (Bracket behind sign goes) = Further (SignLexeme 91) (At stages.Attribute no_attribute draft) behind refl (sign_takes 91 rest behind sign) goes
+sees_at stages.Named given draft rest all (Bracket behind sign goes) = Further (SignLexeme 91) (At stages.Attribute (no_attribute given.wide) draft) behind refl (sign_takes 91 rest behind sign) goes
 sees_at stages.Named given draft rest all (Below behind sign goes) = Further (SignLexeme 60) (At stages.High given draft) behind refl (sign_takes 60 rest behind sign) goes
 sees_at stages.High given draft rest all goes =
     Further (WordLexeme goes.high) (At stages.Items given (record draft { pairs = draft.pairs ++ record { low = draft.name; high = goes.high } ∷ [] })) goes.behind (rw goes.named refl) (word_takes goes.high rest goes.behind goes.word) goes.items

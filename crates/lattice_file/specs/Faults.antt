@@ -1,5 +1,5 @@
 -- When each fault of the blocks of a file comes.
-use Rattle.std.specs.Prelude.{◌≡◌, ◌≢◌, ℕ, ◌+◌, ◌<◌, ◌≤◌, List, length, Result, Ok, Err}
+use Rattle.std.specs.Prelude.{◌≡◌, ◌≢◌, ℕ, ◌+◌, ◌<◌, ◌≤◌, List, length, Result, Ok, Err, Bool}
 use Rattle.lattice_core.specs.Building.{Refuses}
 use Rattle.lattice_core.specs.declared.LatticeFault.TheVariants.{NoMemory}
 use Rattle.lattice_file.specs.declared.reading.LatticeFileFault.{LatticeFileFault}
@@ -25,31 +25,31 @@ IsBuildFault blocks OutOfMemory = Unit {0}
 IsBuildFault blocks _ = ⊥
 
 -- the bytes are a text of at most 16 blocks, which make these lattices, and no two of these have a name in common
-pub record Reads (bytes : List ℕ) (lattices : List LatticeView) : Type 0 where
+pub record Reads (wide : Bool) (bytes : List ℕ) (lattices : List LatticeView) : Type 0 where
   pub blocks : List BlockView
-  pub text : IsLatticeText blocks bytes
+  pub text : IsLatticeText wide blocks bytes
   pub few : length blocks ≤ 16
   pub built : AreAllBuilt blocks lattices
   pub apart : AreApart lattices (length lattices)
 
 -- the bytes are a text of blocks of which this one is the first that makes no lattice
-pub record IsRefusedBlock (bytes : List ℕ) (number : ℕ) (reason : LatticeFault) : Type 0 where
+pub record IsRefusedBlock (wide : Bool) (bytes : List ℕ) (number : ℕ) (reason : LatticeFault) : Type 0 where
   pub blocks : List BlockView
-  pub text : IsLatticeText blocks bytes
+  pub text : IsLatticeText wide blocks bytes
   pub few : length blocks ≤ 16
   pub first : IsFirstRefused blocks number reason
 
 -- the bytes are a text of over 16 blocks
-pub record HasTooMany (bytes : List ℕ) : Type 0 where
+pub record HasTooMany (wide : Bool) (bytes : List ℕ) : Type 0 where
   pub blocks : List BlockView
-  pub text : IsLatticeText blocks bytes
+  pub text : IsLatticeText wide blocks bytes
   pub many : 16 < length blocks
 
 -- the bytes are a text of blocks whose lattices share this name first
-pub record HasSharedName (bytes name : List ℕ) : Type 0 where
+pub record HasSharedName (wide : Bool) (bytes name : List ℕ) : Type 0 where
   pub blocks : List BlockView
   pub lattices : List LatticeView
-  pub text : IsLatticeText blocks bytes
+  pub text : IsLatticeText wide blocks bytes
   pub few : length blocks ≤ 16
   pub built : AreAllBuilt blocks lattices
   pub first : IsFirstShared lattices name
@@ -64,16 +64,16 @@ IsAnswerFor blocks (Err (SharedName name)) = (length blocks ≤ 16) × (lattices
 IsAnswerFor blocks (Err OutOfMemory) = Unit {0}
 
 -- the line and the column of the first place up to which no lattice text begins so
-pub record IsFirstBadPlace (bytes : List ℕ) (line column : ℕ) : Type 0 where
+pub record IsFirstBadPlace (wide : Bool) (bytes : List ℕ) (line column : ℕ) : Type 0 where
   pub place : ℕ
-  pub first : IsFirstBad bytes place
+  pub first : IsFirstBad wide bytes place
   pub line_is : line ≡ line_of bytes place
   pub column_is : column ≡ column_of bytes place
 
 -- when each fault of a file comes
-abbrev pub IsFileFault : List ℕ → LatticeFileFault → Type 0
-IsFileFault bytes (Block number reason) = IsRefusedBlock bytes number reason
-IsFileFault bytes (Grammar line column) = IsFirstBadPlace bytes line column
-IsFileFault bytes TooManyLattices = HasTooMany bytes
-IsFileFault bytes (SharedName name) = HasSharedName bytes name
-IsFileFault bytes OutOfMemory = Unit {0}
+abbrev pub IsFileFault : Bool → List ℕ → LatticeFileFault → Type 0
+IsFileFault wide bytes (Block number reason) = IsRefusedBlock wide bytes number reason
+IsFileFault wide bytes (Grammar line column) = IsFirstBadPlace wide bytes line column
+IsFileFault wide bytes TooManyLattices = HasTooMany wide bytes
+IsFileFault wide bytes (SharedName name) = HasSharedName wide bytes name
+IsFileFault wide bytes OutOfMemory = Unit {0}

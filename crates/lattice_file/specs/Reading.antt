@@ -24,6 +24,6 @@ IsLexemeFault reader bytes at (At place) = LexemeFails (standing_of reader) byte
 IsLexemeFault reader bytes at NoMemory = Unit {0}
 
 -- the first place up to which no text begins so, or memory ran out
-abbrev pub IsTextFault : List ℕ → TextFault → Type 0
-IsTextFault bytes (At place) = IsFirstBad bytes place
-IsTextFault bytes NoMemory = Unit {0}
+abbrev pub IsTextFault : Bool → List ℕ → TextFault → Type 0
+IsTextFault wide bytes (At place) = IsFirstBad wide bytes place
+IsTextFault wide bytes NoMemory = Unit {0}

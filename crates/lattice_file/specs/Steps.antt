@@ -20,8 +20,10 @@ use Rattle.lattice_file.specs.declared.passing.BlockAttribute.TheVariants.{Ptrfl
 use Rattle.lattice_file.specs.declared.blocks.Stage.{Stage}
 use Rattle.lattice_file.specs.declared.blocks.Stage.TheVariants as stages
 use Rattle.lattice_file.specs.Blocks.{BlockView}
-use Rattle.lattice_file.specs.Text.{lengthens, stands_in_text, is_element_name, entry_of, no_attribute, attribute_word, has_attribute, block_attribute_word, has_flow}
+use Rattle.lattice_file.specs.Text.{lengthens, stands_in_text, is_element_name, entry_of, no_attribute, attribute_word, has_attribute, is_deref, block_attribute_word, has_flow}
 use Rattle.lattice_file.specs.Going.{Draft, Goes}
+use Rattle.lattice_core.specs.declared.Deref.{Deref}
+use Rattle.lattice_core.specs.declared.Deref.TheVariants as derefs
 
 pub data Lexeme : Type 0 where
   WordLexeme : List ℕ → Lexeme
@@ -68,17 +70,21 @@ level_named word = option_or (only_if (bytes_eq word (codes "ref")) Ref) (only_i
 abbrev pub sign_named : List ℕ → Option Sign
 sign_named word = option_or (only_if (bytes_eq word (codes "pos")) Pos) (option_or (only_if (bytes_eq word (codes "neg")) Neg) (only_if (bytes_eq word (codes "eq")) Eq))
 
+-- `access` in files of wider C alone
+abbrev pub deref_named : Bool → List ℕ → Option Deref
+deref_named wide word = option_or (only_if (bytes_eq word (codes "yes")) derefs.Yes) (only_if (wide && bytes_eq word (codes "access")) derefs.Access)
+
 -- the attributes with a word as the value of one
 abbrev pub with_value : Attribute → Given → List ℕ → Option Given
 with_value attributes.Level given word = map_some (λ level. record given { level = Some level }) (level_named word)
 with_value attributes.Sign given word = map_some (λ sign. record given { sign = Some sign }) (sign_named word)
 with_value attributes.Color given word = None
 with_value attributes.Write given word = only_if (bytes_eq word (codes "yes")) (record given { write = true })
-with_value attributes.Deref given word = only_if (bytes_eq word (codes "yes")) (record given { deref = true })
+with_value attributes.Deref given word = map_some (λ deref. record given { deref = deref }) (deref_named given.wide word)
 
 -- no attribute is left
 abbrev pub is_full : Given → Bool
-is_full given = is_some given.level && is_some given.sign && given.color && given.write && given.deref
+is_full given = is_some given.level && is_some given.sign && given.color && given.write && is_deref given.deref
 
 -- this attribute of a block, if a word is its name and the block does not have it yet
 abbrev pub if_flow : Flows → List ℕ → BlockAttribute → Option BlockAttribute
@@ -160,7 +166,7 @@ next_by_sign stages.Flowed given draft sign = option_or
 next_by_sign stages.Braced given draft sign = only_if (nat_eq sign 123) (record { stage = stages.Items; given = given; draft = record draft { entries = []; pairs = [] } })
 next_by_sign stages.Items given draft sign = only_if (nat_eq sign 125 && is_nonempty draft.entries) (record { stage = stages.Outside; given = given; draft = with_block draft })
 next_by_sign stages.Named given draft sign = option_or
-    (only_if (nat_eq sign 91) (record { stage = stages.Attribute; given = no_attribute; draft = draft }))
+    (only_if (nat_eq sign 91) (record { stage = stages.Attribute; given = no_attribute given.wide; draft = draft }))
     (only_if (nat_eq sign 60) (record { stage = stages.High; given = given; draft = draft }))
 next_by_sign stages.High given draft sign = None
 next_by_sign stages.Attribute given draft sign = None

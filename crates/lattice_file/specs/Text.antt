@@ -19,6 +19,8 @@ use Rattle.lattice_file.specs.declared.words.Given.{Given}
 use Rattle.lattice_file.specs.declared.passing.BlockAttribute.{BlockAttribute}
 use Rattle.lattice_file.specs.declared.passing.BlockAttribute.TheVariants.{Ptrflow, Fieldflow}
 use Rattle.lattice_file.specs.Blocks.{BlockView}
+use Rattle.lattice_core.specs.declared.Deref.{Deref}
+use Rattle.lattice_core.specs.declared.Deref.TheVariants as derefs
 
 -- space, tab, carriage return, line feed
 abbrev pub is_blank : ℕ → Bool
@@ -103,13 +105,18 @@ attribute_word attributes.Color = codes "color"
 attribute_word attributes.Write = codes "write"
 attribute_word attributes.Deref = codes "deref"
 
+abbrev pub is_deref : Deref → Bool
+is_deref derefs.No = false
+is_deref derefs.Yes = true
+is_deref derefs.Access = true
+
 -- an entry has this attribute already
 abbrev pub has_attribute : Given → Attribute → Bool
 has_attribute given attributes.Level = is_some given.level
 has_attribute given attributes.Sign = is_some given.sign
 has_attribute given attributes.Color = given.color
 has_attribute given attributes.Write = given.write
-has_attribute given attributes.Deref = given.deref
+has_attribute given attributes.Deref = is_deref given.deref
 
 abbrev pub level_word : Level → List ℕ
 level_word Ref = codes "ref"
@@ -126,13 +133,19 @@ IsLevel word level = word ≡ level_word level
 abbrev pub IsSign : List ℕ → Sign → Type 0
 IsSign word sign = word ≡ sign_word sign
 
+-- `access` in files of wider C alone
+abbrev pub IsDeref : Bool → List ℕ → Deref → Type 0
+IsDeref wide word derefs.No = ⊥
+IsDeref wide word derefs.Yes = word ≡ codes "yes"
+IsDeref wide word derefs.Access = (wide ≡ true) × (word ≡ codes "access")
+
 -- what a word as the value of an attribute makes of the attributes
 abbrev pub Gives : Attribute → List ℕ → Given → Given → Type 0
 Gives attributes.Level word given then = (level : Level) × IsLevel word level × (then ≡ record given { level = Some level })
 Gives attributes.Sign word given then = (sign : Sign) × IsSign word sign × (then ≡ record given { sign = Some sign })
 Gives attributes.Color word given then = ⊥
 Gives attributes.Write word given then = (word ≡ codes "yes") × (then ≡ record given { write = true })
-Gives attributes.Deref word given then = (word ≡ codes "yes") × (then ≡ record given { deref = true })
+Gives attributes.Deref word given then = (deref : Deref) × IsDeref given.wide word deref × (then ≡ record given { deref = deref })
 
 -- a value of an attribute
 pub data TakesValue : Attribute → Given → Given → List ℕ → List ℕ → Type 0 where
@@ -150,16 +163,17 @@ pub data Attributes : Given → Given → List ℕ → List ℕ → Type 0 where
 abbrev pub entry_of : List ℕ → Given → Entry
 entry_of name given = record { name = name; level = unwrap_or given.level Value; sign = unwrap_or given.sign Eq; write = given.write; deref = given.deref }
 
-abbrev pub no_attribute : Given
-no_attribute = record { level = None; sign = None; color = false; write = false; deref = false }
+-- of an entry of a file that is read as wider C or not
+abbrev pub no_attribute : Bool → Given
+no_attribute wide = record { wide = wide; level = None; sign = None; color = false; write = false; deref = derefs.No }
 
 -- entries and order lines, mixed in any order, and }
-pub data Items : List Entry → List Pair → List ℕ → List ℕ → Type 0 where
-  Close : (bytes rest : List ℕ) → TakesSign 125 bytes rest → Items [] [] bytes rest
+pub data Items (wide : Bool) : List Entry → List Pair → List ℕ → List ℕ → Type 0 where
+  Close : (bytes rest : List ℕ) → TakesSign 125 bytes rest → Items wide [] [] bytes rest
   EntryItem : (name : List ℕ) (given : Given) (entries : List Entry) (pairs : List Pair) (b0 b1 b2 b3 rest : List ℕ) → is_element_name name ≡ true → TakesWord name b0 b1 → TakesSign 91 b1 b2 →
-      Attributes no_attribute given b2 b3 → Items entries pairs b3 rest → Items (entry_of name given ∷ entries) pairs b0 rest
+      Attributes (no_attribute wide) given b2 b3 → Items wide entries pairs b3 rest → Items wide (entry_of name given ∷ entries) pairs b0 rest
   LineItem : (low high : List ℕ) (entries : List Entry) (pairs : List Pair) (b0 b1 b2 b3 rest : List ℕ) → is_element_name low ≡ true → is_element_name high ≡ true → TakesWord low b0 b1 → TakesSign 60 b1 b2 →
-      TakesWord high b2 b3 → Items entries pairs b3 rest → Items entries (record { low = low; high = high } ∷ pairs) b0 rest
+      TakesWord high b2 b3 → Items wide entries pairs b3 rest → Items wide entries (record { low = low; high = high } ∷ pairs) b0 rest
 
 -- the word of an attribute of a block
 abbrev pub block_attribute_word : BlockAttribute → List ℕ
@@ -202,8 +216,8 @@ pub data Head : Flows → List ℕ → List ℕ → Type 0 where
   Plain : (b0 rest : List ℕ) → TakesSign 123 b0 rest → Head no_flows b0 rest
   WithFlows : (flows : Flows) (b0 b1 b2 rest : List ℕ) → TakesSign 91 b0 b1 → BlockAttributes no_flows flows b1 b2 → TakesSign 123 b2 rest → Head flows b0 rest
 
--- the bytes are a lattice text of these blocks, each with at least one entry
-pub data IsLatticeText : List BlockView → List ℕ → Type 0 where
-  End : (bytes : List ℕ) → Gap bytes [] → IsLatticeText [] bytes
+-- the bytes are a lattice text of these blocks, each with at least one entry, which is read as one of wider C or not
+pub data IsLatticeText (wide : Bool) : List BlockView → List ℕ → Type 0 where
+  End : (bytes : List ℕ) → Gap bytes [] → IsLatticeText wide [] bytes
   NextBlock : (block : BlockView) (blocks : List BlockView) (b0 b1 b2 b3 rest : List ℕ) → TakesWord (codes "partial") b0 b1 → TakesWord (codes "order") b1 b2 → Head block.flows b2 b3 →
-      Items block.entries block.pairs b3 rest → 0 < length block.entries → IsLatticeText blocks rest → IsLatticeText (block ∷ blocks) b0
+      Items wide block.entries block.pairs b3 rest → 0 < length block.entries → IsLatticeText wide blocks rest → IsLatticeText wide (block ∷ blocks) b0

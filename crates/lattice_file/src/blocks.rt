@@ -117,14 +117,15 @@ pub struct Reader {
 }
 
 impl Reader {
-    pub fn new(alloc: Global) -> Reader
+    pub fn new(alloc: Global, wide: bool) -> Reader
         ensures stage { result.stage ≡ Stage.Outside }
+        ensures wide { result.given.wide ≡ wide }
         ensures blocks { result.blocks.items ≡ [] }
     {
         Reader {
             alloc,
             stage: Stage::Outside,
-            given: Given::none(),
+            given: Given::none(wide),
             name: Name::new(Vec::new(alloc)),
             entries: Vec::new(alloc),
             pairs: Vec::new(alloc),
@@ -173,7 +174,7 @@ impl Reader {
             Stage::Order => shared_front(word, b"order"),
             Stage::Items | Stage::High => name_front(word),
             Stage::Attribute => self.given.name_front(word),
-            Stage::Value(attribute) => attribute.value_front(word),
+            Stage::Value(attribute) => self.given.value_front(attribute, word),
             Stage::FlowName => name_of_flow_front(&self.flows, word),
             Stage::FlowValue(attribute) => attribute.value_front(word),
             Stage::Open | Stage::FlowEquals(_) | Stage::Flowed | Stage::Braced => 0,
@@ -343,7 +344,7 @@ impl Reader {
         ensures { GoesOnBy self.old self.new (SignLexeme sign) result }
     {
         if sign == b'[' {
-            self.given = Given::none();
+            self.given = Given::none(self.given.wide);
             self.stage = Stage::Attribute;
             return true;
         }

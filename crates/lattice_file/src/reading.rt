@@ -158,11 +158,11 @@ fn take_lexeme(reader: &mut Reader, bytes: &[u8], at: usize) -> Result<usize, Te
 }
 
 /// The blocks of a text, in one pass over it.
-fn read_blocks(alloc: Global, bytes: &[u8]) -> Result<Vec<Block>, TextFault>
-    ensures text { IfOk result (λ blocks. IsLatticeText blocks.items bytes.now) }
-    ensures first { IfErr result (IsTextFault bytes.now) }
+fn read_blocks(alloc: Global, wide: bool, bytes: &[u8]) -> Result<Vec<Block>, TextFault>
+    ensures text { IfOk result (λ blocks. IsLatticeText wide blocks.items bytes.now) }
+    ensures first { IfErr result (IsTextFault wide bytes.now) }
 {
-    let mut reader = Reader::new(alloc);
+    let mut reader = Reader::new(alloc, wide);
     let mut at = 0;
     loop {
         let start = match skip_gap(bytes, at) {
@@ -219,16 +219,17 @@ fn lattices_of(alloc: Global, blocks: Vec<Block>) -> Result<Lattices, LatticeFil
     Ok(all)
 }
 
-/// The lattices of a file, in time and memory linear in it, or the first reason why it does not read: where it is no
-/// text of blocks, then that there are over 16 of them, then the first block that makes no lattice, then the first name
-/// that an earlier block has. Bytes are a text of one list of blocks at most, so memory aside the answer is one.
-pub fn read_lattices(alloc: Global, bytes: &[u8]) -> Result<Lattices, LatticeFileFault>
+/// The lattices of a file, which is read as one of wider C or not, in time and memory linear in it, or the first reason
+/// why it does not read: where it is no text of blocks, then that there are over 16 of them, then the first block that
+/// makes no lattice, then the first name that an earlier block has. Bytes are a text of one list of blocks at most, so
+/// memory aside the answer is one.
+pub fn read_lattices(alloc: Global, wide: bool, bytes: &[u8]) -> Result<Lattices, LatticeFileFault>
     requires { length bytes.now < 2 ^ 32 - 1 }
-    ensures read { IfOk result (Reads bytes.now) }
-    ensures refused { IfErr result (IsFileFault bytes.now) }
-    ensures only { (blocks : _) → IsLatticeText blocks bytes.now → IsAnswerFor blocks result }
+    ensures read { IfOk result (Reads wide bytes.now) }
+    ensures refused { IfErr result (IsFileFault wide bytes.now) }
+    ensures only { (blocks : _) → IsLatticeText wide blocks bytes.now → IsAnswerFor blocks result }
 {
-    let blocks = match read_blocks(alloc, bytes) {
+    let blocks = match read_blocks(alloc, wide, bytes) {
         Ok(blocks) => blocks,
         Err(TextFault::NoMemory) => return Err(LatticeFileFault::NoMemory),
         Err(TextFault::At(place)) => {

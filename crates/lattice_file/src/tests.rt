@@ -56,6 +56,27 @@ fn shown(
 }
 
 #[test]
+fn accesses_are_bounded_in_wider_c_alone(rt: HostRuntime) -> Result<(), Fail> {
+    let alloc = rt.alloc();
+    let cases = [
+        ("partial order {$a[deref=access]}", true, "1"),
+        ("partial order {$a[deref=access]}", false, "at 1:25"),
+        (
+            "partial order {$a[deref=access,deref=yes]}",
+            true,
+            "at 1:32",
+        ),
+        ("partial order {$a[deref=accesses]}", true, "at 1:31"),
+        ("partial order {$a[write=access]}", true, "at 1:25"),
+    ];
+    for (text, wide, expected) in cases {
+        let outcome = shown(alloc, read_lattices(alloc, wide, text.as_bytes()))?;
+        assert_eq!(rt; outcome.as_slice(), expected.as_bytes());
+    }
+    Ok(())
+}
+
+#[test]
 fn each_text_reads_or_fails_at_its_place(rt: HostRuntime) -> Result<(), Fail> {
     let alloc = rt.alloc();
     let cases = [
@@ -142,7 +163,7 @@ fn each_text_reads_or_fails_at_its_place(rt: HostRuntime) -> Result<(), Fail> {
     ];
     for (text, want) in cases {
         if text.len() < 1000 {
-            let outcome = shown(alloc, read_lattices(alloc, text.as_bytes()))?;
+            let outcome = shown(alloc, read_lattices(alloc, false, text.as_bytes()))?;
             assert_eq!(rt; outcome.as_slice(), want.as_bytes());
         }
     }
@@ -196,7 +217,7 @@ fn a_place_is_the_byte_with_which_no_text_begins_any_more(rt: HostRuntime) -> Re
     ];
     for (text, want) in cases {
         if text.len() < 1000 {
-            let outcome = shown(alloc, read_lattices(alloc, text.as_bytes()))?;
+            let outcome = shown(alloc, read_lattices(alloc, false, text.as_bytes()))?;
             assert_eq!(rt; outcome.as_slice(), want.as_bytes());
         }
     }
@@ -218,7 +239,7 @@ fn a_chain_of_64_reads_and_65_entries_are_too_many(rt: HostRuntime) -> Result<()
         }
         text.extend_from_slice(b"}")?;
         if text.len() < 10000 {
-            let outcome = shown(alloc, read_lattices(alloc, text.as_slice()))?;
+            let outcome = shown(alloc, read_lattices(alloc, false, text.as_slice()))?;
             let want = if count == 64 { "1" } else { "block 1 too many" };
             assert_eq!(rt; outcome.as_slice(), want.as_bytes());
         }
@@ -235,7 +256,7 @@ fn seventeen_blocks_are_too_many(rt: HostRuntime) -> Result<(), Fail> {
             "partial order {{$a{count}[sign=pos]}}"
         )?.as_bytes())?;
         if text.len() < 1000 {
-            let outcome = shown(alloc, read_lattices(alloc, text.as_slice()))?;
+            let outcome = shown(alloc, read_lattices(alloc, false, text.as_slice()))?;
             let want = if count < 17 {
                 format!(in alloc; "{count}")?
             } else {

@@ -1,18 +1,19 @@
 //! The words of a lattice file, and how far a word can be one of them.
 
-ghost use Rattle.std.specs.Prelude.{◌≡◌, ◌≤◌, ◌<◌, ◌⊎◌, [], ◌∷◌, true, false, length, take};
-ghost use Rattle.std.specs.Prelude.{is_some, Some, slice_index};
+ghost use Rattle.std.specs.Prelude.{◌≡◌, ◌≤◌, ◌<◌, ◌⊎◌, ◌&&◌, [], ◌∷◌, true, false, length, take};
+ghost use Rattle.std.specs.Prelude.{is_some, Some, slice_index, codes};
+ghost use Rattle.std.specs.Str.{bytes_eq};
 ghost use Rattle.std.specs.List.{list_all};
-ghost use Rattle.lattice_file.specs.Text.{no_attribute, has_attribute, attribute_word, is_letter};
+ghost use Rattle.lattice_file.specs.Text.{no_attribute, has_attribute, is_deref, attribute_word};
+ghost use Rattle.lattice_file.specs.Text.{is_letter};
 ghost use Rattle.lattice_file.specs.Text.{is_name_byte, begins_with_dollar, is_element_name};
 ghost use Rattle.lattice_file.specs.Steps.{map_some, if_named, attribute_named, level_named};
-ghost use Rattle.lattice_file.specs.Steps.{sign_named, with_value, is_full};
+ghost use Rattle.lattice_file.specs.Steps.{sign_named, deref_named, with_value, is_full};
 ghost use Rattle.lattice_file.specs.Extents.{IsFront};
 ghost use Rattle.lattice_file.specs.declared.words.Attribute.TheVariants.{Write as WriteAttribute};
-ghost use Rattle.lattice_file.specs.declared.words.Attribute.TheVariants.{Deref as DerefAttribute};
 
 use crate::lexemes::shared_front;
-use lattice_core::{Level, Sign};
+use lattice_core::{Deref, Level, Sign};
 
 /// What an entry says of its element.
 #[derive(Clone, Copy, PartialEq, Eq, Debug)]
@@ -24,27 +25,38 @@ pub enum Attribute {
     Deref,
 }
 
-/// The attributes of an entry as far as it is read.
+/// The attributes of an entry as far as it is read, in a file that is read as one of wider C or not.
 #[derive(Clone, Copy, PartialEq, Eq, Debug)]
 pub struct Given {
+    pub wide: bool,
     pub level: Option<Level>,
     pub sign: Option<Sign>,
     pub color: bool,
     pub write: bool,
-    pub deref: bool,
+    pub deref: Deref,
 }
 
 impl Given {
     /// No attribute.
-    pub fn none() -> Given
-        ensures { result ≡ no_attribute }
+    pub fn none(wide: bool) -> Given
+        ensures { result ≡ no_attribute wide }
     {
         Given {
+            wide,
             level: None,
             sign: None,
             color: false,
             write: false,
-            deref: false,
+            deref: Deref::No,
+        }
+    }
+
+    fn has_deref(&self) -> bool
+        ensures { result ≡ is_deref self.now.deref }
+    {
+        match self.deref {
+            Deref::No => false,
+            Deref::Yes | Deref::Access => true,
         }
     }
 
@@ -57,7 +69,7 @@ impl Given {
             Attribute::Sign => self.sign.is_some(),
             Attribute::Color => self.color,
             Attribute::Write => self.write,
-            Attribute::Deref => self.deref,
+            Attribute::Deref => self.has_deref(),
         }
     }
 
@@ -65,7 +77,7 @@ impl Given {
     pub fn is_full(&self) -> bool
         ensures { result ≡ is_full self.now }
     {
-        self.level.is_some() && self.sign.is_some() && self.color && self.write && self.deref
+        self.level.is_some() && self.sign.is_some() && self.color && self.write && self.has_deref()
     }
 
     /// How far a word can be the name of this attribute, if it is not given yet.
@@ -124,7 +136,7 @@ impl Given {
             Attribute::Sign => self.with_sign(sign_of(word)),
             Attribute::Color => None,
             Attribute::Write => self.with_write(word),
-            Attribute::Deref => self.with_deref(word),
+            Attribute::Deref => self.with_deref(deref_of(self.wide, word)),
         }
     }
 
@@ -165,15 +177,30 @@ impl Given {
         Some(given)
     }
 
-    fn with_deref(self, word: &[u8]) -> Option<Given>
-        ensures { result ≡ with_value DerefAttribute self word.now }
+    fn with_deref(self, deref: Option<Deref>) -> Option<Given>
+        ensures { result ≡ map_some (λ deref. record self { deref = deref }) deref }
     {
         let mut given = self;
-        if word != b"yes".as_slice() {
-            return None;
+        match deref {
+            Some(deref) => {
+                given.deref = deref;
+                Some(given)
+            }
+            None => None,
         }
-        given.deref = true;
-        Some(given)
+    }
+
+    /// How far a word can be a value of an attribute.
+    pub fn value_front(&self, attribute: Attribute, word: &[u8]) -> usize
+        ensures { IsFront (λ w. is_some (with_value attribute self.now w)) word.now result }
+    {
+        match attribute {
+            Attribute::Level => level_front(word),
+            Attribute::Sign => sign_front(word),
+            Attribute::Color => 0,
+            Attribute::Write => shared_front(word, b"yes"),
+            Attribute::Deref => deref_front(self.wide, word),
+        }
     }
 }
 
@@ -203,6 +230,18 @@ fn sign_of(word: &[u8]) -> Option<Sign>
     }
 }
 
+fn deref_of(wide: bool, word: &[u8]) -> Option<Deref>
+    ensures { result ≡ deref_named wide word.now }
+{
+    if word == b"yes".as_slice() {
+        Some(Deref::Yes)
+    } else if wide && word == b"access".as_slice() {
+        Some(Deref::Access)
+    } else {
+        None
+    }
+}
+
 /// The longer of two fronts.
 pub(crate) fn longer(one: usize, other: usize) -> usize
     ensures first { one ≤ result }
@@ -225,6 +264,23 @@ fn sign_front(word: &[u8]) -> usize
     longer(shared_front(word, b"pos"), neg_or_eq)
 }
 
+fn access_front(wide: bool, word: &[u8]) -> usize
+    ensures { IsFront (λ w. wide && bytes_eq w (codes "access")) word.now result }
+{
+    if wide {
+        shared_front(word, b"access")
+    } else {
+        0
+    }
+}
+
+fn deref_front(wide: bool, word: &[u8]) -> usize
+    ensures { IsFront (λ w. is_some (deref_named wide w)) word.now result }
+{
+    let access = access_front(wide, word);
+    longer(shared_front(word, b"yes"), access)
+}
+
 impl Attribute {
     /// The attribute's name.
     fn word(self) -> &'static [u8]
@@ -236,19 +292,6 @@ impl Attribute {
             Attribute::Color => b"color",
             Attribute::Write => b"write",
             Attribute::Deref => b"deref",
-        }
-    }
-
-    /// How far a word can be a value of the attribute.
-    pub fn value_front(self, word: &[u8]) -> usize
-        ensures { (given : Given) →
-            IsFront (λ w. is_some (with_value self given w)) word.now result }
-    {
-        match self {
-            Attribute::Level => level_front(word),
-            Attribute::Sign => sign_front(word),
-            Attribute::Color => 0,
-            Attribute::Write | Attribute::Deref => shared_front(word, b"yes"),
         }
     }
 }

@@ -14,6 +14,10 @@ pub record FitBoth (over spare : ℕ) (tape other : List Op) (text k : List Lexe
 pub nothing : {k : List Lexeme} → Fits 0 0 [] k k
 nothing = record { most = omega arith }
 
+-- ops whose tokens stand elsewhere
+pub elsewhere : (tape : List Op) {k : List Lexeme} → Fits (length tape) 0 tape k k
+elsewhere tape = record { most = omega arith }
+
 -- an op without a token
 pub one : {op : Op} {k : List Lexeme} → Fits 1 0 (op ∷ []) k k
 one = record { most = omega arith }
@@ -69,6 +73,17 @@ module _ {m l n o : ℕ} where
   pub both_past : {xs us : List Op} {t u k : List Lexeme} → FitBoth m l xs us t u → Fits n o [] u k →
       FitBoth (m + n) (l + o) xs us t k
   both_past p q = record { both = (let a = p.both in let b = q.most in omega (arith, a, b)) }
+
+  -- the first tape goes on
+  pub goes_on : {xs us ys : List Op} {t u k : List Lexeme} → FitBoth m l xs us t u → Fits n o ys u k →
+      FitBoth (m + n) (l + o) (xs ++ ys) us t k
+  goes_on {xs} {ys = ys} p q =
+      record { both = (let e = length-append xs ys in let a = p.both in let b = q.most in omega (arith, e, a, b)) }
+
+  -- the ops of the front of the text are in no tape here
+  pub makes_room : {xs ys : List Op} {t u k : List Lexeme} → Fits m l xs t u → Fits n o ys u k →
+      Fits (m + n) (length xs + l + o) ys t k
+  makes_room p q = record { most = (let a = p.most in let b = q.most in omega (arith, a, b)) }
 
   -- behind what stands before them, one behind the other
   pub join_both : {xs ys vs : List Op} {t u k : List Lexeme} → Fits m l xs t u → FitBoth n o ys vs u k →

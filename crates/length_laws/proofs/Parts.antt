@@ -6,6 +6,7 @@ use Rattle.std.proofs.lemmas.List.Sorted.{length_permutation}
 use Rattle.std.proofs.lemmas.Bool.{eq-eqb}
 use Rattle.std.specs.Prelude.{if◌then◌else◌}
 use Rattle.c_words.specs.declared.kinds.Punct.{Punct}
+use Rattle.c_words.specs.declared.kinds.Punct.TheVariants as signs
 use Rattle.c_syntax.specs.declared.parts.Identifier.{Identifier}
 use Rattle.c_syntax.specs.declared.parts.Word.{Word}
 use Rattle.c_syntax.specs.declared.parts.Group.{Group}
@@ -21,11 +22,11 @@ use Rattle.c_syntax.specs.declared.parts.ArrayWord.TheVariants as array_words
 use Rattle.tape_ops.specs.declared.op.Op.{Op}
 use Rattle.tape_ops.specs.declared.specifier.TagKind.{TagKind}
 use Rattle.c_tree.specs.declared.lexeme.Lexeme.{Lexeme}
-use Rattle.c_tree.specs.Tree.{no_words, Params, no_params, more_params, Dots}
-use Rattle.c_tree.specs.Text.{some_sign_text, words_text, extensions_text, texts_text, group_text, tokens_between, attrs_text, label_text, assert_text, qual_text, quals_text, pointer_words_text, array_words_text, dots_text}
+use Rattle.c_tree.specs.Tree.{Expr, no_words, Params, no_params, more_params, Dots}
+use Rattle.c_tree.specs.Text.{other_names_text, names_text, some_sign_text, words_text, extensions_text, texts_text, group_text, tokens_between, attrs_text, label_text, assert_text, qual_text, quals_text, pointer_words_text, array_words_text, dots_text}
 use Rattle.c_tree.specs.Specifiers.{IsMix, basic_types}
-use Rattle.c_tree.specs.WellFormed.{IsElement, IsQual, IsPointerWord, IsArrayWord, IsEllipsis}
-use Rattle.c_tape.specs.Tape.{qual_tape, quals_tape, pointer_words_tape, array_words_tape, dots_tape, tag_tape, body_tape, quietly, in_scope, specs_with, type_name_with, params_with}
+use Rattle.c_tree.specs.WellFormed.{IsElement, IsQual, IsWordQual, IsPointerWord, IsArrayWord, IsEllipsis}
+use Rattle.c_tape.specs.Tape.{identifiers_tape, prefix_tape, qual_tape, quals_tape, pointer_words_tape, array_words_tape, dots_tape, tag_tape, body_tape, quietly, in_scope, specs_with, type_name_with, params_with}
 use Rattle.length_laws.proofs.Lengths.{Fits, FitBoth, nothing, one, so, join, skip, ends, skips, text_only, first_of}
 
 -- specifiers are no mix without a word
@@ -56,6 +57,12 @@ unless b p = either b (text_only p) p
 module _ {m l : ℕ} where
   pub quiet_fits : {tape : List Op} {t k : List Lexeme} → Fits m l tape t k → Fits (2 + m) l (quietly tape) t k
   quiet_fits p = so (join (join one p) one) (omega arith)
+
+  -- an operator before its operand, from what fits the tape of the operand only addressed and that of it taken
+  pub prefix_fits : (token : ℕ) (p : Punct) (e : Expr) (aims : Bool) {addressed taken : List Op} {t k : List Lexeme} →
+      Fits m l addressed t k → Fits m l taken t k → Fits (1 + m) l (prefix_tape token p e aims addressed taken) t k
+  prefix_fits token signs.Ampersand e aims p q = so (join p one) (omega arith)
+  prefix_fits token sign e aims p q = so (join q one) (omega arith)
 
   pub scope_fits : {tape : List Op} {t k : List Lexeme} → Fits m l tape t k → Fits (2 + m) l (in_scope tape) t k
   scope_fits p = so (join (join one p) one) (omega arith)
@@ -91,6 +98,16 @@ module _ {m l : ℕ} where
   some_sign_skip p None h = h
   some_sign_skip p (Some token) h = so (skip h) (omega arith)
 
+  other_names_skip : (names : List Identifier) {xs : List Op} {t k : List Lexeme} → Fits m l xs t k →
+      Fits m l xs (other_names_text names t) k
+  other_names_skip [] h = h
+  other_names_skip (name ∷ names) h = so (skip (skip (other_names_skip names h))) (omega arith)
+
+  pub names_skip : (names : List Identifier) {xs : List Op} {t k : List Lexeme} → Fits m l xs t k →
+      Fits m l xs (names_text names t) k
+  names_skip [] h = h
+  names_skip (name ∷ names) h = so (skip (other_names_skip names h)) (omega arith)
+
   pub words_skip : (words : List Word) {xs : List Op} {t k : List Lexeme} → Fits m l xs t k → Fits m l xs (words_text words t) k
   words_skip [] h = h
   words_skip (word ∷ words) h = so (skip (words_skip words h)) (omega arith)
@@ -121,6 +138,16 @@ module _ {m l : ℕ} where
     pub assert_skip : (it : Assert) {xs : List Op} {t k : List Lexeme} → Fits m l xs t k → Fits m l xs (assert_text all it t) k
     assert_skip it h = so (skip (group_skip it.group (so (skip h) (omega arith)))) (omega arith)
 
+-- identifiers of a list: each is a token
+
+other_names_fit : (names : List Identifier) {k : List Lexeme} → Fits 0 0 (identifiers_tape names) (other_names_text names k) k
+other_names_fit [] = nothing
+other_names_fit (name ∷ names) = so (skip (skip (join one (other_names_fit names)))) (lit≤ tt)
+
+pub names_fit : (names : List Identifier) {k : List Lexeme} → Fits 0 0 (identifiers_tape names) (names_text names k) k
+names_fit [] = nothing
+names_fit (name ∷ names) = so (skip (join one (other_names_fit names))) (lit≤ tt)
+
 -- qualifiers: each is a token at least
 
 module _ (all : List Lexeme) where
@@ -135,10 +162,10 @@ module _ (all : List Lexeme) where
   qual_fits (quals.Element token) h = element_fits (tokens_between all token token) h
   qual_fits (quals.Index token) h = so (skip one) (lit≤ tt)
 
-  quals_fit : (qs : List Qual) → All (IsQual all) qs → {k : List Lexeme} → Fits 0 0 (quals_tape qs) (quals_text all qs k) k
+  quals_fit : (qs : List Qual) → All (IsWordQual all) qs → {k : List Lexeme} → Fits 0 0 (quals_tape qs) (quals_text all qs k) k
   quals_fit [] h = nothing
   quals_fit (q ∷ qs) h =
-      so (join (qual_fits q (All-head (IsQual all) q qs h)) (quals_fit qs (All-tail (IsQual all) q qs h))) (lit≤ tt)
+      so (join (qual_fits q (All-head (IsWordQual all) q qs h).0) (quals_fit qs (All-tail (IsWordQual all) q qs h))) (lit≤ tt)
 
   pub pointer_words_fit : (words : List PointerWord) → All (IsPointerWord all) words → {k : List Lexeme} →
       Fits 0 0 (pointer_words_tape words) (pointer_words_text all words k) k

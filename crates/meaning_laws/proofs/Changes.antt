@@ -8,7 +8,7 @@ use Rattle.type_table.specs.Types.{CType}
 use Rattle.name_rules.specs.Spellings.{Spelling, Place, place, Named}
 use Rattle.name_rules.specs.Scopes.{Meaning, means_type, means_thing, Scope, no_scope, Role, typedef_role, object_role, function_role, parameter_role, field_role, Declared, declared_at, Names, Aggregate, is_place, thing_of, or_place, meaning, innermost, outer_scopes, inner_meaning, is_at_file, owner_of_some, owner_at, enter, leave, bound, tag_bound, with_declared, sized, with_aggregate, or_no_body, body_of, has_body, with_body, with_key, with_member, with_unnamed, tag_in, tag_through}
 use Rattle.name_rules.specs.Pieces.{is_function}
-use Rattle.name_rules.specs.Declaring.{use_by, used, Numbered, found_or_new, tag_used, untagged, opened, tag_known, begun_in, tag_begun, untagged_begun, the_thing, or_at, linked, thing_where, static_where, owner_where, declaring, declared_here, declared_thing, has_word, declared_typedef, declared_by, typedef_known, declared_some, declared_param, declared_member, struct_number, unnamed_member, keep, scope_kept, body_entered, body_left}
+use Rattle.name_rules.specs.Declaring.{use_by, used, Numbered, found_or_new, tag_used, untagged, opened, tag_known, begun_in, tag_begun, untagged_begun, the_thing, or_at, linked, thing_where, static_where, owner_where, declaring, declared_here, declared_thing, has_word, declared_typedef, declared_by, typedef_known, declared_some, declared_param, declared_member, struct_number, unnamed_member, keep, scope_kept, body_begun, body_counted, body_entered, body_left}
 use Rattle.name_rules.specs.Units.{no_names, shared, unit_begun}
 use Rattle.meaning_laws.specs.Meanings.{Differ, IsFirst, IsThing, IsMember, HasFirst, MeaningIs, ScopesAre, ThingsAre, KeptIs, UseIs, AllFirst, AggregatesAre, AreFirst}
 use Rattle.meaning_laws.proofs.Growing.{known_same}
@@ -518,9 +518,8 @@ kept_are : (P : Place → Type 0) (kept : Option Scope) (scopes : List Scope) �
 kept_are P None scopes h k = k
 kept_are P (Some scope) scopes h k = (h, k)
 
-pub is_body_entered : (at first : Place) (is_plain : Bool) (s : Names) → AreFirst s →
-    AreFirst (body_entered at first is_plain s)
-is_body_entered at first is_plain s h = record {
+is_body_begun : (first : Place) (s : Names) → AreFirst s → AreFirst (body_begun first s)
+is_body_begun first s h = record {
   scopes = kept_are (IsFirst s.declared) s.kept s.scopes h.kept h.scopes;
   things = h.things;
   differ = h.differ;
@@ -530,6 +529,11 @@ is_body_entered at first is_plain s h = record {
   firsts = h.firsts;
   members = h.members;
 }
+
+pub is_body_entered : (at first : Place) (plain counted : Bool) (s : Names) → AreFirst s →
+    AreFirst (body_entered at first plain counted s)
+is_body_entered at first plain true s h = is_body_begun first (body_counted at first plain s) h
+is_body_entered at first plain false s h = is_body_begun first s h
 
 pub is_body_left : (s : Names) → AreFirst s → AreFirst (body_left s)
 is_body_left s h = is_left s h

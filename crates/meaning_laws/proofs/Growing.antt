@@ -1,6 +1,6 @@
 -- What each step adds to the declarations, behind those that are there, and what it leaves as it is.
 use Rattle.std.proofs.Common.{◌≡◌, ℕ, Bool, true, false, List, [], ◌∷◌, ◌++◌, length, Option, None, Some, refl, sym, ◌∙◌, ap, subst, append_assoc, append-nil}
-use Rattle.std.specs.Prelude.{◌&&◌, ◌||◌, if◌then◌else◌}
+use Rattle.std.specs.Prelude.{◌&&◌, ◌||◌, if◌then◌else◌, slice_get}
 use Rattle.std.specs.List.{last_or}
 use Rattle.c_words.specs.declared.kinds.Keyword.{Keyword}
 use Rattle.c_words.specs.declared.kinds.Keyword.TheVariants as keywords
@@ -15,14 +15,17 @@ use Rattle.tape_ops.specs.declared.declarator.DeclrOp.{DeclrOp}
 use Rattle.tape_ops.specs.declared.declarator.DeclrOp.TheVariants as declrs
 use Rattle.tape_ops.specs.declared.statement.StmtOp.{StmtOp}
 use Rattle.tape_ops.specs.declared.statement.StmtOp.TheVariants as stmts
-use Rattle.type_table.specs.Types.{CType}
+use Rattle.type_table.specs.Types.{CType, words_of}
 use Rattle.name_rules.specs.Spellings.{Spelling, Place, place, Named}
-use Rattle.name_rules.specs.Scopes.{object_role, function_role, Declared, Names, is_place, is_at_file, innermost, tag_in, tag_through, body_of, has_body, sized, with_key}
-use Rattle.name_rules.specs.Pieces.{is_function, decayed}
+use Rattle.name_rules.specs.Scopes.{object_role, function_role, Declared, Names, is_place, is_at_file, innermost, tag_in, tag_through, body_of, has_body, sized, with_key, with_faults}
+use Rattle.name_rules.specs.Pieces.{is_function, decayed, with_words}
 use Rattle.name_rules.specs.Declaring.{Numbered, found_or_new, tag_used, untagged, opened, tag_known, begun_in, untagged_number, linked, owner_where, thing_where, static_where, declared_here, declared_thing, declared_typedef, declared_by, typedef_known, declared_some, declared_param, declared_member, has_word, keep}
 use Rattle.name_rules.specs.Units.{unit_begun}
+use Rattle.name_rules.specs.Faults.{undeclared, defined_twice, no_type, fault_where}
+use Rattle.name_rules.specs.Identifiers.{OldParameter, Olds, is_typed, is_unknown, number_of_identifier, old_declared, old_declared_some, old_faults}
+use Rattle.name_rules.specs.Values.{value}
 use Rattle.name_steps.specs.State.{OpenDeclaration, State, no_declaration, innermost_or, with_innermost, with_names}
-use Rattle.name_steps.specs.Steps.{declaration, body, parameters, expression_step, specifier_step, declarator_step, body_entered_by, is_plain, statement_step, step, run}
+use Rattle.name_steps.specs.Steps.{declaration, body, parameters, expression_step, specifier_step, declarator_step, name_ended, name_declared, olds, with_olds, with_old_parameter, part_ended, shape_of_part, auto_typed, bare_or_base, body_entered_by, is_plain, is_counted, statement_step, step, run}
 use Rattle.name_steps.specs.Units.{Tape, tape_named, tapes_named}
 
 -- the second ones are the first ones and others behind them
@@ -149,10 +152,30 @@ pub keep_same : (own : Option Place) (s : Names) → (keep own s).declared ≡ s
 keep_same None s = refl
 keep_same (Some own) s = refl
 
-pub entered_same : (is_plain : Bool) (d : Option Declared) (s : Names) →
-    (body_entered_by is_plain d s).declared ≡ s.declared
-entered_same is_plain None s = refl
-entered_same is_plain (Some d) s = refl
+pub entered_same : (plain counted : Bool) (d : Option Declared) (s : Names) →
+    (body_entered_by plain counted d s).declared ≡ s.declared
+entered_same plain counted None s = refl
+entered_same plain true (Some d) s = refl
+entered_same plain false (Some d) s = refl
+
+-- lists of identifiers
+
+pub old_faults_same : (u : Spelling) (its : List OldParameter) (s : Names) → (old_faults u its s).declared ≡ s.declared
+old_faults_same u [] s = refl
+old_faults_same u (it ∷ others) s =
+    old_faults_same u others (with_faults (fault_where (is_unknown it.type) (place u it.token) undeclared) s)
+
+old_declared_grown : (u : Spelling) (own : Option Place) (it : Named) (t : CType) (i : Option ℕ) (its : Olds) →
+    Grown its.names.declared (old_declared u own it t i its).names.declared
+old_declared_grown u own it t None its = same _ _ refl
+old_declared_grown u own it t (Some i) its =
+    adds_grown u (Some it) _ _ (adds_param u (Some it) i own t
+    (with_faults (fault_where (is_typed (slice_get its.list i)) (place u it.token) defined_twice) its.names))
+
+old_some_grown : (u : Spelling) (own : Option Place) (it : Option Named) (t : CType) (its : Olds) →
+    Grown its.names.declared (old_declared_some u own it t its).names.declared
+old_some_grown u own None t its = same _ _ refl
+old_some_grown u own (Some it) t its = old_declared_grown u own it t (number_of_identifier (u.key it.name) its.list) its
 
 -- the names that are read
 
@@ -191,22 +214,47 @@ module _ (u : Spelling) where
   spec_grown st (specs.UnnamedMember token) = record { added = _; is = refl }
   spec_grown st op = same _ _ refl
 
+  name_grown : (st : State) → Grown st.names.declared (name_declared u st).names.declared
+  name_grown st =
+      adds_grown u (declaration st).name _ _
+      (adds_some u (untagged_number (declaration st).is_untagged (declaration st).type) (declaration st).name
+      (declaration st).storage (declaration st).declared st.names)
+
+  auto_grown : (token : ℕ) (t : Option CType) (st : State) → Grown st.names.declared (auto_typed u token t st).names.declared
+  auto_grown token t st = name_grown (record (part_ended st) {
+    names = with_faults (fault_where (is_unknown t) (place u token) no_type) st.names;
+    declarations = with_innermost
+        (record (declaration st) { declared = with_words (words_of (declaration st).type) (bare_or_base t) })
+        st.declarations;
+  })
+
+  old_grown : (st : State) → Grown st.names.declared (with_old_parameter u st).names.declared
+  old_grown st = by (has_word keywords.Typedef (declaration st).storage)
+    where
+      its : Olds
+      its = old_declared_some u (parameters st).own (declaration st).name (decayed (declaration st).declared) (olds st)
+
+      by : (b : Bool) → Grown st.names.declared (if b then name_declared u st else name_ended (with_olds its st)).names.declared
+      by true = name_grown st
+      by false = old_some_grown u (parameters st).own (declaration st).name (decayed (declaration st).declared) (olds st)
+
   declr_grown : (st : State) (op : DeclrOp) → Grown st.names.declared (declarator_step u st op).names.declared
   declr_grown st declrs.Param =
       adds_grown u (declaration st).name _ _ (adds_param u (declaration st).name (length (parameters st).types)
       (parameters st).own (decayed (declaration st).declared) st.names)
-  declr_grown st declrs.ParamsEnd = same _ _ (keep_same (parameters st).own st.names)
-  declr_grown st declrs.Declare =
-      adds_grown u (declaration st).name _ _
-      (adds_some u (untagged_number (declaration st).is_untagged (declaration st).type) (declaration st).name
-      (declaration st).storage (declaration st).declared st.names)
+  declr_grown st declrs.ParamsEnd =
+      same _ _ (keep_same (parameters st).own (old_faults u (parameters st).identifiers st.names)
+      ∙ old_faults_same u (parameters st).identifiers st.names)
+  declr_grown st declrs.Declare = name_grown st
+  declr_grown st (declrs.AutoEnd token) = auto_grown token (value (shape_of_part u st)) st
+  declr_grown st declrs.OldParam = old_grown st
   declr_grown st declrs.Member =
       adds_grown u (declaration st).name _ _
       (adds_member u (declaration st).name (body st).members_of (declaration st).declared st.names)
   declr_grown st op = same _ _ refl
 
   stmt_grown : (st : State) (op : StmtOp) → Grown st.names.declared (statement_step u st op).names.declared
-  stmt_grown st stmts.FunctionBody = same _ _ (entered_same (is_plain st) (last_or None st.names.declared) st.names)
+  stmt_grown st stmts.FunctionBody = same _ _ (entered_same (is_plain st) (is_counted u st) (last_or None st.names.declared) st.names)
   stmt_grown st op = same _ _ refl
 
   pub expr_same : (st : State) (op : ExprOp) → (expression_step u st op).names.declared ≡ st.names.declared

@@ -1,6 +1,6 @@
 -- The constraints of specifiers and declarators are the same whatever stands behind the skeletons of a world.
-use Rattle.std.proofs.Common.{◌≡◌, ℕ, suc, Bool, true, false, Option, None, Some, refl}
-use Rattle.c_tree.specs.Tree.{SpecWords, no_words, more_words, SpecWord, storage, thread, inline_word, noreturn, qualifier, basic, struct_type, enum_type, typedef_name, attribute, SomeBody, no_body, some_body, StructItems, no_struct_items, more_struct_items, StructItem, member, member_semi, member_assert, MemDeclrs, no_mem_declrs, more_mem_declrs, MemDeclr, named, unnamed, Declr, pointer, declr_name, declr_paren, array, params, abs_pointer, abs_paren, abs_array, abs_params, SomeDeclr, no_declr, some_declr, Params, no_params, more_params}
+use Rattle.std.proofs.Common.{◌≡◌, ℕ, suc, Bool, true, false, Option, None, Some, refl, sym, subst}
+use Rattle.c_tree.specs.Tree.{SpecWords, no_words, more_words, SpecWord, storage, thread, inline_word, noreturn, qualifier, basic, struct_type, enum_type, typedef_name, attribute, SomeBody, no_body, some_body, StructItems, no_struct_items, more_struct_items, StructItem, member, member_semi, member_assert, MemDeclrs, no_mem_declrs, more_mem_declrs, MemDeclr, named, unnamed, Declr, pointer, declr_name, declr_paren, array, params, abs_pointer, abs_paren, abs_array, abs_params, SomeDeclr, no_declr, some_declr, Params, no_params, more_params, complex_part, label_use, compat, choose, generic, typeof_value, typeof_type, align, auto_word, range_desig, old_desig, case_range, goto_value, block_labels, identifiers, base_name, Assocs, no_assocs, more_assocs, Assoc, typed_assoc, default_assoc}
 use Rattle.qual_types.specs.Skel.{Skel}
 use Rattle.name_rules.specs.Spellings.{Place, Named}
 use Rattle.type_rules.specs.Tokens.{declared_name, is_bare, some_declared_name}
@@ -57,7 +57,7 @@ module _ (w : World) (members : MembersBegin w) (links : LinksAreMet w) (k l : F
   W token = RoleHasSkeleton w token
 
   -- a name has a row of names where the first declaration of what it declares is met, and one of parameters where it has a skeleton
-  abbrev RowMet : RowKind → Option Named → Type 0
+  abbrev pub RowMet : RowKind → Option Named → Type 0
   RowMet row_of_name it = NamedHas V it
   RowMet no_row it = Unit {0}
   RowMet (row_of_param own i) it = NamedHas W it
@@ -94,6 +94,10 @@ module _ (w : World) (members : MembersBegin w) (links : LinksAreMet w) (k l : F
   unnamed_is (enum_type e) h = refl
   unnamed_is (typedef_name name) h = refl
   unnamed_is (attribute attr) h = refl
+  unnamed_is (typeof_value keyword opening e closing) h = refl
+  unnamed_is (typeof_type word opening ws d closing) h = refl
+  unnamed_is (align attr) h = refl
+  unnamed_is (auto_word token) h = refl
 
   all_unnamed_is : (ws : SpecWords) → UnnamedHave U V W ws → unnamed_demand wk ws ≡ unnamed_demand wl ws
   all_unnamed_is no_words h = refl
@@ -118,6 +122,13 @@ module _ (w : World) (members : MembersBegin w) (links : LinksAreMet w) (k l : F
     word_is (enum_type e) h found = refl
     word_is (typedef_name name) h found = refl
     word_is (attribute attr) h found = refl
+    word_is (typeof_value keyword opening e closing) h found = refl
+    word_is (typeof_type word opening ws d closing) h found = joined _ _ _ _
+        (words_is ws h.1.0 (front w (words_starts a ws) _ found))
+        (some_declr_is row_of_name with_skeleton d tt (subst (λ (it : Option Named). NamedHas V it) (sym h.0) tt) h.1.1
+        (back w (words_starts a ws) _ found))
+    word_is (align attr) h found = refl
+    word_is (auto_word token) h found = refl
 
     body_is : (body : SomeBody) → SomeBodyHas U V W body → AreFound w (some_body_starts a body) →
         some_body_demand wk body ≡ some_body_demand wl body
@@ -171,6 +182,9 @@ module _ (w : World) (members : MembersBegin w) (links : LinksAreMet w) (k l : F
         (declr_is row own h g d fits its met has.0 (front w (declr_starts a h g d) _ found))
         (params_is own (is_bare d) (having_where (is_bare d) g) 0 ps (λ i. param_fits own (is_bare d) g i its) has.1
         (back w (declr_starts a h g d) _ found))
+    declr_is row own h g (identifiers d opening names closing) fits its met has found =
+        declr_is row own h g d fits its met has found
+    declr_is row own h g (base_name token) fits its met has found = refl
     declr_is row own h g (abs_pointer star words d) fits its met has found = some_declr_is row h d fits met has found
     declr_is row own h g (abs_paren opening attrs d closing) fits its met has found =
         declr_is row own h g d fits its met has found
@@ -187,7 +201,7 @@ module _ (w : World) (members : MembersBegin w) (links : LinksAreMet w) (k l : F
     some_declr_is row h no_declr fits met has found = refl
     some_declr_is row h (some_declr d) fits met has found = declr_is row None h without_skeleton d fits tt met has found
 
-    params_is : (own : Option Skel) (bare : Bool) (h : Having) (i : ℕ) (ps : Params) →
+    pub params_is : (own : Option Skel) (bare : Bool) (h : Having) (i : ℕ) (ps : Params) →
         ((i : ℕ) → RowFits (param_kind own bare i) h) → ParamsHave U V W ps → AreFound w (params_starts a h ps) →
         params_demand wk own bare i ps ≡ params_demand wl own bare i ps
     params_is own bare h i no_params fits has found = refl

@@ -1,18 +1,22 @@
 -- Along a tree what is known of names grows.
 use Rattle.std.proofs.Common.{ℕ, suc, Bool, true, false, List, [], ◌∷◌, Option, None, Some, refl}
+use Rattle.std.specs.Prelude.{if◌then◌else◌}
 use Rattle.c_words.specs.declared.kinds.Keyword.{Keyword}
+use Rattle.c_words.specs.declared.kinds.Keyword.TheVariants as keywords
 use Rattle.c_syntax.specs.declared.parts.Identifier.{Identifier}
 use Rattle.tape_ops.specs.declared.specifier.TagKind.{TagKind}
 use Rattle.tape_ops.specs.declared.specifier.TagKind.TheVariants as tags
-use Rattle.c_tree.specs.Tree.{Expr, operation, cast, prefix, sizeof_value, sizeof_type, extension, index, call, dot, arrow, post, compound, name_use, number_use, char_use, text_use, paren, statement_expr, va_arg, va_start, va_copy, offset, Operator, comma, assign, cond, binary, SomeExpr, no_expr, some_expr, Exprs, no_exprs, more_exprs, SpecWords, no_words, more_words, SpecWord, storage, thread, inline_word, noreturn, qualifier, basic, struct_type, enum_type, typedef_name, attribute, SomeBody, no_body, some_body, StructItems, no_struct_items, more_struct_items, StructItem, member, member_semi, member_assert, MemDeclrs, no_mem_declrs, more_mem_declrs, MemDeclr, named, unnamed, SomeValue, no_value, some_value, EnumType, enum_of, no_enum_body, some_enum_body, Enumerators, no_enumerators, more_enumerators, Declr, pointer, declr_name, declr_paren, array, params, abs_pointer, abs_paren, abs_array, abs_params, SomeDeclr, no_declr, some_declr, SomeSize, no_size, some_size, ArraySize, size_value, size_star, Params, no_params, more_params, Init, init_value, init_braced, InitList, init_list, InitItems, no_init_items, more_init_items, Desigs, no_desigs, more_desigs, Desig, member_desig, index_desig, SomeInit, no_init, some_init, InitDeclrs, no_init_declrs, more_init_declrs, Declaration, declaration, Decl, decl_declaration, decl_assert, BlockItems, no_block_items, more_block_items, BlockItem, block_decl, block_stmt, Stmt, block, expr_stmt, attr_stmt, label, case_stmt, default_stmt, if_stmt, switch_stmt, while_stmt, do_stmt, for_stmt, goto_stmt, continue_stmt, break_stmt, return_stmt, asm_stmt, SomeElse, no_else, some_else, ForStart, start_declaration, start_value}
-use Rattle.c_tree.specs.Unit.{Item, function_item, decl_item, asm_item, semi_item}
+use Rattle.c_tree.specs.Tree.{Expr, operation, cast, prefix, sizeof_value, sizeof_type, extension, index, call, dot, arrow, post, compound, name_use, number_use, char_use, text_use, paren, statement_expr, va_arg, va_start, va_copy, offset, Operator, comma, assign, cond, binary, SomeExpr, no_expr, some_expr, Exprs, no_exprs, more_exprs, SpecWords, no_words, more_words, SpecWord, storage, thread, inline_word, noreturn, qualifier, basic, struct_type, enum_type, typedef_name, attribute, SomeBody, no_body, some_body, StructItems, no_struct_items, more_struct_items, StructItem, member, member_semi, member_assert, MemDeclrs, no_mem_declrs, more_mem_declrs, MemDeclr, named, unnamed, SomeValue, no_value, some_value, EnumType, enum_of, no_enum_body, some_enum_body, Enumerators, no_enumerators, more_enumerators, Declr, pointer, declr_name, declr_paren, array, params, abs_pointer, abs_paren, abs_array, abs_params, SomeDeclr, no_declr, some_declr, SomeSize, no_size, some_size, ArraySize, size_value, size_star, Params, no_params, more_params, Init, init_value, init_braced, InitList, init_list, InitItems, no_init_items, more_init_items, Desigs, no_desigs, more_desigs, Desig, member_desig, index_desig, SomeInit, no_init, some_init, InitDeclrs, no_init_declrs, more_init_declrs, Declaration, declaration, Decl, decl_declaration, decl_assert, BlockItems, no_block_items, more_block_items, BlockItem, block_decl, block_stmt, Stmt, block, expr_stmt, attr_stmt, label, case_stmt, default_stmt, if_stmt, switch_stmt, while_stmt, do_stmt, for_stmt, goto_stmt, continue_stmt, break_stmt, return_stmt, asm_stmt, SomeElse, no_else, some_else, ForStart, start_declaration, start_value, complex_part, label_use, compat, choose, generic, typeof_value, typeof_type, align, auto_word, range_desig, old_desig, case_range, goto_value, block_labels, identifiers, base_name, Assocs, no_assocs, more_assocs, Assoc, typed_assoc, default_assoc}
+use Rattle.c_tree.specs.Unit.{Item, function_item, old_function_item, decl_item, asm_item, semi_item}
 use Rattle.type_table.specs.Types.{Words, CType, base}
+use Rattle.name_rules.specs.Identifiers.{OldParameter, Olds, identified, old_declared, old_declared_some, old_faults}
+use Rattle.name_rules.specs.Declaring.{has_word}
 use Rattle.name_rules.specs.Spellings.{Spelling, Place, place, Named}
-use Rattle.name_rules.specs.Scopes.{enumerator_role, Names}
+use Rattle.name_rules.specs.Scopes.{enter, enumerator_role, Names}
 use Rattle.name_rules.specs.Declaring.{tag_used, untagged, untagged_number, own_where}
-use Rattle.type_rules.specs.Tokens.{declared_name, some_declared_name, is_bare}
-use Rattle.type_rules.specs.Naming.{tag_kind, tag_named, body_begun, unnamed_by, unnamed_among, is_tag_alone, said_words, has_untagged, words_behind, expr_named, operator_named, some_expr_named, exprs_named, words_named, word_named, struct_named, struct_items_named, struct_item_named, unnamed_where, mem_declrs_named, mem_declr_named, some_value_named, enum_named, enumerators_named, declr_named, some_declr_named, some_size_named, array_size_named, params_named, init_named, init_list_named, init_items_named, desigs_named, desig_named, some_init_named, init_declrs_named, declaration_named, decl_named, block_items_named, block_item_named, stmt_named, some_else_named, for_start_named, function_by, item_named, items_named}
-use Rattle.missing_laws.proofs.Growth.{Grows, stays, joins, enter_grows, leave_grows, keep_grows, used_grows, sized_grows, type_grows, tag_grows, alike, body_grows, here_grows, thing_grows, some_grows, param_grows, member_grows, unnamed_grows, entered_grows, left_grows}
+use Rattle.type_rules.specs.Tokens.{are_auto, declared_name, some_declared_name, is_bare}
+use Rattle.type_rules.specs.Naming.{assoc_named, assocs_named, auto_declrs_named, auto_named, identifiers_named, old_declaration_named, old_declarations_named, old_declr_named, old_declrs_named, old_function_by, typed_by, tag_kind, tag_named, body_begun, unnamed_by, unnamed_among, is_tag_alone, said_words, has_untagged, words_behind, expr_named, operator_named, some_expr_named, exprs_named, words_named, word_named, struct_named, struct_items_named, struct_item_named, unnamed_where, mem_declrs_named, mem_declr_named, some_value_named, enum_named, enumerators_named, declr_named, some_declr_named, some_size_named, array_size_named, params_named, init_named, init_list_named, init_items_named, desigs_named, desig_named, some_init_named, init_declrs_named, declaration_named, decl_named, block_items_named, block_item_named, stmt_named, some_else_named, for_start_named, function_by, item_named, items_named}
+use Rattle.missing_laws.proofs.Growth.{faults_grow, grows_where, Grows, stays, joins, enter_grows, leave_grows, keep_grows, used_grows, sized_grows, type_grows, tag_grows, alike, body_grows, here_grows, thing_grows, some_grows, param_grows, member_grows, unnamed_grows, entered_grows, left_grows}
 
 module _ (u : Spelling) where
   tag_named_grows : (alone : Bool) (kind : TagKind) (tag : Option Identifier) (t : CType) (s : Names) →
@@ -39,10 +43,18 @@ module _ (u : Spelling) where
   unnamed_by_grows (enum_type e) n t s = stays s
   unnamed_by_grows (typedef_name name) n t s = stays s
   unnamed_by_grows (attribute attr) n t s = stays s
+  unnamed_by_grows (typeof_value keyword opening e closing) n t s = stays s
+  unnamed_by_grows (typeof_type word opening ws d closing) n t s = stays s
+  unnamed_by_grows (align attr) n t s = stays s
+  unnamed_by_grows (auto_word token) n t s = stays s
 
   pub unnamed_among_grows : (ws : SpecWords) (n : ℕ) (t : CType) (s : Names) → Grows s (unnamed_among u ws n t s)
   unnamed_among_grows no_words n t s = stays s
   unnamed_among_grows (more_words word ws) n t s = joins (unnamed_by_grows word n t s) (unnamed_among_grows ws n t _)
+
+  pub typed_by_grows : (token : ℕ) (o : Option CType) (s : Names) → Grows s (typed_by u token o s).names
+  typed_by_grows token None s = faults_grow _ s
+  typed_by_grows token (Some t) s = stays s
 
   mutual
     pub expr_grows : (c : Bool) (e : Expr) (s : Names) → Grows s (expr_named u c e s)
@@ -75,6 +87,23 @@ module _ (u : Spelling) where
     expr_grows c (va_copy keyword opening e separator e2 closing) s = joins (expr_grows false e s) (expr_grows false e2 _)
     expr_grows c (offset keyword opening ws d separator name steps closing) s = joins (words_grow false ws (base []) [] s)
         (joins (some_declr_grows d _) (joins (type_grows _ _ _) (desigs_grow steps _)))
+    expr_grows c (complex_part keyword e) s = expr_grows false e s
+    expr_grows c (label_use token name) s = stays s
+    expr_grows c (compat keyword opening ws d separator ws2 d2 closing) s = joins (words_grow false ws (base []) [] s)
+        (joins (some_declr_grows d _) (joins (type_grows _ _ _) (joins (words_grow false ws2 (base []) [] _)
+        (joins (some_declr_grows d2 _) (type_grows _ _ _)))))
+    expr_grows c (choose keyword opening e separator e2 separator2 e3 closing) s =
+        joins (expr_grows false e s) (joins (expr_grows false e2 _) (expr_grows false e3 _))
+    expr_grows c (generic keyword opening e xs closing) s = joins (expr_grows false e s) (assocs_grow xs _)
+
+    pub assocs_grow : (xs : Assocs) (s : Names) → Grows s (assocs_named u xs s)
+    assocs_grow no_assocs s = stays s
+    assocs_grow (more_assocs x xs) s = joins (assoc_grows x s) (assocs_grow xs _)
+
+    pub assoc_grows : (x : Assoc) (s : Names) → Grows s (assoc_named u x s)
+    assoc_grows (typed_assoc ws d colon e) s = joins (words_grow false ws (base []) [] s)
+        (joins (some_declr_grows d _) (joins (type_grows _ _ _) (expr_grows false e _)))
+    assoc_grows (default_assoc keyword colon e) s = expr_grows false e s
 
     pub operator_grows : (op : Operator) (s : Names) → Grows s (operator_named u op s)
     operator_grows comma s = stays s
@@ -108,6 +137,12 @@ module _ (u : Spelling) where
     word_grows alone (enum_type e) t s = enum_grows e s
     word_grows alone (typedef_name name) t s = stays s
     word_grows alone (attribute attr) t s = stays s
+    word_grows alone (typeof_value keyword opening e closing) t s =
+        joins (expr_grows false e s) (typed_by_grows closing _ _)
+    word_grows alone (typeof_type word opening ws d closing) t s = joins (words_grow false ws (base []) [] s)
+        (joins (some_declr_grows d _) (type_grows _ _ _))
+    word_grows alone (align attr) t s = stays s
+    word_grows alone (auto_word token) t s = stays s
 
     pub struct_grows : (alone : Bool) (kind : TagKind) (keyword : ℕ) (tag : Option Identifier) (body : SomeBody) (t : CType)
         (s : Names) → Grows s (struct_named u alone kind keyword tag body t s).names
@@ -162,6 +197,9 @@ module _ (u : Spelling) where
     declr_grows own (array d opening words size closing) s = joins (declr_grows own d s) (some_size_grows size _)
     declr_grows own (params d opening ps dots closing) s = joins (declr_grows own d s) (joins (enter_grows _)
         (joins (params_grow 0 (own_where (is_bare d) own) ps _) (keep_grows (own_where (is_bare d) own) _)))
+    declr_grows own (identifiers d opening names closing) s =
+        joins (declr_grows own d s) (joins (enter_grows _) (leave_grows _))
+    declr_grows own (base_name token) s = stays s
     declr_grows own (abs_pointer star words d) s = some_declr_grows d s
     declr_grows own (abs_paren opening attrs d closing) s = declr_grows own d s
     declr_grows own (abs_array d opening words size closing) s = joins (some_declr_grows d s) (some_size_grows size _)
@@ -204,6 +242,8 @@ module _ (u : Spelling) where
     pub desig_grows : (d : Desig) (s : Names) → Grows s (desig_named u d s)
     desig_grows (member_desig token name) s = stays s
     desig_grows (index_desig opening e closing) s = expr_grows false e s
+    desig_grows (range_desig opening e dots e2 closing) s = joins (expr_grows false e s) (expr_grows false e2 _)
+    desig_grows (old_desig name colon) s = stays s
 
     pub some_init_grows : (it : SomeInit) (s : Names) → Grows s (some_init_named u it s)
     some_init_grows no_init s = stays s
@@ -218,7 +258,22 @@ module _ (u : Spelling) where
 
     pub declaration_grows : (d : Declaration) (s : Names) → Grows s (declaration_named u d s)
     declaration_grows (declaration exts ws ds semi) s = joins (words_grow (is_tag_alone ws ds) ws (base []) [] s)
-        (init_declrs_grow (said_words ws) (has_untagged ws) _ ds _)
+        (grows_where (are_auto ws ds) _ _ _ (auto_declrs_grow (said_words ws) (has_untagged ws) semi _ ds _)
+        (init_declrs_grow (said_words ws) (has_untagged ws) _ ds _))
+
+    pub auto_declrs_grow : (words : List Keyword) (is_untagged : Bool) (semi : ℕ) (t : CType) (ds : InitDeclrs)
+        (s : Names) → Grows s (auto_declrs_named u words is_untagged semi t ds s)
+    auto_declrs_grow words is_untagged semi t no_init_declrs s = stays s
+    auto_declrs_grow words is_untagged semi t (more_init_declrs attrs d asm_label attrs2 it ds) s =
+        joins (declr_grows None d s) (joins (auto_grows words is_untagged semi t (declared_name d) it _)
+        (auto_declrs_grow words false semi t ds _))
+
+    pub auto_grows : (words : List Keyword) (is_untagged : Bool) (semi : ℕ) (t : CType) (o : Option Named) (it : SomeInit)
+        (s : Names) → Grows s (auto_named u words is_untagged semi t o it s)
+    auto_grows words is_untagged semi t o no_init s = stays s
+    auto_grows words is_untagged semi t o (some_init equal (init_braced list)) s = stays s
+    auto_grows words is_untagged semi t o (some_init equal (init_value e)) s = joins (expr_grows false e s)
+        (joins (typed_by_grows semi _ _) (some_grows u (untagged_number is_untagged t) o words _ _))
 
     pub decl_grows : (d : Decl) (s : Names) → Grows s (decl_named u d s)
     decl_grows (decl_declaration d) s = declaration_grows d s
@@ -231,6 +286,7 @@ module _ (u : Spelling) where
     pub block_item_grows : (item : BlockItem) (s : Names) → Grows s (block_item_named u item s)
     block_item_grows (block_decl d) s = decl_grows d s
     block_item_grows (block_stmt t) s = stmt_grows t s
+    block_item_grows (block_labels keyword names semi) s = stays s
 
     pub stmt_grows : (t : Stmt) (s : Names) → Grows s (stmt_named u t s)
     stmt_grows (block opening items closing) s = joins (enter_grows s) (joins (block_items_grow items _) (leave_grows _))
@@ -256,6 +312,9 @@ module _ (u : Spelling) where
     stmt_grows (break_stmt keyword semi) s = stays s
     stmt_grows (return_stmt keyword e semi) s = some_expr_grows e s
     stmt_grows (asm_stmt keyword words group semi) s = stays s
+    stmt_grows (case_range keyword e dots e2 colon t) s =
+        joins (expr_grows false e s) (joins (expr_grows false e2 _) (stmt_grows t _))
+    stmt_grows (goto_value keyword star e semi) s = expr_grows false e s
 
     pub some_else_grows : (it : SomeElse) (s : Names) → Grows s (some_else_named u it s)
     some_else_grows no_else s = stays s
@@ -270,10 +329,91 @@ module _ (u : Spelling) where
   function_grows None ws d items s = stays s
   function_grows (Some it) ws d items s = joins (words_grow false ws (base []) [] s) (joins (declr_grows _ d _)
       (joins (sized_grows (place u it.token) _ _) (joins (thing_grows (said_words ws) (place u it.token) (u.key it.name) _ _)
-      (joins (entered_grows (place u it.token) _ _ _) (joins (block_items_grow items _) (left_grows _))))))
+      (joins (entered_grows (place u it.token) _ _ _ _) (joins (block_items_grow items _) (left_grows _))))))
+
+  -- lists of identifiers, with the declarations behind them
+
+  pub identified_grows : (token name : ℕ) (it : Olds) → Grows it.names (identified u token name it).names
+  identified_grows token name it = faults_grow _ it.names
+
+  pub identifiers_grow : (names : List Identifier) (it : Olds) → Grows it.names (identifiers_named u names it).names
+  identifiers_grow [] it = stays it.names
+  identifiers_grow (name ∷ names) it = joins (identified_grows name.token name.name it) (identifiers_grow names _)
+
+  pub old_declared_grows : (own : Option Place) (it : Named) (t : CType) (o : Option ℕ) (olds : Olds) →
+      Grows olds.names (old_declared u own it t o olds).names
+  old_declared_grows own it t None olds = faults_grow _ olds.names
+  old_declared_grows own it t (Some i) olds = joins (faults_grow _ olds.names) (param_grows u (Some it) i own t _)
+
+  pub old_some_grows : (own : Option Place) (o : Option Named) (t : CType) (olds : Olds) →
+      Grows olds.names (old_declared_some u own o t olds).names
+  old_some_grows own None t olds = stays olds.names
+  old_some_grows own (Some it) t olds = old_declared_grows own it t _ olds
+
+  pub olds_where : (b : Bool) (s : Names) (it other : Olds) → Grows s it.names → Grows s other.names →
+      Grows s (if b then it else other).names
+  olds_where true s it other g h = g
+  olds_where false s it other g h = h
+
+  pub old_declrs_grow : (own : Option Place) (words : List Keyword) (is_untagged : Bool) (t : CType) (ds : InitDeclrs)
+      (it : Olds) → Grows it.names (old_declrs_named u own words is_untagged t ds it).names
+  old_declrs_grow own words is_untagged t no_init_declrs it = stays it.names
+  old_declrs_grow own words is_untagged t (more_init_declrs attrs d asm_label attrs2 init ds) it =
+      joins (declr_grows None d it.names) (joins
+      (olds_where (has_word keywords.Typedef words) _ _ _
+      (some_grows u (untagged_number is_untagged t) (declared_name d) words _ _) (old_some_grows own (declared_name d) _ _))
+      (joins (some_init_grows init _) (old_declrs_grow own words false t ds _)))
+
+  pub old_declaration_grows : (own : Option Place) (d : Declaration) (it : Olds) →
+      Grows it.names (old_declaration_named u own d it).names
+  old_declaration_grows own (declaration exts ws ds semi) it =
+      joins (words_grow (is_tag_alone ws ds) ws (base []) [] it.names) (olds_where (are_auto ws ds) _ _ _
+      (auto_declrs_grow (said_words ws) (has_untagged ws) semi _ ds _)
+      (old_declrs_grow own (said_words ws) (has_untagged ws) _ ds _))
+
+  pub old_declarations_grow : (own : Option Place) (ds : List Declaration) (it : Olds) →
+      Grows it.names (old_declarations_named u own ds it).names
+  old_declarations_grow own [] it = stays it.names
+  old_declarations_grow own (d ∷ ds) it = joins (old_declaration_grows own d it) (old_declarations_grow own ds _)
+
+  pub old_faults_grow : (list : List OldParameter) (s : Names) → Grows s (old_faults u list s)
+  old_faults_grow [] s = stays s
+  old_faults_grow (it ∷ others) s = joins (faults_grow _ s) (old_faults_grow others _)
+
+  pub old_declr_grows : (own : Option Place) (ds : List Declaration) (d : Declr) (s : Names) →
+      Grows s (old_declr_named u own ds d s).names
+  old_declr_grows own ds (identifiers d opening names closing) s =
+      let first : Olds = record { list = []; names = enter (declr_named u None d s).names } in
+      let listed : Olds = identifiers_named u names first in
+      let done : Olds = old_declarations_named u own ds listed in
+      joins (declr_grows None d s) (joins (enter_grows _) (joins (identifiers_grow names first)
+      (joins (old_declarations_grow own ds listed) (joins (old_faults_grow done.list done.names) (keep_grows own _)))))
+  old_declr_grows own ds (pointer star words d) s = old_declr_grows own ds d s
+  old_declr_grows own ds (declr_paren opening attrs d closing) s = old_declr_grows own ds d s
+  old_declr_grows own ds (array d opening words size closing) s =
+      joins (old_declr_grows own ds d s) (some_size_grows size _)
+  old_declr_grows own ds (params d opening ps dots closing) s = joins (old_declr_grows own ds d s) (joins (enter_grows _)
+      (joins (params_grow 0 None ps _) (leave_grows _)))
+  old_declr_grows own ds (declr_name token name) s = declr_grows None (declr_name token name) s
+  old_declr_grows own ds (base_name token) s = declr_grows None (base_name token) s
+  old_declr_grows own ds (abs_pointer star words d) s = declr_grows None (abs_pointer star words d) s
+  old_declr_grows own ds (abs_paren opening attrs d closing) s = declr_grows None (abs_paren opening attrs d closing) s
+  old_declr_grows own ds (abs_array d opening words size closing) s =
+      declr_grows None (abs_array d opening words size closing) s
+  old_declr_grows own ds (abs_params d opening ps dots closing) s = declr_grows None (abs_params d opening ps dots closing) s
+
+  pub old_function_grows : (it : Option Named) (ws : SpecWords) (d : Declr) (ds : List Declaration) (items : BlockItems)
+      (s : Names) → Grows s (old_function_by u it ws d ds items s)
+  old_function_grows None ws d ds items s = stays s
+  old_function_grows (Some it) ws d ds items s = joins (words_grow false ws (base []) [] s)
+      (joins (old_declr_grows _ ds d _) (joins (sized_grows (place u it.token) _ _)
+      (joins (thing_grows (said_words ws) (place u it.token) (u.key it.name) _ _)
+      (joins (entered_grows (place u it.token) _ _ _ _) (joins (block_items_grow items _) (left_grows _))))))
 
   pub item_grows : (item : Item) (s : Names) → Grows s (item_named u item s)
   item_grows (function_item exts ws d attrs opening items closing) s = function_grows (declared_name d) ws d items s
+  item_grows (old_function_item exts ws d attrs ds opening items closing) s =
+      old_function_grows (declared_name d) ws d ds items s
   item_grows (decl_item d) s = decl_grows d s
   item_grows (asm_item keyword group semi) s = stays s
   item_grows (semi_item semi) s = stays s

@@ -6,7 +6,8 @@ use Rattle.c_words.specs.declared.kinds.Keyword.TheVariants as keywords
 use Rattle.tape_ops.specs.declared.specifier.TagKind.{TagKind}
 use Rattle.type_table.specs.Types.{CType}
 use Rattle.name_rules.specs.Spellings.{Spelling, Place, place, Named}
-use Rattle.name_rules.specs.Scopes.{Names, Role, object_role, enter, leave, sized, is_at_file, is_place, has_body, body_of, with_key}
+use Rattle.name_rules.specs.Faults.{Fault}
+use Rattle.name_rules.specs.Scopes.{with_faults, Names, Role, object_role, enter, leave, sized, is_at_file, is_place, has_body, body_of, with_key}
 use Rattle.name_rules.specs.Pieces.{is_function}
 use Rattle.name_rules.specs.Declaring.{used, type_named, Numbered, found_or_new, tag_used, begun_in, begun_body, opened, tag_known, declared_by, declared_here, linked, thing_where, static_where, declared_thing, declared_typedef, typedef_known, declared_some, declared_param, declared_member, unnamed_member, keep, has_word, body_entered, body_left}
 use Rattle.name_rules.specs.Units.{unit_begun}
@@ -219,13 +220,27 @@ unnamed_grows at n t s = record {
   faults = same s.faults;
 }
 
-pub entered_grows : (at first : Place) (is_plain : Bool) (s : Names) → Grows s (body_entered at first is_plain s)
-entered_grows at first is_plain s = record {
+pub entered_grows : (at first : Place) (is_plain is_counted : Bool) (s : Names) →
+    Grows s (body_entered at first is_plain is_counted s)
+entered_grows at first is_plain true s = record {
   declared = same s.declared;
   uses = same s.uses;
   types = same s.type_names;
   faults = more s.faults _;
 }
+entered_grows at first is_plain false s = alike s (body_entered at first is_plain false s) refl refl refl refl
+
+pub faults_grow : (faults : List Fault) (s : Names) → Grows s (with_faults faults s)
+faults_grow faults s = record {
+  declared = same s.declared;
+  uses = same s.uses;
+  types = same s.type_names;
+  faults = more s.faults faults;
+}
+
+pub grows_where : (b : Bool) (s t other : Names) → Grows s t → Grows s other → Grows s (if b then t else other)
+grows_where true s t other g h = g
+grows_where false s t other g h = h
 
 pub left_grows : (s : Names) → Grows s (body_left s)
 left_grows s = alike s (body_left s) refl refl refl refl

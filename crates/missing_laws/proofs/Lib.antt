@@ -18,3 +18,7 @@ mod Uses
 mod Settling
 pub mod Places
 mod Programs
+mod Picks
+mod Chosen
+mod Forms
+mod Olds

@@ -6,7 +6,8 @@ use Rattle.c_words.specs.declared.kinds.Keyword.TheVariants as keywords
 use Rattle.tape_ops.specs.declared.specifier.TagKind.{TagKind}
 use Rattle.type_table.specs.Types.{CType, pointer}
 use Rattle.name_rules.specs.Spellings.{Spelling, Place, place, Named}
-use Rattle.name_rules.specs.Scopes.{Aggregate, Body, Declared, Known, Meaning, means_type, means_thing, Names, Own, Role, Scope, Tagged, typedef_role, object_role, function_role, parameter_role, field_role, enumerator_role, body_of, bound, changed_at, declared_at, enter, inner_meaning, innermost, is_at_file, is_place, leave, lying_in, meaning_in, meaning_through, or_no_body, or_outer, or_place, outer_scopes, some_thing, thing_named, thing_of, with_key, with_member, has_body, sized}
+use Rattle.name_rules.specs.Faults.{Fault}
+use Rattle.name_rules.specs.Scopes.{with_faults, Aggregate, Body, Declared, Known, Meaning, means_type, means_thing, Names, Own, Role, Scope, Tagged, typedef_role, object_role, function_role, parameter_role, field_role, enumerator_role, body_of, bound, changed_at, declared_at, enter, inner_meaning, innermost, is_at_file, is_place, leave, lying_in, meaning_in, meaning_through, or_no_body, or_outer, or_place, outer_scopes, some_thing, thing_named, thing_of, with_key, with_member, has_body, sized}
 use Rattle.name_rules.specs.Pieces.{is_function}
 use Rattle.name_rules.specs.Declaring.{Numbered, begun_body, begun_in, body_entered, body_left, declared_here, declared_member, declared_param, declared_some, declared_thing, declared_typedef, declaring, found_or_new, has_word, keep, linked, opened, or_at, owner_where, scope_kept, static_where, struct_number, tag_known, the_thing, thing_where, type_named, typedef_known, unnamed_member, untagged, used}
 use Rattle.name_rules.specs.Units.{is_shared, no_names, shared, shared_name, unit_begun}
@@ -530,13 +531,29 @@ module _ (w : World) (well : AreWell w.names.declared) where
   kept_are None scopes k h = one_is scopes h
   kept_are (Some scope) scopes k h = (λ e. k, h)
 
-  pub good_entered : (at first : Place) (is_plain : Bool) (s : Names) → Good (true ∷ []) s →
-      Good (true ∷ true ∷ []) (body_entered at first is_plain s)
-  good_entered at first is_plain s h = record {
+  pub good_entered : (at first : Place) (is_plain is_counted : Bool) (s : Names) → Good (true ∷ []) s →
+      Good (true ∷ true ∷ []) (body_entered at first is_plain is_counted s)
+  good_entered at first is_plain true s h = record {
     scopes = kept_are s.kept s.scopes h.kept h.scopes;
     things = h.things;
     round = h.round;
     kept = tt;
+    members = h.members;
+  }
+  good_entered at first is_plain false s h = record {
+    scopes = kept_are s.kept s.scopes h.kept h.scopes;
+    things = h.things;
+    round = h.round;
+    kept = tt;
+    members = h.members;
+  }
+
+  pub good_faults : (bs : List Bool) (faults : List Fault) (s : Names) → Good bs s → Good bs (with_faults faults s)
+  good_faults bs faults s h = record {
+    scopes = h.scopes;
+    things = h.things;
+    round = h.round;
+    kept = h.kept;
     members = h.members;
   }
 
@@ -758,6 +775,23 @@ module _ (w : World) (well : AreWell w.names.declared) where
       good_here c bs (at w it.token) (w.spelling.key it.name) (parameter_role i) t own old
       (λ e. let one = found it refl e in meant_there q one.0 it.token d there refl one.1)
       (good_sized (c ∷ bs) (at w it.token) t s h)
+
+  -- a parameter that is declared behind a list of identifiers
+  pub old_param_good : (q : Bool) (f : Option Place) (bs : List Bool) (it : Named) (i : ℕ) (own : Option Place) (t : CType)
+      (s : Names) → Grows (declared_param w.spelling (Some it) i own t s) S →
+      AreFound w (name_start (around w q f) it.token) → Good (true ∷ bs) s →
+      Good (true ∷ bs) (declared_param w.spelling (Some it) i own t s) × FirstIsMet w it.token
+  old_param_good q f bs it i own t s g found h =
+      let old = sized (at w it.token) t s in
+      let before = good_sized (true ∷ bs) (at w it.token) t s h in
+      let there = here_there (at w it.token) (w.spelling.key it.name) (parameter_role i) t own old g in
+      let d = here_d (at w it.token) (w.spelling.key it.name) (parameter_role i) t own old in
+      let means_it = meant_there q f it.token d there refl found in (
+        good_here true bs (at w it.token) (w.spelling.key it.name) (parameter_role i) t own old (λ e. means_it) before,
+        first_met it.token d there (first_begins d refl
+            (met d.first (here_meant true bs (at w it.token) (w.spelling.key it.name) old before refl means_it)
+            (well.firsts (at w it.token) d there refl))),
+      )
 
   -- what is declared at its token is a parameter
   pub param_has : (it : Option Named) (i : ℕ) (own : Option Place) (t : CType) (s : Names) →

@@ -1,11 +1,11 @@
 -- What the rows of forms stand on is the same whatever stands behind the skeletons and call sites of a world.
-use Rattle.std.proofs.Common.{◌≡◌, ℕ, suc, Bool, true, false, List, [], ◌∷◌, ◌++◌, Option, None, Some, refl, sym, ap, subst, ◌∙◌}
-use Rattle.std.specs.Prelude.{◌&&◌, ◌||◌, not, nat_eq, if◌then◌else◌}
+use Rattle.std.proofs.Common.{◌≡◌, ℕ, suc, Bool, true, false, List, [], ◌∷◌, ◌++◌, length, Option, None, Some, refl, sym, ap, subst, ◌∙◌}
+use Rattle.std.specs.Prelude.{◌&&◌, ◌||◌, not, nat_eq, nat_lt, if◌then◌else◌}
 use Rattle.c_words.specs.declared.kinds.Punct.{Punct}
 use Rattle.c_words.specs.declared.kinds.Punct.TheVariants as signs
 use Rattle.qual_base.specs.declared.places.Span.{Span}
 use Rattle.flow_graph.specs.declared.constraint.Constraint.{Constraint}
-use Rattle.c_tree.specs.Tree.{Expr, operation, cast, prefix, sizeof_value, sizeof_type, extension, index, call, dot, arrow, post, compound, name_use, number_use, char_use, text_use, paren, statement_expr, va_arg, va_start, va_copy, offset, comma, assign, cond, binary, SomeExpr, no_expr, some_expr, Exprs, no_exprs, more_exprs, Init, init_value, init_braced, InitList, init_list, InitItems, no_init_items, more_init_items, Desigs, no_desigs, more_desigs, Desig, member_desig, index_desig, SomeInit, no_init, some_init, InitDeclrs, no_init_declrs, more_init_declrs, Declaration, declaration, Decl, decl_declaration, decl_assert, BlockItems, no_block_items, more_block_items, BlockItem, block_decl, block_stmt, Stmt, block, expr_stmt, attr_stmt, label, case_stmt, default_stmt, if_stmt, switch_stmt, while_stmt, do_stmt, for_stmt, goto_stmt, continue_stmt, break_stmt, return_stmt, asm_stmt, SomeElse, no_else, some_else, ForStart, start_declaration, start_value, Declr, declr_name, declr_paren, array, params, abs_pointer, abs_paren, abs_array, abs_params, SomeDeclr, no_declr, some_declr}
+use Rattle.c_tree.specs.Tree.{Expr, operation, cast, prefix, sizeof_value, sizeof_type, extension, index, call, dot, arrow, post, compound, name_use, number_use, char_use, text_use, paren, statement_expr, va_arg, va_start, va_copy, offset, comma, assign, cond, binary, SomeExpr, no_expr, some_expr, Exprs, no_exprs, more_exprs, Init, init_value, init_braced, InitList, init_list, InitItems, no_init_items, more_init_items, Desigs, no_desigs, more_desigs, Desig, member_desig, index_desig, SomeInit, no_init, some_init, InitDeclrs, no_init_declrs, more_init_declrs, Declaration, declaration, Decl, decl_declaration, decl_assert, BlockItems, no_block_items, more_block_items, BlockItem, block_decl, block_stmt, Stmt, block, expr_stmt, attr_stmt, label, case_stmt, default_stmt, if_stmt, switch_stmt, while_stmt, do_stmt, for_stmt, goto_stmt, continue_stmt, break_stmt, return_stmt, asm_stmt, SomeElse, no_else, some_else, ForStart, start_declaration, start_value, Declr, declr_name, declr_paren, array, params, abs_pointer, abs_paren, abs_array, abs_params, SomeDeclr, no_declr, some_declr, complex_part, label_use, compat, choose, generic, typeof_value, typeof_type, align, auto_word, range_desig, old_desig, case_range, goto_value, block_labels, identifiers, base_name, Assocs, no_assocs, more_assocs, Assoc, typed_assoc, default_assoc}
 use Rattle.c_tree.specs.Tree as trees
 use Rattle.type_table.specs.Types.{CType, pointer}
 use Rattle.qual_types.specs.declared.look.Kind.TheVariants as kinds
@@ -22,8 +22,8 @@ use Rattle.row_rules.specs.Annotations.{annotating, write_bounds, uncut}
 use Rattle.row_rules.specs.Sites.{has_place}
 use Rattle.row_rules.specs.Starting.{Around, Start, fresh, some_fresh, some_place, fresh_where, is_fresh_binary, is_fresh_sum, is_some_pointer, use_start, some_use_start, use_by_role, Having, had_name, name_start, without_skeleton, is_fresh_prefix}
 use Rattle.row_rules.specs.Forming.{formed}
-use Rattle.row_rules.specs.Rows.{by_first, by_role, initialised, initialised_at, annotating_place, annotating_some, cast_demand, computed, crossed, dereferenced, flowing, formed_here, instance, is_logical, prefixed, some_instance, use_demand}
-use Rattle.row_rules.specs.Vals.{Val, contents, is_ref, own, value}
+use Rattle.row_rules.specs.Rows.{carried, carrying, picked, picking, by_first, by_role, initialised, initialised_at, annotating_place, annotating_some, cast_demand, computed, crossed, dereferenced, flowing, formed_here, instance, is_logical, prefixed, some_instance, use_demand}
+use Rattle.row_rules.specs.Vals.{Candidate, Val, contents, is_ref, own, value}
 use Rattle.row_rules.specs.Worlds.{World, all_lattices, at, in_all, number_among, site_number, skeleton, span}
 use Rattle.constraint_rules.specs.Starts.{expr_starts, some_declr_starts, declr_starts, some_declr_starts}
 use Rattle.constraint_rules.specs.Values.{val}
@@ -31,6 +31,7 @@ use Rattle.constraint_rules.specs.Demands.{desig_skel, desigs_skel, item_skel, n
 use Rattle.first_laws.specs.Firsts.{has_skeleton}
 use Rattle.missing_laws.specs.Everywhere.{ExprHas, NamedHas}
 use Rattle.missing_laws.specs.Finding.{AreFound, HasType, FirstIsMet, IsSettled, MembersBegin, NameBegins, RoleHasSkeleton, TokenBegins, UseBegins, loud}
+use Rattle.missing_laws.proofs.Picks.{more_than_one}
 use Rattle.missing_laws.proofs.Readings.{ref_where}
 use Rattle.missing_laws.proofs.Found.{Further, world, front}
 use Rattle.missing_laws.proofs.Types.{Is, valued}
@@ -65,6 +66,8 @@ mutual
       named_found w a h g d it e (front w (declr_starts a h g d) _ found)
   named_found w a h g (params d opening ps dots closing) it e found =
       named_found w a h g d it e (front w (declr_starts a h g d) _ found)
+  named_found w a h g (identifiers d opening names closing) it e found = named_found w a h g d it e found
+  named_found w a h g (base_name token) it e found = absurd cc
   named_found w a h g (abs_pointer star words d) it e found = some_named_found w a h d it e found
   named_found w a h g (abs_paren opening attrs d closing) it e found = named_found w a h g d it e found
   named_found w a h g (abs_array d opening words size closing) it e found =
@@ -138,6 +141,11 @@ module _ (w : World) (members : MembersBegin w) (k l : Further) (same_own : k.2 
   top (va_start keyword opening e separator e2 closing) h = h.0
   top (va_copy keyword opening e separator e2 closing) h = h.0
   top (offset keyword opening ws d separator name steps closing) h = h
+  top (complex_part keyword e) h = h.0
+  top (label_use token name) h = h
+  top (compat keyword opening ws d separator ws2 d2 closing) h = h
+  top (choose keyword opening e separator e2 separator2 e3 closing) h = h.0
+  top (generic keyword opening e xs closing) h = h.0
 
   pub v_is : (e : Expr) → S e → T e → AreFound w (expr_starts a e) → val wk e ≡ val wl e
   v_is e s t h =
@@ -205,18 +213,47 @@ module _ (w : World) (members : MembersBegin w) (k l : Further) (same_own : k.2 
       (ap (λ x. annotating wk type x) q ∙ annotating_is w k l type t)
       (passing_is z 0 0 (uncut wk type) (uncut wl type) c d s t where_ (uncut_is w k l type) p q))
 
-  pub prefixed_is : (p : Punct) (z : Bool) (x y : Val) (s t : Skel) (where_ : Span) → x ≡ y →
-      (is_fresh_prefix p ≡ true → s ≡ t) → prefixed wk p z x s where_ ≡ prefixed wl p z y t where_
-  prefixed_is signs.PlusPlus z x y s t where_ e g = ap (λ (it : Val). write_bounds wk (root it.skel) where_) e
-  prefixed_is signs.MinusMinus z x y s t where_ e g = ap (λ (it : Val). write_bounds wk (root it.skel) where_) e
-  prefixed_is signs.Star z x y s t where_ e g = ap (λ (it : Val). dereferenced wk (value it) where_) e
-  prefixed_is signs.Plus z x y s t where_ e g =
+  pub prefixed_is : (p : Punct) (z : Bool) (x y : Val) (s t : Skel) (aims : Bool) (where_ : Span) → x ≡ y →
+      (is_fresh_prefix p ≡ true → s ≡ t) → prefixed wk p z x s aims where_ ≡ prefixed wl p z y t aims where_
+  prefixed_is signs.PlusPlus z x y s t aims where_ e g = ap (λ (it : Val). write_bounds wk (root it.skel) where_) e
+  prefixed_is signs.MinusMinus z x y s t aims where_ e g = ap (λ (it : Val). write_bounds wk (root it.skel) where_) e
+  prefixed_is signs.Star z x y s t aims where_ e g = ap (λ (it : Val). dereferenced wk (value it) aims where_) e
+  prefixed_is signs.Plus z x y s t aims where_ e g =
       ap2 (λ (it : Val) (u : Skel). flowing z (value it) u (all_lattices w) where_) x y s t e (g refl)
-  prefixed_is signs.Minus z x y s t where_ e g =
+  prefixed_is signs.Minus z x y s t aims where_ e g =
       ap2 (λ (it : Val) (u : Skel). flowing z (value it) u (all_lattices w) where_) x y s t e (g refl)
-  prefixed_is signs.Tilde z x y s t where_ e g =
+  prefixed_is signs.Tilde z x y s t aims where_ e g =
       ap2 (λ (it : Val) (u : Skel). flowing z (value it) u (all_lattices w) where_) x y s t e (g refl)
-  prefixed_is p z x y s t where_ e g = refl
+  prefixed_is p z x y s t aims where_ e g = refl
+
+  -- a `&` whose pointer carries the one by which its operand came to its place, or does not
+
+  pub carried_is : (x y c d s t : Skel) (where_ : Span) → x ≡ y → c ≡ d → s ≡ t →
+      carried wk x c s where_ ≡ carried wl y d t where_
+  carried_is x y c d s t where_ p q r = joined _ _ _ _ (formed_is where_ s t r) (joined _ _ _ _
+      (ap2 (λ (m n : Skel). flowing false m n (all_lattices w) where_) x y s t p r)
+      (ap2 (λ (m n : Skel). carrying wk m n where_) c d s t q r))
+
+  pub addressed_is : (b z : Bool) (x y : Val) (c d s t : Skel) (near whole : Span) → x ≡ y → (b ≡ true → c ≡ d) →
+      (b ≡ true → s ≡ t) →
+      (if b then carried wk x.skel c s near else prefixed wk signs.Ampersand z x s false whole)
+      ≡ (if b then carried wl y.skel d t near else prefixed wl signs.Ampersand z y t false whole)
+  addressed_is true z x y c d s t near whole e p q =
+      carried_is x.skel y.skel c d s t near (ap (λ (it : Val). it.skel) e) (p refl) (q refl)
+  addressed_is false z x y c d s t near whole e p q = refl
+
+  -- picks
+
+  picking_is : (xs : List Candidate) (t : Skel) (where_ : Span) → picking wk xs t where_ ≡ picking wl xs t where_
+  picking_is [] t where_ = refl
+  picking_is (x ∷ xs) t where_ = ap (λ cs. flowing x.is_zero (value x.val) t (all_lattices w) where_ ++ cs) (picking_is xs t where_)
+
+  pub picked_is : (xs : List Candidate) (s t : Skel) (where_ : Span) → (nat_lt 1 (length xs) ≡ true → s ≡ t) →
+      picked wk xs s where_ ≡ picked wl xs t where_
+  picked_is [] s t where_ g = refl
+  picked_is (x ∷ []) s t where_ g = refl
+  picked_is (x ∷ (y ∷ xs)) s t where_ g = joined _ _ _ _ (formed_is where_ s t (g (more_than_one (length xs))))
+      (picking_is (x ∷ (y ∷ xs)) s where_ ∙ ap (λ c. picking wl (x ∷ (y ∷ xs)) c where_) (g (more_than_one (length xs))))
 
   pub here_is : (token : ℕ) → own wk token ≡ own wl token → formed_here wk token ≡ formed_here wl token
   here_is token e = formed_is (span w token token) _ _ e
@@ -270,6 +307,8 @@ module _ (w : World) (members : MembersBegin w) (k l : Further) (same_own : k.2 
   pub desig_is : (s : Skel) (d : Desig) → desig_skel wk s d ≡ desig_skel wl s d
   desig_is s (member_desig token name) = ap contents (member_same w members k l s name.name)
   desig_is s (index_desig opening e closing) = refl
+  desig_is s (range_desig opening e dots e2 closing) = refl
+  desig_is s (old_desig name colon) = ap contents (member_same w members k l s name.name)
 
   pub desigs_is : (s : Skel) (ds : Desigs) → desigs_skel wk s ds ≡ desigs_skel wl s ds
   desigs_is s no_desigs = refl
@@ -290,6 +329,8 @@ module _ (w : World) (members : MembersBegin w) (k l : Further) (same_own : k.2 
   behind_is s no_desigs next = refl
   behind_is s (more_desigs (member_desig token name) ds) next = refl
   behind_is s (more_desigs (index_desig opening e closing) ds) next = refl
+  behind_is s (more_desigs (range_desig opening e dots e2 closing) ds) next = refl
+  behind_is s (more_desigs (old_desig name colon) ds) next = refl
 
   pub role_is : (d : Declared) (role : Role) → skeleton wk d.at ≡ skeleton wl d.at → by_role wk d role ≡ by_role wl d role
   role_is d typedef_role e = refl

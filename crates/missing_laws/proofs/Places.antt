@@ -1,5 +1,5 @@
 -- What begins at a place of its own is found there.
-use Rattle.std.proofs.Common.{◌≡◌, ℕ, ◌+◌, Bool, true, false, List, [], ◌∷◌, ◌++◌, Option, None, Some, refl, sym, ap, subst, ◌∙◌, append_assoc}
+use Rattle.std.proofs.Common.{◌≡◌, ℕ, ◌+◌, Bool, true, false, List, [], ◌∷◌, ◌++◌, slice_get, unwrap_or, Option, None, Some, refl, sym, ap, subst, ◌∙◌, append_assoc}
 use Rattle.std.specs.Prelude.{if◌then◌else◌}
 use Rattle.type_table.specs.Types.{size}
 use Rattle.qual_types.specs.Skel.{Skel, numbered}
@@ -8,10 +8,11 @@ use Rattle.name_rules.specs.Scopes.{Declared, NameUse, declared_at, is_place}
 use Rattle.meaning_laws.specs.Meanings.{Differ}
 use Rattle.meaning_laws.proofs.Lists.{place_is, place_itself}
 use Rattle.row_rules.specs.Sites.{AreDifferent, has_place, place_of, site_places}
-use Rattle.row_rules.specs.Starting.{Start}
+use Rattle.row_rules.specs.Starting.{Selection, Start, flag_among}
 use Rattle.row_rules.specs.Worlds.{World, Numbered, numbered_from, skeleton_among}
 use Rattle.missing_laws.specs.Finding.{AreFound, IsFound, IsSite}
-use Rattle.missing_laws.specs.Programs.{declared_places, start_places, use_places}
+use Rattle.missing_laws.specs.Programs.{declared_places, selection_places, start_places, use_places}
+use Rattle.missing_laws.proofs.Chosen.{AreChosen}
 use Rattle.missing_laws.proofs.Uses.{NoUse, UsesDiffer}
 
 -- declarations and uses
@@ -116,4 +117,45 @@ module _ (w : World) (starts : List Start) (skeletons_are : w.skeletons ≡ numb
   all_found xs (x ∷ mid) ys e = (
     one_found xs (mid ++ ys) x e,
     all_found (xs ++ x ∷ []) mid ys (e ∙ sym (append_assoc xs (x ∷ []) (mid ++ ys))),
+  )
+
+-- selections
+
+other_selection : (xs ys : List Selection) (x : Selection) (p : Place) →
+    has_place (selection_places (xs ++ x ∷ ys)) p ≡ false → is_place p x.at ≡ true → ⊥
+other_selection xs ys x p e is = clash xs (subst (λ (q : Place). is_place x.at q ≡ true) (sym (place_is p x.at is))
+    (place_itself x.at)) e
+  where
+    clash : (xs : List Selection) → is_place x.at p ≡ true → has_place (selection_places (xs ++ x ∷ ys)) p ≡ false → ⊥
+    clash [] there e = first (is_place x.at p) there e
+      where
+        first : (b : Bool) → b ≡ true → (if b then true else has_place (selection_places ys) p) ≡ false → ⊥
+        first true there e = absurd cc
+        first false there e = absurd cc
+    clash (z ∷ xs) there e = later (is_place z.at p) e (clash xs there)
+      where
+        later : (b : Bool) → (if b then true else has_place (selection_places (xs ++ x ∷ ys)) p) ≡ false →
+            (has_place (selection_places (xs ++ x ∷ ys)) p ≡ false → ⊥) → ⊥
+        later true e next = absurd cc
+        later false e next = next e
+
+flag_where : (b x y z : Bool) → (b ≡ true → ⊥) → y ≡ z → (if b then x else y) ≡ z
+flag_where true x y z g h = absurd (g refl)
+flag_where false x y z g h = h
+
+flag_there : (xs ys : List Selection) (x : Selection) (n : ℕ) → AreDifferent (selection_places (xs ++ x ∷ ys)) →
+    flag_among (xs ++ x ∷ ys) x.at n ≡ unwrap_or (slice_get x.flags n) false
+flag_there [] ys x n h =
+    ap (λ (b : Bool). if b then unwrap_or (slice_get x.flags n) false else flag_among ys x.at n) (place_itself x.at)
+flag_there (z ∷ xs) ys x n h = flag_where (is_place z.at x.at) (unwrap_or (slice_get z.flags n) false) _
+    (unwrap_or (slice_get x.flags n) false) (λ e. other_selection xs ys x z.at h.0 e) (flag_there xs ys x n h.1)
+
+module _ (w : World) (all : List Selection) (candidates_are : (p : Place) (n : ℕ) → w.candidate p n ≡ flag_among all p n)
+    (differ : AreDifferent (selection_places all)) where
+  pub all_chosen : (xs mid ys : List Selection) → all ≡ xs ++ (mid ++ ys) → AreChosen w mid
+  all_chosen xs [] ys e = tt
+  all_chosen xs (x ∷ mid) ys e = (
+    λ n. candidates_are x.at n ∙ (ap (λ (its : List Selection). flag_among its x.at n) e
+        ∙ flag_there xs (mid ++ ys) x n (subst (λ (its : List Selection). AreDifferent (selection_places its)) e differ)),
+    all_chosen (xs ++ x ∷ []) mid ys (e ∙ sym (append_assoc xs (x ∷ []) (mid ++ ys))),
   )

@@ -4,11 +4,11 @@ use Rattle.std.specs.Prelude.{◌&&◌, ◌||◌, not, if◌then◌else◌}
 use Rattle.c_words.specs.declared.kinds.Punct.{Punct}
 use Rattle.type_table.specs.Types.{CType, base, void, struct, pointer, function}
 use Rattle.qual_types.specs.Skel.{Skel, numbered, within}
-use Rattle.name_rules.specs.Values.{Shape, read_from, some_read_from, is_pointer, is_additive, sum_type, binary_type, points_to_some, second_branch, branches_type, cond_type, target, some_target, index_type, some_result_type, result_type, address}
+use Rattle.name_rules.specs.Values.{is_base_value, is_no_pointer, is_vector_index, index_shape, Shape, read_from, some_read_from, is_pointer, is_additive, sum_type, binary_type, points_to_some, second_branch, branches_type, cond_type, target, some_target, index_type, some_result_type, result_type, address}
 use Rattle.name_rules.specs.Values as shapes
 use Rattle.name_rules.specs.Uses.{assigned_shape}
 use Rattle.row_rules.specs.Starting.{is_fresh_sum, is_fresh_binary, is_some_pointer}
-use Rattle.row_rules.specs.Vals.{Val, a_value, a_place, contents, result, is_ref, sum_of, binary_of, value}
+use Rattle.row_rules.specs.Vals.{index_of, Val, a_value, a_place, contents, result, is_ref, sum_of, binary_of, value}
 
 -- whether an operand is a pointer
 
@@ -24,6 +24,28 @@ chosen_where b c x y z e h = rw e h
 
 sum_where : (b c d e : Bool) (x y o z : Skel) → b ≡ c → d ≡ e → sum_of c e x y o ≡ z → sum_of b d x y o ≡ z
 sum_where b c d e x y o z is it h = rw is rw it h
+
+not_true : (b : Bool) → not b ≡ true → b ≡ false
+not_true true h = absurd cc
+not_true false h = refl
+
+one_is_ref : (x y : Skel) → is_ref (if is_ref x then x else y) ≡ true → (not (is_ref x) && not (is_ref y)) ≡ false
+one_is_ref x y h = by (is_ref x) h
+  where
+    by : (b : Bool) → is_ref (if b then x else y) ≡ true → (not b && not (is_ref y)) ≡ false
+    by true h = refl
+    by false h = ap not h
+
+no_vector_where : (wide c : Bool) → c ≡ false → (wide && c) ≡ false
+no_vector_where true c e = e
+no_vector_where false c e = refl
+
+vector_where : (wide numbers last r r2 : Bool) → (wide && (numbers && last)) ≡ true → (numbers ≡ true → r ≡ false) →
+    (last ≡ true → r2 ≡ false) → (wide && (not r && not r2)) ≡ true
+vector_where true true true r r2 e g l = rw (g refl) rw (l refl) refl
+vector_where true true false r r2 e g l = absurd cc
+vector_where true false last r r2 e g l = absurd cc
+vector_where false numbers last r r2 e g l = absurd cc
 
 abbrev pub shape : Bool → Option CType → Shape
 shape b o = record { is_place = b; type = o }
@@ -153,6 +175,55 @@ module _ {K : Type 0} where
       by (void ws) one h = right (void ws) one refl h
       by (struct ws s) one h = right (struct ws s) one refl h
       by (function ws ps r e) one h = right (function ws ps r e) one refl h
+
+  -- an element of a vector is as the vector is, and else it is a place
+
+  base_no_ref : (o : Option CType) (x : K → Skel) → Reads o x → is_base_value o ≡ true → (k : K) → is_ref (x k) ≡ false
+  base_no_ref None x g e k = absurd cc
+  base_no_ref (Some (base ws)) x g e k =
+      let one = g (base ws) refl in ap is_ref (one.1 k) ∙ ref_where (base ws) one.0
+  base_no_ref (Some (void ws)) x g e k = absurd cc
+  base_no_ref (Some (struct ws n)) x g e k = absurd cc
+  base_no_ref (Some (pointer ws t)) x g e k = absurd cc
+  base_no_ref (Some (function ws ps r e2)) x g e k = absurd cc
+
+  other_no_ref : (o : Option CType) (x : K → Skel) → Reads o x → is_no_pointer o ≡ true → (k : K) → is_ref (x k) ≡ false
+  other_no_ref None x g e k = absurd cc
+  other_no_ref (Some u) x g e k =
+      let one = g u refl in ap is_ref (one.1 k) ∙ (ref_where u one.0 ∙ not_true (is_pointer u) e)
+
+  pub index_agrees : (wide : Bool) (s s2 : Shape) (v v2 : K → Val) → Agrees s v → Agrees s2 v2 →
+      Agrees (index_shape wide s s2) (λ k. index_of wide (v k) (v2 k))
+  index_agrees wide s s2 v v2 g l = by (is_vector_index wide s s2) refl
+    where
+      is_vector : is_vector_index wide s s2 ≡ true → (k : K) →
+          (wide && (not (is_ref (value (v k))) && not (is_ref (value (v2 k))))) ≡ true
+      is_vector e k = vector_where wide (is_base_value (shapes.value s)) (is_no_pointer (shapes.value s2))
+          (is_ref (value (v k))) (is_ref (value (v2 k))) e
+          (λ b. base_no_ref (shapes.value s) (λ k. value (v k)) (value_reads s v g) b k)
+          (λ b. other_no_ref (shapes.value s2) (λ k. value (v2 k)) (value_reads s2 v2 l) b k)
+
+      place : (t : CType) (n : ℕ) (k : K) →
+          (if is_ref (value (v k)) then value (v k) else value (v2 k)) ≡ numbered (pointer [] t) n →
+          (wide && (not (is_ref (value (v k))) && not (is_ref (value (v2 k))))) ≡ false
+      place t n k e = no_vector_where wide _ (one_is_ref (value (v k)) (value (v2 k)) (ap is_ref e ∙ ref_where (pointer [] t) n))
+
+      by : (b : Bool) → is_vector_index wide s s2 ≡ b →
+          Agrees (if b then s else shapes.a_place (index_type (shapes.value s) (shapes.value s2)))
+          (λ k. index_of wide (v k) (v2 k))
+      by true e t h = let one = g t h in (
+        one.0,
+        λ k. ap (λ (b : Bool). if b then v k else a_place (if is_ref (value (v k)) then value (v k) else value (v2 k)))
+            (is_vector e k) ∙ one.1 k,
+      )
+      by false e t h =
+          let one = index_reads (shapes.value s) (shapes.value s2) (λ k. value (v k)) (λ k. value (v2 k))
+          (value_reads s v g) (value_reads s2 v2 l) t h in (
+            one.0,
+            λ k.
+                ap (λ (b : Bool). if b then v k else a_place (if is_ref (value (v k)) then value (v k) else value (v2 k)))
+                (place t one.0 k (one.1 k)) ∙ ap a_place (one.1 k),
+          )
 
   -- sums, other operators and conditions
 

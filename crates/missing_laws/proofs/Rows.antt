@@ -14,7 +14,7 @@ use Rattle.name_rules.specs.Scopes.{Role, typedef_role, object_role, function_ro
 use Rattle.name_rules.specs.Linking.{link_of}
 use Rattle.name_rules.specs.Values.{member_in, own_of, own_number}
 use Rattle.meaning_laws.proofs.Lists.{place_is}
-use Rattle.row_rules.specs.Annotations.{annotating, parameters}
+use Rattle.row_rules.specs.Annotations.{has_access, annotating, parameters}
 use Rattle.row_rules.specs.Forming.{Ways, ways_in, into_member, into_members, into_fields, formed_in, all_formed_in, formed}
 use Rattle.row_rules.specs.Rows.{annotating_name, branched, chosen, declared_row, formed_name, into_param, name_row, next_of_struct, own_skel, param_row, some_declared_row, equal_to, tied_to_first}
 use Rattle.row_rules.specs.Indexing.{indexing}
@@ -41,7 +41,8 @@ held s = Some (contents s)
 
 -- a form that is not quiet, or one that is
 abbrev pub around : World → Bool → Option Place → Around
-around w quiet f = record { spelling = w.spelling; names = w.names; enclosing = f; is_quiet = quiet }
+around w quiet f =
+    record { spelling = w.spelling; names = w.names; enclosing = f; is_quiet = quiet; access = has_access w.lattices }
 
 module _ (w : World) (members : MembersBegin w) (k l : Further) where
   abbrev pub wk : World

@@ -1,19 +1,19 @@
 -- An expression without a fault, whose names are known, has a type.
 use Rattle.std.proofs.Common.{◌≡◌, ℕ, Bool, true, false, List, [], ◌∷◌, ◌++◌, Option, None, Some, refl}
-use Rattle.std.specs.Prelude.{◌&&◌, not, if◌then◌else◌}
+use Rattle.std.specs.Prelude.{◌&&◌, ◌≢◌, not, is_some, if◌then◌else◌}
 use Rattle.c_words.specs.declared.kinds.Punct.{Punct}
 use Rattle.c_words.specs.declared.kinds.Punct.TheVariants as signs
-use Rattle.c_tree.specs.Tree.{Expr, operation, cast, prefix, sizeof_value, sizeof_type, extension, index, call, dot, arrow, post, compound, name_use, number_use, char_use, text_use, paren, statement_expr, va_arg, va_start, va_copy, offset, comma, assign, cond, binary, no_expr, some_expr, BlockItems, no_block_items, more_block_items, BlockItem, block_decl, block_stmt, Stmt, block, expr_stmt, attr_stmt, label, case_stmt, default_stmt, if_stmt, switch_stmt, while_stmt, do_stmt, for_stmt, goto_stmt, continue_stmt, break_stmt, return_stmt, asm_stmt}
+use Rattle.c_tree.specs.Tree.{Expr, operation, cast, prefix, sizeof_value, sizeof_type, extension, index, call, dot, arrow, post, compound, name_use, number_use, char_use, text_use, paren, statement_expr, va_arg, va_start, va_copy, offset, comma, assign, cond, binary, no_expr, some_expr, BlockItems, no_block_items, more_block_items, BlockItem, block_decl, block_stmt, Stmt, block, expr_stmt, attr_stmt, label, case_stmt, default_stmt, if_stmt, switch_stmt, while_stmt, do_stmt, for_stmt, goto_stmt, continue_stmt, break_stmt, return_stmt, asm_stmt, complex_part, label_use, compat, choose, generic, typeof_value, typeof_type, align, auto_word, range_desig, old_desig, case_range, goto_value, block_labels, identifiers, base_name, Assocs, no_assocs, more_assocs, Assoc, typed_assoc, default_assoc}
 use Rattle.type_table.specs.Types.{CType, base, void, struct, pointer, function}
 use Rattle.name_rules.specs.Spellings.{Spelling, Place, place}
 use Rattle.name_rules.specs.Faults.{Fault, Rule, not_place, not_pointer, not_function, no_member, fault_where}
 use Rattle.name_rules.specs.Scopes.{Names, Known, Aggregate}
-use Rattle.name_rules.specs.Values.{Shape, value, some_read_from, some_target, points_to_some, second_branch, branches_type, member_of, lacks_member, known_type, member_type, cond_type, some_result_type, result_type, points_to_function, index_type, sum_type, is_additive, binary_type, is_no_pointer, address}
+use Rattle.name_rules.specs.Values.{Candidate, Association, a_place, higher_of, ranked, first_ranked, no_zeros, or_all, left_of, have_types, pick_shape, candidates_of, all_candidates, is_candidate, selected, selected_shape, is_base_value, is_vector_index, index_shape, Shape, value, some_read_from, some_target, points_to_some, second_branch, branches_type, member_of, lacks_member, known_type, member_type, cond_type, some_result_type, result_type, points_to_function, index_type, sum_type, is_additive, binary_type, is_no_pointer, address}
 use Rattle.name_rules.specs.Uses.{assigned_shape}
 use Rattle.name_rules.specs.Checks.{call_faults, prefix_faults, member_faults, index_faults_at}
-use Rattle.type_rules.specs.Shapes.{is_zero, shape_of, items_value, item_value, stmt_value}
-use Rattle.type_rules.specs.Judging.{expr_faults, operator_faults, block_items_faults, block_item_faults, stmt_faults, count}
-use Rattle.missing_laws.specs.Everywhere.{ExprHas, BlockItemsHave, BlockItemHas, StmtHas}
+use Rattle.type_rules.specs.Shapes.{associations_of, candidate_of, is_zero, shape_of, items_value, item_value, stmt_value}
+use Rattle.type_rules.specs.Judging.{assocs_faults, assoc_faults, some_declr_faults, words_faults, expr_faults, operator_faults, block_items_faults, block_item_faults, stmt_faults, count}
+use Rattle.missing_laws.specs.Everywhere.{ExprHas, AssocsHave, BlockItemsHave, BlockItemHas, StmtHas}
 use Rattle.row_rules.specs.Worlds.{World}
 use Rattle.missing_laws.specs.Finding.{IsSettled}
 
@@ -107,6 +107,122 @@ indexed (Some (void ws)) b h l p = pointed b l p
 indexed (Some (struct ws n)) b h l p = pointed b l p
 indexed (Some (function ws ps r e)) b h l p = pointed b l p
 
+-- where a value is no element of a vector, one operand of `[ ]` is a pointer
+no_vector : (wide numbers first last : Bool) → (first && last && not (wide && numbers)) ≡ false → (wide && (numbers && last)) ≡ false →
+    (first && last) ≡ false
+no_vector wide numbers false last h k = refl
+no_vector wide numbers true false h k = refl
+no_vector true true true true h k = absurd cc
+no_vector true false true true h k = absurd cc
+no_vector false numbers true true h k = absurd cc
+
+indexed_where : (b : Bool) (e : Shape) (o : Option CType) → Is e.type → (b ≡ false → Is o) →
+    Is (if b then e else a_place o).type
+indexed_where true e o h l = h
+indexed_where false e o h l = l refl
+
+indexed_any : (wide : Bool) (e e2 : Shape) → Is e.type → Is (value e) → Is (value e2) →
+    (is_no_pointer (value e) && is_no_pointer (value e2) && not (wide && is_base_value (value e))) ≡ false →
+    Is (index_shape wide e e2).type
+indexed_any wide e e2 t h l p = indexed_where (is_vector_index wide e e2) e (index_type (value e) (value e2)) t
+    (λ none. indexed (value e) (value e2) h l
+    (no_vector wide (is_base_value (value e)) (is_no_pointer (value e)) (is_no_pointer (value e2)) p none))
+
+-- picks
+
+abbrev AllTyped : List Candidate → Type 0
+AllTyped [] = Unit {0}
+AllTyped (it ∷ others) = Is it.shape.type × AllTyped others
+
+abbrev pub AssociationsTyped : List Association → Type 0
+AssociationsTyped [] = Unit {0}
+AssociationsTyped (it ∷ others) = Is it.candidate.shape.type × AssociationsTyped others
+
+higher_typed : (a b : Option CType) → Is a → Is (higher_of a b)
+higher_typed a None h = h
+higher_typed None (Some u) h = absurd cc
+higher_typed (Some t) (Some u) h = (_, refl)
+
+higher_some : (a b : Option CType) → Is b → Is (higher_of a b)
+higher_some a None h = absurd cc
+higher_some None (Some u) h = (u, refl)
+higher_some (Some t) (Some u) h = (_, refl)
+
+ranked_typed : (best : Option CType) (all : List Candidate) → Is best → Is (ranked best all)
+ranked_typed best [] h = h
+ranked_typed best (it ∷ others) h =
+    ranked_typed (higher_of best (value it.shape)) others (higher_typed best (value it.shape) h)
+
+first_typed : (all : List Candidate) → AllTyped all → (all ≡ [] → ⊥) → Is (first_ranked all)
+first_typed [] h some = absurd (some refl)
+first_typed (it ∷ others) h some =
+    ranked_typed (higher_of None (value it.shape)) others (higher_some None (value it.shape) (valued it.shape h.0))
+
+no_zeros_typed : (all : List Candidate) → AllTyped all → AllTyped (no_zeros all)
+no_zeros_typed [] h = tt
+no_zeros_typed (it ∷ others) h = by it.is_zero (no_zeros_typed others h.1)
+  where
+    by : (b : Bool) → AllTyped (no_zeros others) → AllTyped (if b then no_zeros others else it ∷ no_zeros others)
+    by true k = k
+    by false k = (h.0, k)
+
+or_all_typed : (xs ys : List Candidate) → AllTyped xs → AllTyped ys → AllTyped (or_all xs ys)
+or_all_typed [] ys h k = k
+or_all_typed (x ∷ xs) ys h k = h
+
+or_all_some : (xs ys : List Candidate) → (ys ≡ [] → ⊥) → or_all xs ys ≡ [] → ⊥
+or_all_some [] ys g = g
+or_all_some (x ∷ xs) ys g = λ e. cc
+
+some_is : (o : Option CType) → Is o → is_some o ≡ true
+some_is None h = absurd cc
+some_is (Some t) h = refl
+
+both : (a b : Bool) → a ≡ true → b ≡ true → (a && b) ≡ true
+both true b h k = k
+both false b h k = absurd cc
+
+have_all : (all : List Candidate) → AllTyped all → have_types all ≡ true
+have_all [] h = refl
+have_all (it ∷ others) h = both (is_some (value it.shape)) (have_types others)
+    (some_is (value it.shape) (valued it.shape h.0)) (have_all others h.1)
+
+typed_where : (b : Bool) (o : Option CType) → b ≡ true → Is o → Is (if b then o else None)
+typed_where true o e h = h
+typed_where false o e h = absurd cc
+
+picked_typed : (all : List Candidate) → AllTyped all → (all ≡ [] → ⊥) → Is (pick_shape all).type
+picked_typed [] h some = absurd (some refl)
+picked_typed (it ∷ []) h some = h.0
+picked_typed (it ∷ (other ∷ others)) h some =
+    let all : List Candidate = it ∷ (other ∷ others) in
+    typed_where (have_types all) (first_ranked (left_of all)) (have_all all h)
+    (first_typed (left_of all) (or_all_typed (no_zeros all) all (no_zeros_typed all h) h) (or_all_some (no_zeros all) all some))
+
+of_type_typed : (t : CType) (all : List Association) → AssociationsTyped all → AllTyped (candidates_of t all)
+of_type_typed t [] h = tt
+of_type_typed t (it ∷ others) h = by (is_candidate t it.type) (of_type_typed t others h.1)
+  where
+    by : (b : Bool) → AllTyped (candidates_of t others) →
+        AllTyped ((if b then it.candidate ∷ [] else []) ++ candidates_of t others)
+    by true k = (h.0, k)
+    by false k = k
+
+all_typed : (all : List Association) → AssociationsTyped all → AllTyped (all_candidates all)
+all_typed [] h = tt
+all_typed (it ∷ others) h = (h.0, all_typed others h.1)
+
+all_some : (all : List Association) → (all ≡ [] → ⊥) → all_candidates all ≡ [] → ⊥
+all_some [] g = λ e. g refl
+all_some (it ∷ others) g = λ e. cc
+
+selected_typed : (o : Option CType) (all : List Association) → Is o → AssociationsTyped all → (all ≡ [] → ⊥) →
+    Is (selected_shape o all).type
+selected_typed None all h k some = absurd cc
+selected_typed (Some t) all h k some = picked_typed (selected t all)
+    (or_all_typed (candidates_of t all) (all_candidates all) (of_type_typed t all k) (all_typed all k))
+    (or_all_some (candidates_of t all) (all_candidates all) (all_some all some))
+
 called : (o : Option CType) (at : Place) (n : ℕ) → Is o → call_faults at o n ≡ [] → Is (some_result_type o)
 called None at n h none = absurd cc
 called (Some t) at n h none = by t (not_false (points_to_function t)
@@ -131,6 +247,12 @@ membered all (Some t) name h p = by (member_of all t name) refl
     by : (it : Option Known) → member_of all t name ≡ it → Is (known_type it)
     by None e = absurd cc
     by (Some it) e = (it.type, refl)
+
+-- a selection has associations
+some_associations : (u : Spelling) (s : Names) (xs : Assocs) → xs ≢ no_assocs → associations_of u s xs ≡ [] → ⊥
+some_associations u s no_assocs g = λ e. g refl
+some_associations u s (more_assocs (typed_assoc ws d colon e) xs) g = λ e. cc
+some_associations u s (more_assocs (default_assoc keyword colon e) xs) g = λ e. cc
 
 module _ (w : World) (U V W : ℕ → Type 0) where
   abbrev u : Spelling
@@ -183,12 +305,12 @@ module _ (w : World) (U V W : ℕ → Type 0) where
     typed (sizeof_type word opening ws d closing) k h = (base [], refl)
     typed (extension keyword e) k h = typed e k.1 h
     typed (index e opening e2 closing) k h =
-        let behind = last_none (index_faults_at (place u opening) (sh e) (sh e2)) _ h in
-        indexed (value (sh e)) (value (sh e2))
-        (valued (sh e) (typed e k.1.0 (first_none (expr_faults u s e) _ behind)))
+        let behind = last_none (index_faults_at u.wide (place u opening) (sh e) (sh e2)) _ h in
+        let one = typed e k.1.0 (first_none (expr_faults u s e) _ behind) in
+        indexed_any u.wide (sh e) (sh e2) one (valued (sh e) one)
         (valued (sh e2) (typed e2 k.1.1 (last_none (expr_faults u s e) _ behind)))
         (holds_where _ (place u opening) not_pointer
-        (first_none (index_faults_at (place u opening) (sh e) (sh e2)) _ h))
+        (first_none (index_faults_at u.wide (place u opening) (sh e) (sh e2)) _ h))
     typed (call e opening es closing) k h =
         called (value (sh e)) (place u opening) (count es)
         (valued (sh e) (typed e k.1.0 (first_none (expr_faults u s e) _
@@ -220,6 +342,32 @@ module _ (w : World) (U V W : ℕ → Type 0) where
     typed (va_start keyword opening e separator e2 closing) k h = (void [], refl)
     typed (va_copy keyword opening e separator e2 closing) k h = (void [], refl)
     typed (offset keyword opening ws d separator name steps closing) k h = (base [], refl)
+    typed (complex_part keyword e) k h = typed e k.1 h
+    typed (label_use token name) k h = (_, refl)
+    typed (compat keyword opening ws d separator ws2 d2 closing) k h = (base [], refl)
+    typed (choose keyword opening e separator e2 separator2 e3 closing) k h =
+        let behind = last_none (expr_faults u s e) _ h in
+        picked_typed (candidate_of u s e2 ∷ (candidate_of u s e3 ∷ [])) (
+          typed e2 k.1.0 (first_none (expr_faults u s e2) _ behind),
+          (typed e3 k.1.1 (last_none (expr_faults u s e2) _ behind), tt),
+        ) (λ e. cc)
+    typed (generic keyword opening e xs closing) k h =
+        selected_typed (value (sh e)) (associations_of u s xs)
+        (valued (sh e) (k.0.1.0 (first_none (expr_faults u s e) _ h)))
+        (assocs_typed xs k.1 (last_none (expr_faults u s e) _ h)) (some_associations u s xs k.0.0)
+
+    assocs_typed : (xs : Assocs) → AssocsHave (IsSettled w) U V W xs → assocs_faults u s xs ≡ [] →
+        AssociationsTyped (associations_of u s xs)
+    assocs_typed no_assocs k h = tt
+    assocs_typed (more_assocs (typed_assoc ws d colon e) xs) k h =
+        let one = first_none (assoc_faults u s (typed_assoc ws d colon e)) _ h in (
+          typed e k.0.1.1 (last_none (some_declr_faults u s d) _ (last_none (words_faults u s ws) _ one)),
+          assocs_typed xs k.1 (last_none (assoc_faults u s (typed_assoc ws d colon e)) _ h),
+        )
+    assocs_typed (more_assocs (default_assoc keyword colon e) xs) k h = (
+      typed e k.0 (first_none (expr_faults u s e) _ h),
+      assocs_typed xs k.1 (last_none (expr_faults u s e) _ h),
+    )
 
     items_typed : (items : BlockItems) → BlockItemsHave (IsSettled w) U V W items → block_items_faults u s items ≡ [] →
         Is (items_value u s items)
@@ -233,6 +381,7 @@ module _ (w : World) (U V W : ℕ → Type 0) where
         Is (item_value u s item)
     item_typed (block_decl d) k h = (void [], refl)
     item_typed (block_stmt t) k h = stmt_typed t k h
+    item_typed (block_labels keyword names semi) k h = (void [], refl)
 
     stmt_typed : (t : Stmt) → StmtHas (IsSettled w) U V W t → stmt_faults u s t ≡ [] → Is (stmt_value u s t)
     stmt_typed (expr_stmt (some_expr e) semi) k h = valued (sh e) (typed e k h)
@@ -252,3 +401,5 @@ module _ (w : World) (U V W : ℕ → Type 0) where
     stmt_typed (break_stmt keyword semi) k h = (void [], refl)
     stmt_typed (return_stmt keyword e semi) k h = (void [], refl)
     stmt_typed (asm_stmt keyword words group semi) k h = (void [], refl)
+    stmt_typed (case_range keyword e dots e2 colon t) k h = (void [], refl)
+    stmt_typed (goto_value keyword star e semi) k h = (void [], refl)

@@ -1,7 +1,7 @@
 -- Each expression of an item without faults, whose names are known, has a type.
 use Rattle.std.proofs.Common.{◌≡◌, ℕ, Bool, true, false, List, [], ◌∷◌, Option}
-use Rattle.c_tree.specs.Tree.{Expr, operation, cast, prefix, sizeof_value, sizeof_type, extension, index, call, dot, arrow, post, compound, name_use, number_use, char_use, text_use, paren, statement_expr, va_arg, va_start, va_copy, offset, Operator, comma, assign, cond, binary, SomeExpr, no_expr, some_expr, Exprs, no_exprs, more_exprs, Init, init_value, init_braced, InitList, init_list, InitItems, no_init_items, more_init_items, SomeInit, no_init, some_init, InitDeclrs, no_init_declrs, more_init_declrs, Declaration, declaration, Decl, decl_declaration, decl_assert, BlockItems, no_block_items, more_block_items, BlockItem, block_decl, block_stmt, Stmt, block, expr_stmt, attr_stmt, label, case_stmt, default_stmt, if_stmt, switch_stmt, while_stmt, do_stmt, for_stmt, goto_stmt, continue_stmt, break_stmt, return_stmt, asm_stmt, SomeElse, no_else, some_else, ForStart, start_declaration, start_value}
-use Rattle.c_tree.specs.Unit.{Item, function_item, decl_item, asm_item, semi_item}
+use Rattle.c_tree.specs.Tree.{Expr, operation, cast, prefix, sizeof_value, sizeof_type, extension, index, call, dot, arrow, post, compound, name_use, number_use, char_use, text_use, paren, statement_expr, va_arg, va_start, va_copy, offset, Operator, comma, assign, cond, binary, SomeExpr, no_expr, some_expr, Exprs, no_exprs, more_exprs, Init, init_value, init_braced, InitList, init_list, InitItems, no_init_items, more_init_items, SomeInit, no_init, some_init, InitDeclrs, no_init_declrs, more_init_declrs, Declaration, declaration, Decl, decl_declaration, decl_assert, BlockItems, no_block_items, more_block_items, BlockItem, block_decl, block_stmt, Stmt, block, expr_stmt, attr_stmt, label, case_stmt, default_stmt, if_stmt, switch_stmt, while_stmt, do_stmt, for_stmt, goto_stmt, continue_stmt, break_stmt, return_stmt, asm_stmt, SomeElse, no_else, some_else, ForStart, start_declaration, start_value, complex_part, label_use, compat, choose, generic, typeof_value, typeof_type, align, auto_word, range_desig, old_desig, case_range, goto_value, block_labels, identifiers, base_name, Assocs, no_assocs, more_assocs, Assoc, typed_assoc, default_assoc, Declr, pointer, declr_name, declr_paren, array, params, abs_pointer, abs_paren, abs_array, abs_params}
+use Rattle.c_tree.specs.Unit.{Item, function_item, old_function_item, decl_item, asm_item, semi_item}
 use Rattle.type_table.specs.Types.{CType}
 use Rattle.name_rules.specs.Spellings.{Spelling, place}
 use Rattle.name_rules.specs.Faults.{not_pointer, fault_where}
@@ -11,8 +11,8 @@ use Rattle.name_rules.specs.Uses.{type_named_at}
 use Rattle.name_rules.specs.Checks.{call_faults, index_faults_at, member_faults, prefix_faults}
 use Rattle.type_rules.specs.Tokens.{declared_name, first_word}
 use Rattle.type_rules.specs.Shapes.{shape_of}
-use Rattle.type_rules.specs.Judging.{count, next_behind, item_target, declared_type, expr_faults, operator_faults, middle_faults, some_expr_faults, exprs_faults, desigs_faults, indices_faults, init_faults, untargeted_faults, untargeted_items_faults, list_faults, items_faults, words_faults, declr_faults, some_declr_faults, init_declrs_faults, some_init_faults, declaration_faults, decl_faults, block_items_faults, block_item_faults, stmt_faults, some_else_faults, for_start_faults, item_faults, items_faults_of}
-use Rattle.missing_laws.specs.Everywhere.{ExprHas, OperatorHas, SomeExprHas, ExprsHave, InitHas, InitListHas, InitItemsHave, SomeInitHas, InitDeclrsHave, DeclarationHas, DeclHas, BlockItemsHave, BlockItemHas, StmtHas, SomeElseHas, ForStartHas, ItemHas, ItemsHave}
+use Rattle.type_rules.specs.Judging.{assocs_faults, assoc_faults, declarations_faults, old_declr_faults, count, next_behind, item_target, declared_type, expr_faults, operator_faults, middle_faults, some_expr_faults, exprs_faults, desigs_faults, indices_faults, init_faults, untargeted_faults, untargeted_items_faults, list_faults, items_faults, words_faults, declr_faults, some_declr_faults, init_declrs_faults, some_init_faults, declaration_faults, decl_faults, block_items_faults, block_item_faults, stmt_faults, some_else_faults, for_start_faults, item_faults, items_faults_of}
+use Rattle.missing_laws.specs.Everywhere.{AssocsHave, AssocHas, DeclarationsHave, OldDeclrHas, ExprHas, OperatorHas, SomeExprHas, ExprsHave, InitHas, InitListHas, InitItemsHave, SomeInitHas, InitDeclrsHave, DeclarationHas, DeclHas, BlockItemsHave, BlockItemHas, StmtHas, SomeElseHas, ForStartHas, ItemHas, ItemsHave}
 use Rattle.row_rules.specs.Worlds.{World}
 use Rattle.missing_laws.specs.Finding.{IsSettled, HasType}
 use Rattle.missing_laws.proofs.Types.{first_none, last_none, typed}
@@ -65,7 +65,7 @@ module _ (w : World) (U V W : ℕ → Type 0) where
     expr_typed (sizeof_type word opening ws d closing) k h = is_typed (sizeof_type word opening ws d closing) k h
     expr_typed (extension keyword e) k h = (is_typed (extension keyword e) k h, expr_typed e k.1 h)
     expr_typed (index e opening e2 closing) k h =
-        let behind = last_none (index_faults_at (place u opening) (shape_of u s e) (shape_of u s e2)) _ h in (
+        let behind = last_none (index_faults_at u.wide (place u opening) (shape_of u s e) (shape_of u s e2)) _ h in (
           is_typed (index e opening e2 closing) k h,
           (
             expr_typed e k.1.0 (first_none (expr_faults u s e) _ behind),
@@ -123,6 +123,36 @@ module _ (w : World) (U V W : ℕ → Type 0) where
     )
     expr_typed (offset keyword opening ws d separator name steps closing) k h =
         is_typed (offset keyword opening ws d separator name steps closing) k h
+    expr_typed (complex_part keyword e) k h = (is_typed (complex_part keyword e) k h, expr_typed e k.1 h)
+    expr_typed (label_use token name) k h = is_typed (label_use token name) k h
+    expr_typed (compat keyword opening ws d separator ws2 d2 closing) k h =
+        is_typed (compat keyword opening ws d separator ws2 d2 closing) k h
+    expr_typed (choose keyword opening e separator e2 separator2 e3 closing) k h =
+        let behind = last_none (expr_faults u s e) _ h in (
+          is_typed (choose keyword opening e separator e2 separator2 e3 closing) k h,
+          (
+            expr_typed e2 k.1.0 (first_none (expr_faults u s e2) _ behind),
+            expr_typed e3 k.1.1 (last_none (expr_faults u s e2) _ behind),
+          ),
+        )
+    expr_typed (generic keyword opening e xs closing) k h = (
+      is_typed (generic keyword opening e xs closing) k h,
+      assocs_typed xs k.1 (last_none (expr_faults u s e) _ h),
+    )
+
+    assocs_typed : (xs : Assocs) → AssocsHave K U V W xs → assocs_faults u s xs ≡ [] → AssocsHave T U V W xs
+    assocs_typed no_assocs k h = tt
+    assocs_typed (more_assocs x xs) k h = (
+      assoc_typed x k.0 (first_none (assoc_faults u s x) _ h),
+      assocs_typed xs k.1 (last_none (assoc_faults u s x) _ h),
+    )
+
+    assoc_typed : (x : Assoc) → AssocHas K U V W x → assoc_faults u s x ≡ [] → AssocHas T U V W x
+    assoc_typed (typed_assoc ws d colon e) k h = (
+      k.0,
+      (k.1.0, expr_typed e k.1.1 (last_none (some_declr_faults u s d) _ (last_none (words_faults u s ws) _ h))),
+    )
+    assoc_typed (default_assoc keyword colon e) k h = expr_typed e k h
 
     operator_typed : (op : Operator) → OperatorHas K U V W op → middle_faults u s op ≡ [] → OperatorHas T U V W op
     operator_typed comma k h = tt
@@ -213,6 +243,7 @@ module _ (w : World) (U V W : ℕ → Type 0) where
     block_item_typed : (item : BlockItem) → BlockItemHas K U V W item → block_item_faults u s item ≡ [] → BlockItemHas T U V W item
     block_item_typed (block_decl d) k h = decl_typed d k h
     block_item_typed (block_stmt t) k h = stmt_typed t k h
+    block_item_typed (block_labels keyword names semi) k h = tt
 
     stmt_typed : (t : Stmt) → StmtHas K U V W t → stmt_faults u s t ≡ [] → StmtHas T U V W t
     stmt_typed (block opening items closing) k h = block_items_typed items k h
@@ -252,6 +283,9 @@ module _ (w : World) (U V W : ℕ → Type 0) where
     stmt_typed (break_stmt keyword semi) k h = tt
     stmt_typed (return_stmt keyword e semi) k h = some_expr_typed e k h
     stmt_typed (asm_stmt keyword words group semi) k h = tt
+    stmt_typed (case_range keyword e dots e2 colon t) k h =
+        stmt_typed t k (last_none (expr_faults u s e2) _ (last_none (expr_faults u s e) _ h))
+    stmt_typed (goto_value keyword star e semi) k h = expr_typed e k h
 
     some_else_typed : (it : SomeElse) → SomeElseHas K U V W it → some_else_faults u s it ≡ [] → SomeElseHas T U V W it
     some_else_typed no_else k h = tt
@@ -260,6 +294,30 @@ module _ (w : World) (U V W : ℕ → Type 0) where
     for_start_typed : (start : ForStart) → ForStartHas K U V W start → for_start_faults u s start ≡ [] → ForStartHas T U V W start
     for_start_typed (start_declaration d) k h = declaration_typed d k h
     for_start_typed (start_value e semi) k h = some_expr_typed e k h
+
+  declarations_typed : (ds : List Declaration) → DeclarationsHave K U V W ds → declarations_faults u s ds ≡ [] →
+      DeclarationsHave T U V W ds
+  declarations_typed [] k h = tt
+  declarations_typed (d ∷ ds) k h = (
+    declaration_typed d k.0 (first_none (declaration_faults u s d) _ h),
+    declarations_typed ds k.1 (last_none (declaration_faults u s d) _ h),
+  )
+
+  old_typed : (ds : List Declaration) (d : Declr) → OldDeclrHas K U V W ds d → old_declr_faults u s ds d ≡ [] →
+      OldDeclrHas T U V W ds d
+  old_typed ds (identifiers d opening names closing) k h =
+      (k.0, declarations_typed ds k.1 (last_none (declr_faults u s d) _ h))
+  old_typed ds (pointer star words d) k h = old_typed ds d k h
+  old_typed ds (declr_paren opening attrs d closing) k h = old_typed ds d k h
+  old_typed ds (array d opening words size closing) k h = old_typed ds d k (first_none (old_declr_faults u s ds d) _ h)
+  old_typed ds (params d opening ps dots closing) k h =
+      (old_typed ds d k.0 (first_none (old_declr_faults u s ds d) _ h), k.1)
+  old_typed ds (declr_name token name) k h = k
+  old_typed ds (base_name token) k h = k
+  old_typed ds (abs_pointer star words d) k h = k
+  old_typed ds (abs_paren opening attrs d closing) k h = k
+  old_typed ds (abs_array d opening words size closing) k h = k
+  old_typed ds (abs_params d opening ps dots closing) k h = k
 
   pub item_typed : (item : Item) → ItemHas K U V W item → item_faults u s item ≡ [] → ItemHas T U V W item
   item_typed (function_item exts ws d attrs opening items closing) k h = (
@@ -275,6 +333,20 @@ module _ (w : World) (U V W : ℕ → Type 0) where
       ),
     ),
   )
+  item_typed (old_function_item exts ws d attrs ds opening items closing) k h =
+      let behind = last_none (words_faults u s ws) _ h in (
+        k.0,
+        (
+          k.1.0,
+          (
+            k.1.1.0,
+            (
+              old_typed ds d k.1.1.1.0 (first_none (old_declr_faults u s ds d) _ behind),
+              block_items_typed items k.1.1.1.1 (last_none (old_declr_faults u s ds d) _ behind),
+            ),
+          ),
+        ),
+      )
   item_typed (decl_item d) k h = decl_typed d k h
   item_typed (asm_item keyword group semi) k h = tt
   item_typed (semi_item semi) k h = tt

@@ -3,7 +3,7 @@ use Rattle.std.proofs.Common.{◌≡◌, ◌⊎◌, inl, inr, ℕ, Bool, true, f
 use Rattle.std.specs.Prelude.{if◌then◌else◌}
 use Rattle.c_words.specs.declared.kinds.Punct.{Punct}
 use Rattle.c_words.specs.declared.kinds.Punct.TheVariants as signs
-use Rattle.c_tree.specs.Tree.{Expr, operation, cast, prefix, sizeof_value, sizeof_type, extension, index, call, dot, arrow, post, compound, name_use, number_use, char_use, text_use, paren, statement_expr, va_arg, va_start, va_copy, offset, comma, assign, cond, binary, Declr, pointer, declr_name, declr_paren, array, params, abs_pointer, abs_paren, abs_array, abs_params, SomeDeclr, no_declr, some_declr}
+use Rattle.c_tree.specs.Tree.{Expr, operation, cast, prefix, sizeof_value, sizeof_type, extension, index, call, dot, arrow, post, compound, name_use, number_use, char_use, text_use, paren, statement_expr, va_arg, va_start, va_copy, offset, comma, assign, cond, binary, Declr, pointer, declr_name, declr_paren, array, params, abs_pointer, abs_paren, abs_array, abs_params, SomeDeclr, no_declr, some_declr, complex_part, label_use, compat, choose, generic, typeof_value, typeof_type, align, auto_word, range_desig, old_desig, case_range, goto_value, block_labels, identifiers, base_name, Assocs, no_assocs, more_assocs, Assoc, typed_assoc, default_assoc}
 use Rattle.type_table.specs.Types.{CType}
 use Rattle.name_rules.specs.Spellings.{Place, Named}
 use Rattle.name_rules.specs.Declaring.{own_where}
@@ -67,6 +67,8 @@ mutual
   nameless all (declr_paren opening attrs d closing) h e = absurd cc
   nameless all (array d opening words size closing) h e = absurd cc
   nameless all (params d opening ps dots closing) h e = absurd cc
+  nameless all (identifiers d opening names closing) h e = absurd cc
+  nameless all (base_name token) h e = absurd cc
   nameless all (abs_pointer star words d) h e = some_nameless all d h.1
   nameless all (abs_paren opening attrs d closing) h e = nameless all d h.1 h.2
   nameless all (abs_array d opening words size closing) h e = direct_nameless all d h.0
@@ -88,6 +90,8 @@ named_round (declr_paren opening attrs d closing) above e = named_round d above 
 named_round (params d opening ps dots closing) above e = named_round d true e
 named_round (pointer star words d) above e = named_round d false e
 named_round (array d opening words size closing) above e = named_round d false e
+named_round (identifiers d opening names closing) above e = absurd cc
+named_round (base_name token) above e = absurd cc
 named_round (abs_pointer star words d) above e = absurd cc
 named_round (abs_paren opening attrs d closing) above e = absurd cc
 named_round (abs_array d opening words size closing) above e = absurd cc
@@ -167,6 +171,11 @@ expr_low (va_arg keyword opening e separator ws d closing) = refl
 expr_low (va_start keyword opening e separator e2 closing) = refl
 expr_low (va_copy keyword opening e separator e2 closing) = refl
 expr_low (offset keyword opening ws d separator name steps closing) = refl
+expr_low (complex_part keyword e) = refl
+expr_low (label_use token name) = refl
+expr_low (compat keyword opening ws d separator ws2 d2 closing) = refl
+expr_low (choose keyword opening e separator e2 separator2 e3 closing) = refl
+expr_low (generic keyword opening e xs closing) = refl
 
 low : (n m : ℕ) → n ≤ m → ltb 16 m ≡ false → ltb 16 n ≡ false
 low n m h k = let top : m ≤ 16 = ltb-false 16 m k in le-ltb 16 n (omega arith)

@@ -1,9 +1,9 @@
 -- What holds at each expression of a form whose constraints count, at names that are declared. The sizes of arrays, the
 -- widths of members, the values of enumerators, case labels, indices of designators, and operands of `sizeof` and `offsetof`
 -- give no constraints, and are left out.
-use Rattle.std.specs.Prelude.{ℕ, List, [], ◌∷◌, Option, None, Some}
-use Rattle.c_tree.specs.Tree.{Expr, operation, cast, prefix, sizeof_value, sizeof_type, extension, index, call, dot, arrow, post, compound, name_use, number_use, char_use, text_use, paren, statement_expr, va_arg, va_start, va_copy, offset, Operator, comma, assign, cond, binary, SomeExpr, no_expr, some_expr, Exprs, no_exprs, more_exprs, SpecWords, no_words, more_words, SpecWord, storage, thread, inline_word, noreturn, qualifier, basic, struct_type, enum_type, typedef_name, attribute, SomeBody, no_body, some_body, StructItems, no_struct_items, more_struct_items, StructItem, member, member_semi, member_assert, MemDeclrs, no_mem_declrs, more_mem_declrs, MemDeclr, named, unnamed, Declr, pointer, declr_name, declr_paren, array, params, abs_pointer, abs_paren, abs_array, abs_params, SomeDeclr, no_declr, some_declr, Params, no_params, more_params, Init, init_value, init_braced, InitList, init_list, InitItems, no_init_items, more_init_items, SomeInit, no_init, some_init, InitDeclrs, no_init_declrs, more_init_declrs, Declaration, declaration, Decl, decl_declaration, decl_assert, BlockItems, no_block_items, more_block_items, BlockItem, block_decl, block_stmt, Stmt, block, expr_stmt, attr_stmt, label, case_stmt, default_stmt, if_stmt, switch_stmt, while_stmt, do_stmt, for_stmt, goto_stmt, continue_stmt, break_stmt, return_stmt, asm_stmt, SomeElse, no_else, some_else, ForStart, start_declaration, start_value}
-use Rattle.c_tree.specs.Unit.{Item, function_item, decl_item, asm_item, semi_item}
+use Rattle.std.specs.Prelude.{◌≡◌, ℕ, List, [], ◌∷◌, Option, None, Some}
+use Rattle.c_tree.specs.Tree.{Expr, operation, cast, prefix, sizeof_value, sizeof_type, extension, index, call, dot, arrow, post, compound, name_use, number_use, char_use, text_use, paren, statement_expr, va_arg, va_start, va_copy, offset, Operator, comma, assign, cond, binary, SomeExpr, no_expr, some_expr, Exprs, no_exprs, more_exprs, SpecWords, no_words, more_words, SpecWord, storage, thread, inline_word, noreturn, qualifier, basic, struct_type, enum_type, typedef_name, attribute, SomeBody, no_body, some_body, StructItems, no_struct_items, more_struct_items, StructItem, member, member_semi, member_assert, MemDeclrs, no_mem_declrs, more_mem_declrs, MemDeclr, named, unnamed, Declr, pointer, declr_name, declr_paren, array, params, abs_pointer, abs_paren, abs_array, abs_params, SomeDeclr, no_declr, some_declr, Params, no_params, more_params, Init, init_value, init_braced, InitList, init_list, InitItems, no_init_items, more_init_items, SomeInit, no_init, some_init, InitDeclrs, no_init_declrs, more_init_declrs, Declaration, declaration, Decl, decl_declaration, decl_assert, BlockItems, no_block_items, more_block_items, BlockItem, block_decl, block_stmt, Stmt, block, expr_stmt, attr_stmt, label, case_stmt, default_stmt, if_stmt, switch_stmt, while_stmt, do_stmt, for_stmt, goto_stmt, continue_stmt, break_stmt, return_stmt, asm_stmt, SomeElse, no_else, some_else, ForStart, start_declaration, start_value, complex_part, label_use, compat, choose, generic, typeof_value, typeof_type, align, auto_word, range_desig, old_desig, case_range, goto_value, block_labels, identifiers, base_name, Assocs, no_assocs, more_assocs, Assoc, typed_assoc, default_assoc}
+use Rattle.c_tree.specs.Unit.{Item, function_item, decl_item, asm_item, semi_item, old_function_item}
 use Rattle.name_rules.specs.Spellings.{Named}
 use Rattle.type_rules.specs.Tokens.{declared_name, some_declared_name}
 
@@ -26,6 +26,10 @@ module _ (U V W : ℕ → Type 0) where
   UnnamedHas (enum_type e) = Unit {0}
   UnnamedHas (typedef_name name) = Unit {0}
   UnnamedHas (attribute attr) = Unit {0}
+  UnnamedHas (typeof_value keyword opening e closing) = Unit {0}
+  UnnamedHas (typeof_type word opening ws d closing) = Unit {0}
+  UnnamedHas (align attr) = Unit {0}
+  UnnamedHas (auto_word token) = Unit {0}
 
   abbrev pub UnnamedHave : SpecWords → Type 0
   UnnamedHave no_words = Unit {0}
@@ -47,6 +51,10 @@ module _ (U V W : ℕ → Type 0) where
     WordHas (enum_type e) = Unit {0}
     WordHas (typedef_name name) = Unit {0}
     WordHas (attribute attr) = Unit {0}
+    WordHas (typeof_value keyword opening e closing) = Unit {0}
+    WordHas (typeof_type word opening ws d closing) = (some_declared_name d ≡ None) × (WordsHave ws × SomeDeclrHas d)
+    WordHas (align attr) = Unit {0}
+    WordHas (auto_word token) = Unit {0}
 
     pub SomeBodyHas : SomeBody → Type 0
     SomeBodyHas no_body = Unit {0}
@@ -83,6 +91,8 @@ module _ (U V W : ℕ → Type 0) where
     DeclrHas (abs_paren opening attrs d closing) = DeclrHas d
     DeclrHas (abs_array d opening words size closing) = SomeDeclrHas d
     DeclrHas (abs_params d opening ps dots closing) = SomeDeclrHas d × ParamsHave ps
+    DeclrHas (identifiers d opening names closing) = DeclrHas d
+    DeclrHas (base_name token) = Unit {0}
 
     pub SomeDeclrHas : SomeDeclr → Type 0
     SomeDeclrHas no_declr = Unit {0}
@@ -126,6 +136,21 @@ module _ (P : Expr → Type 0) (U V W : ℕ → Type 0) where
         P (va_copy keyword opening e separator e2 closing) × (ExprHas e × ExprHas e2)
     ExprHas (offset keyword opening ws d separator name steps closing) =
         P (offset keyword opening ws d separator name steps closing)
+    ExprHas (complex_part keyword e) = P (complex_part keyword e) × ExprHas e
+    ExprHas (label_use token name) = P (label_use token name)
+    ExprHas (compat keyword opening ws d separator ws2 d2 closing) = P (compat keyword opening ws d separator ws2 d2 closing)
+    ExprHas (choose keyword opening e separator e2 separator2 e3 closing) =
+        P (choose keyword opening e separator e2 separator2 e3 closing) × (ExprHas e2 × ExprHas e3)
+    ExprHas (generic keyword opening e xs closing) = P (generic keyword opening e xs closing) × AssocsHave xs
+
+    pub AssocsHave : Assocs → Type 0
+    AssocsHave no_assocs = Unit {0}
+    AssocsHave (more_assocs x xs) = AssocHas x × AssocsHave xs
+
+    pub AssocHas : Assoc → Type 0
+    AssocHas (typed_assoc ws d colon e) =
+        WordsHave U V W ws × (((some_declared_name d ≡ None) × SomeDeclrHas U V W d) × ExprHas e)
+    AssocHas (default_assoc keyword colon e) = ExprHas e
 
     pub OperatorHas : Operator → Type 0
     OperatorHas comma = Unit {0}
@@ -175,6 +200,7 @@ module _ (P : Expr → Type 0) (U V W : ℕ → Type 0) where
     pub BlockItemHas : BlockItem → Type 0
     BlockItemHas (block_decl d) = DeclHas d
     BlockItemHas (block_stmt t) = StmtHas t
+    BlockItemHas (block_labels keyword names semi) = Unit {0}
 
     pub StmtHas : Stmt → Type 0
     StmtHas (block opening items closing) = BlockItemsHave items
@@ -194,6 +220,8 @@ module _ (P : Expr → Type 0) (U V W : ℕ → Type 0) where
     StmtHas (break_stmt keyword semi) = Unit {0}
     StmtHas (return_stmt keyword e semi) = SomeExprHas e
     StmtHas (asm_stmt keyword words group semi) = Unit {0}
+    StmtHas (case_range keyword e dots e2 colon t) = StmtHas t
+    StmtHas (goto_value keyword star e semi) = ExprHas e
 
     pub SomeElseHas : SomeElse → Type 0
     SomeElseHas no_else = Unit {0}
@@ -203,9 +231,29 @@ module _ (P : Expr → Type 0) (U V W : ℕ → Type 0) where
     ForStartHas (start_declaration d) = DeclarationHas d
     ForStartHas (start_value e semi) = SomeExprHas e
 
+  abbrev pub DeclarationsHave : List Declaration → Type 0
+  DeclarationsHave [] = Unit {0}
+  DeclarationsHave (d ∷ ds) = DeclarationHas d × DeclarationsHave ds
+
+  -- a declarator with a list of identifiers, with the declarations behind that
+  abbrev pub OldDeclrHas : List Declaration → Declr → Type 0
+  OldDeclrHas ds (identifiers d opening names closing) = DeclrHas U V W d × DeclarationsHave ds
+  OldDeclrHas ds (pointer star words d) = OldDeclrHas ds d
+  OldDeclrHas ds (declr_paren opening attrs d closing) = OldDeclrHas ds d
+  OldDeclrHas ds (array d opening words size closing) = OldDeclrHas ds d
+  OldDeclrHas ds (params d opening ps dots closing) = OldDeclrHas ds d × ParamsHave U V W ps
+  OldDeclrHas ds (declr_name token name) = DeclrHas U V W (declr_name token name)
+  OldDeclrHas ds (base_name token) = Unit {0}
+  OldDeclrHas ds (abs_pointer star words d) = DeclrHas U V W (abs_pointer star words d)
+  OldDeclrHas ds (abs_paren opening attrs d closing) = DeclrHas U V W (abs_paren opening attrs d closing)
+  OldDeclrHas ds (abs_array d opening words size closing) = DeclrHas U V W (abs_array d opening words size closing)
+  OldDeclrHas ds (abs_params d opening ps dots closing) = DeclrHas U V W (abs_params d opening ps dots closing)
+
   abbrev pub ItemHas : Item → Type 0
   ItemHas (function_item exts ws d attrs opening items closing) =
       NamedHas U (declared_name d) × (NamedHas V (declared_name d) × (WordsHave U V W ws × (DeclrHas U V W d × BlockItemsHave items)))
+  ItemHas (old_function_item exts ws d attrs ds opening items closing) =
+      NamedHas U (declared_name d) × (NamedHas V (declared_name d) × (WordsHave U V W ws × (OldDeclrHas ds d × BlockItemsHave items)))
   ItemHas (decl_item d) = DeclHas d
   ItemHas (asm_item keyword group semi) = Unit {0}
   ItemHas (semi_item semi) = Unit {0}

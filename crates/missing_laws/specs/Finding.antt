@@ -1,23 +1,25 @@
 -- What is found of skeletons and call sites in a world.
-use Rattle.std.specs.Prelude.{◌≡◌, ◌⊎◌, ℕ, Bool, true, false, List, [], ◌∷◌, ◌++◌, slice_get, Option, None, Some}
+use Rattle.std.specs.Prelude.{◌≡◌, ◌≢◌, ◌⊎◌, ℕ, Bool, true, false, List, [], ◌∷◌, ◌++◌, slice_get, unwrap_or, Option, None, Some}
 use Rattle.c_words.specs.declared.kinds.Punct.{Punct}
 use Rattle.c_words.specs.declared.kinds.Punct.TheVariants as signs
-use Rattle.c_tree.specs.Tree.{Expr, operation, cast, prefix, sizeof_value, sizeof_type, extension, index, call, dot, arrow, post, compound, name_use, number_use, char_use, text_use, paren, statement_expr, va_arg, va_start, va_copy, offset, SpecWords, SomeDeclr}
+use Rattle.c_tree.specs.Tree.{Expr, operation, cast, prefix, sizeof_value, sizeof_type, extension, index, call, dot, arrow, post, compound, name_use, number_use, char_use, text_use, paren, statement_expr, va_arg, va_start, va_copy, offset, SpecWords, SomeDeclr, complex_part, label_use, compat, choose, generic, typeof_value, typeof_type, align, auto_word, range_desig, old_desig, case_range, goto_value, block_labels, identifiers, base_name, Assocs, no_assocs, more_assocs, Assoc, typed_assoc, default_assoc}
 use Rattle.type_table.specs.Types.{CType, pointer}
 use Rattle.qual_types.specs.Skel.{numbered, within}
 use Rattle.name_rules.specs.Spellings.{Place}
 use Rattle.name_rules.specs.Scopes.{Role, typedef_role, object_role, function_role, parameter_role, field_role, enumerator_role, Declared, declared_at, means, Known, Own, body_of}
 use Rattle.name_rules.specs.Linking.{link_of}
 use Rattle.name_rules.specs.Uses.{type_named_at, use_at, use_shape}
-use Rattle.name_rules.specs.Values.{Shape, member_in, own_of}
+use Rattle.name_rules.specs.Values.{Shape, Association, value, has_of_type, member_in, own_of}
 use Rattle.type_rules.specs.Tokens.{first_word, some_declared_name}
-use Rattle.type_rules.specs.Shapes.{shape_of}
+use Rattle.type_rules.specs.Shapes.{shape_of, associations_of}
+use Rattle.type_rules.specs.Judging.{expr_faults}
 use Rattle.row_rules.specs.Sites.{has_place}
-use Rattle.row_rules.specs.Starting.{Around, Start}
+use Rattle.row_rules.specs.Starting.{Around, Start, candidate_flags}
 use Rattle.row_rules.specs.Vals.{Val}
 use Rattle.row_rules.specs.Worlds.{World, Numbered, at, skeleton}
 use Rattle.constraint_rules.specs.Values.{val}
 use Rattle.first_laws.specs.Firsts.{has_skeleton}
+use Rattle.row_rules.specs.Annotations.{has_access}
 
 -- the same world, with other skeletons and call sites behind those that it has
 abbrev pub more : World → List Numbered → List Place → World
@@ -86,6 +88,20 @@ IsPrefix p = is_prefix p ≡ true
 abbrev pub IsTypeName : World → SpecWords → SomeDeclr → Type 0
 IsTypeName w ws d = TypeIsKnown w ws × (some_declared_name d ≡ None)
 
+-- the control of a selection by a type has one, where it has no fault; its own constraints do not count
+abbrev pub ControlHasType : World → Expr → Type 0
+ControlHasType w e = expr_faults w.spelling w.names e ≡ [] → HasType w e
+
+-- the flags of the associations of a selection, by the types that are known
+abbrev pub flags_of : Option CType → List Association → List Bool
+flags_of t all = candidate_flags (has_of_type t all) t all
+
+-- a world knows which associations of a selection are candidates
+abbrev pub AreCandidates : World → ℕ → Expr → Assocs → Type 0
+AreCandidates w token e xs =
+    (n : ℕ) → w.candidate (at w token) n
+    ≡ unwrap_or (slice_get (flags_of (value (shape_of w.spelling w.names e)) (associations_of w.spelling w.names xs)) n) false
+
 -- at an expression itself, its parts aside
 abbrev pub IsSettled : World → Expr → Type 0
 IsSettled w (name_use token name) = UseIsKnown w token × UseBegins w token
@@ -110,6 +126,12 @@ IsSettled w (va_arg keyword opening e separator ws d closing) = IsTypeName w ws 
 IsSettled w (va_start keyword opening e separator e2 closing) = Unit {0}
 IsSettled w (va_copy keyword opening e separator e2 closing) = Unit {0}
 IsSettled w (offset keyword opening ws d separator name steps closing) = Unit {0}
+IsSettled w (complex_part keyword e) = Unit {0}
+IsSettled w (label_use token name) = Unit {0}
+IsSettled w (compat keyword opening ws d separator ws2 d2 closing) = Unit {0}
+IsSettled w (choose keyword opening e separator e2 separator2 e3 closing) = Unit {0}
+IsSettled w (generic keyword opening e xs closing) =
+    (xs ≢ no_assocs) × (ControlHasType w e × AreCandidates w keyword e xs)
 
 -- each member of each struct has a skeleton
 pub record MembersBegin (w : World) : Type 0 where
@@ -120,7 +142,7 @@ pub record MembersBegin (w : World) : Type 0 where
 
 -- in a form that is not quiet, in this function
 abbrev pub loud : World → Option Place → Around
-loud w f = record { spelling = w.spelling; names = w.names; enclosing = f; is_quiet = false }
+loud w f = record { spelling = w.spelling; names = w.names; enclosing = f; is_quiet = false; access = has_access w.lattices }
 
 -- what is of this type, a place or a value
 abbrev pub of_type : Shape → CType → ℕ → Val

@@ -11,13 +11,14 @@ use Rattle.constraint_rules.specs.Starts.{expr_starts, items_starts}
 use Rattle.constraint_rules.specs.Demands.{items_demand}
 use Rattle.missing_laws.specs.Everywhere.{ExprHas, ItemsHave}
 use Rattle.missing_laws.specs.Finding.{AreFound, FirstIsMet, HasItsSkeleton, HasType, IsSettled, LinksAreMet, MembersBegin, RoleHasSkeleton, TokenBegins, loud, more}
+use Rattle.row_rules.specs.Annotations.{has_access}
 
 -- The items of a unit in a world: names and types' names in them are known, their expressions have no faults, and what they
 -- declare, what that is linked with and what is fresh in them begins where it is looked for.
 pub record AreSettled (w : World) (items : List Item) : Type 0 where
   pub clean : items_faults_of w.spelling w.names items ≡ []
   pub settled : ItemsHave (IsSettled w) (TokenBegins w) (FirstIsMet w) (RoleHasSkeleton w) items
-  pub starts : AreFound w (items_starts w.spelling w.names items)
+  pub starts : AreFound w (items_starts (has_access w.lattices) w.spelling w.names items)
   pub members : MembersBegin w
   pub links : LinksAreMet w
 

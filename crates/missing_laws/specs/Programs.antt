@@ -1,16 +1,16 @@
 -- Programs whose units are well formed and without faults, each of whose declarations, uses of names and skeletons is at a place
 -- of its own, and in which what has a skeleton was first declared as what has one.
-use Rattle.std.specs.Prelude.{◌≡◌, List, [], ◌∷◌}
+use Rattle.std.specs.Prelude.{◌≡◌, List, [], ◌∷◌, Bool}
 use Rattle.c_tree.specs.declared.lexeme.Lexeme.{Lexeme}
 use Rattle.c_tree.specs.Unit.{IsUnit}
 use Rattle.name_rules.specs.Spellings.{Place}
 use Rattle.name_rules.specs.Scopes.{Declared, NameUse}
 use Rattle.type_rules.specs.Program.{HasNoFault, Source, names_of}
 use Rattle.row_rules.specs.Sites.{AreDifferent}
-use Rattle.row_rules.specs.Starting.{Start}
+use Rattle.row_rules.specs.Starting.{Start, Selection}
 use Rattle.row_rules.specs.Worlds.{Numbered}
 use Rattle.constraint_rules.specs.Demands.{items_demand}
-use Rattle.constraint_rules.specs.Systems.{Program, starts_of, world_of}
+use Rattle.constraint_rules.specs.Systems.{Program, selections_among, starts_of, world_of}
 use Rattle.first_laws.specs.Firsts.{FirstsHaveSkeletons}
 use Rattle.missing_laws.specs.Everywhere.{ItemsHave}
 use Rattle.missing_laws.specs.Finding.{FirstIsMet, RoleHasSkeleton, TokenBegins, more}
@@ -28,11 +28,16 @@ abbrev pub start_places : List Start → List Place
 start_places [] = []
 start_places (start ∷ starts) = start.at ∷ start_places starts
 
--- each token declares one name at most, is one use of a name at most, and one skeleton at most begins at it
+abbrev pub selection_places : List Selection → List Place
+selection_places [] = []
+selection_places (it ∷ selections) = it.at ∷ selection_places selections
+
+-- each token declares one name at most, is one use of a name at most, one skeleton at most begins at it, and one selection by a type
 pub record PlacesDiffer (sources : List Source) : Type 0 where
   pub declared : AreDifferent (declared_places (names_of sources).declared)
   pub uses : AreDifferent (use_places (names_of sources).uses)
-  pub starts : AreDifferent (start_places (starts_of sources))
+  pub starts : (access : Bool) → AreDifferent (start_places (starts_of access sources))
+  pub selections : AreDifferent (selection_places (selections_among (names_of sources) sources))
 
 -- each unit is well formed of some tokens
 abbrev pub AreFormed : List Source → Type 0

@@ -4,7 +4,7 @@ use Rattle.c_words.specs.declared.kinds.Keyword.{Keyword}
 use Rattle.c_words.specs.declared.kinds.Keyword.TheVariants as keywords
 use Rattle.c_syntax.specs.declared.parts.Qual.{Qual}
 use Rattle.c_syntax.specs.declared.parts.Qual.TheVariants as quals
-use Rattle.c_tree.specs.Tree.{SpecWords, no_words, more_words, SpecWord, storage, thread, inline_word, noreturn, qualifier, basic, struct_type, enum_type, typedef_name, attribute, SomeBody, no_body, some_body, EnumType, enum_of, Declr, pointer, declr_name, declr_paren, array, params, abs_pointer, abs_paren, abs_array, abs_params, no_declr, some_declr, Params, no_params, more_params, InitDeclrs, no_init_declrs, more_init_declrs}
+use Rattle.c_tree.specs.Tree.{SpecWords, no_words, more_words, SpecWord, storage, thread, inline_word, noreturn, qualifier, basic, struct_type, enum_type, typedef_name, attribute, SomeBody, no_body, some_body, EnumType, enum_of, Declr, pointer, declr_name, declr_paren, array, params, abs_pointer, abs_paren, abs_array, abs_params, no_declr, some_declr, Params, no_params, more_params, InitDeclrs, no_init_declrs, more_init_declrs, identifiers, base_name, typeof_value, typeof_type, align, auto_word, SomeInit, no_init, some_init, init_value, init_braced}
 use Rattle.type_rules.specs.Naming as names
 use Rattle.type_rules.specs.Tokens as trees
 use Rattle.c_tape.specs.Tests as tests
@@ -37,6 +37,10 @@ same_word (struct_type word attrs tag body) = refl
 same_word (enum_type e) = same_enum e
 same_word (typedef_name name) = refl
 same_word (attribute attr) = refl
+same_word (typeof_value keyword opening e closing) = refl
+same_word (typeof_type word opening ws2 d closing) = refl
+same_word (align attr) = refl
+same_word (auto_word token) = refl
 
 pub same_first : (ws : SpecWords) → tokens.first_word ws ≡ trees.first_word ws
 same_first no_words = refl
@@ -53,6 +57,10 @@ same_bare_word (struct_type word attrs tag body) = refl
 same_bare_word (enum_type e) = refl
 same_bare_word (typedef_name name) = refl
 same_bare_word (attribute attr) = refl
+same_bare_word (typeof_value keyword opening e closing) = refl
+same_bare_word (typeof_type word opening ws2 d closing) = refl
+same_bare_word (align attr) = refl
+same_bare_word (auto_word token) = refl
 
 same_bare : (ws : SpecWords) → tests.is_bare ws ≡ trees.leave_void ws
 same_bare no_words = refl
@@ -74,6 +82,8 @@ same_name (abs_pointer star words d) = refl
 same_name (abs_paren opening attrs d closing) = refl
 same_name (abs_array d opening words size closing) = refl
 same_name (abs_params d opening ps dots closing) = refl
+same_name (identifiers d opening names closing) = refl
+same_name (base_name token) = refl
 
 same_bodiless : (body : SomeBody) → tests.is_bodiless body ≡ names.is_bodiless body
 same_bodiless no_body = refl
@@ -90,6 +100,10 @@ same_lone_word (struct_type word attrs tag body) = same_bodiless body
 same_lone_word (enum_type e) = refl
 same_lone_word (typedef_name name) = refl
 same_lone_word (attribute attr) = refl
+same_lone_word (typeof_value keyword opening e closing) = refl
+same_lone_word (typeof_type word opening ws2 d closing) = refl
+same_lone_word (align attr) = refl
+same_lone_word (auto_word token) = refl
 
 same_lone : (ws : SpecWords) → tests.is_lone ws ≡ names.is_lone ws
 same_lone no_words = refl
@@ -98,3 +112,15 @@ same_lone (more_words word ws) = rw (same_lone_word word, same_lone ws)
 pub same_alone : (ws : SpecWords) (ds : InitDeclrs) → tests.declares_tag ws ds ≡ names.is_tag_alone ws ds
 same_alone ws no_init_declrs = same_lone ws
 same_alone ws (more_init_declrs attrs d asm_label attrs2 init ds) = refl
+
+same_value : (init : SomeInit) → tests.has_value init ≡ trees.has_value init
+same_value no_init = refl
+same_value (some_init equal (init_value e)) = refl
+same_value (some_init equal (init_braced list)) = refl
+
+same_values : (ds : InitDeclrs) → tests.have_values ds ≡ trees.have_values ds
+same_values no_init_declrs = refl
+same_values (more_init_declrs attrs d asm_label attrs2 init ds) = rw (same_value init, same_values ds)
+
+pub same_auto : (ws : SpecWords) (ds : InitDeclrs) → tests.are_auto ws ds ≡ trees.are_auto ws ds
+same_auto ws ds = rw (same_values ds)

@@ -1,5 +1,6 @@
 -- What each form that holds specifiers or declarators makes of names, where its parts do what they should.
 use Rattle.std.proofs.Common.{◌≡◌, ℕ, suc, Bool, true, false, ◌&&◌, if◌then◌else◌, List, [], ◌∷◌, ◌++◌, length, Option, None, Some, refl, ◌∙◌, ap, subst}
+use Rattle.std.proofs.lemmas.List.{append-nil}
 use Rattle.c_words.specs.declared.kinds.Keyword.{Keyword}
 use Rattle.c_words.specs.declared.kinds.Keyword.TheVariants as keywords
 use Rattle.c_syntax.specs.declared.parts.Identifier.{Identifier}
@@ -8,7 +9,7 @@ use Rattle.c_syntax.specs.declared.parts.ArrayWord.{ArrayWord}
 use Rattle.c_syntax.specs.declared.parts.AsmLabel.{AsmLabel}
 use Rattle.c_syntax.specs.declared.parts.PointerWord.{PointerWord}
 use Rattle.c_syntax.specs.declared.parts.Word.{Word}
-use Rattle.c_tree.specs.Tree.{Expr, SpecWords, no_words, more_words, SpecWord, storage, thread, inline_word, noreturn, qualifier, basic, struct_type, enum_type, typedef_name, attribute, SomeBody, no_body, some_body, StructItems, StructItem, member, MemDeclrs, no_mem_declrs, more_mem_declrs, MemDeclr, named, unnamed, SomeValue, EnumType, enum_of, no_enum_body, some_enum_body, Enumerators, Declr, pointer, declr_name, declr_paren, array, params, abs_pointer, abs_paren, abs_array, abs_params, SomeDeclr, no_declr, some_declr, SomeSize, Params, no_params, more_params, SomeInit, InitDeclrs, no_init_declrs, more_init_declrs, Dots}
+use Rattle.c_tree.specs.Tree.{Expr, SpecWords, no_words, more_words, SpecWord, storage, thread, inline_word, noreturn, qualifier, basic, struct_type, enum_type, typedef_name, attribute, SomeBody, no_body, some_body, StructItems, StructItem, member, MemDeclrs, no_mem_declrs, more_mem_declrs, MemDeclr, named, unnamed, SomeValue, EnumType, enum_of, no_enum_body, some_enum_body, Enumerators, Declr, pointer, declr_name, declr_paren, array, params, abs_pointer, abs_paren, abs_array, abs_params, SomeDeclr, no_declr, some_declr, SomeSize, Params, no_params, more_params, SomeInit, InitDeclrs, no_init_declrs, more_init_declrs, Dots, identifiers, base_name, typeof_value, typeof_type, align, auto_word}
 use Rattle.tape_ops.specs.declared.op.Op.{Op}
 use Rattle.tape_ops.specs.declared.op.Op.TheVariants as ops
 use Rattle.tape_ops.specs.declared.declarator.DeclrOp.TheVariants as declrs
@@ -29,7 +30,7 @@ use Rattle.type_rules.specs.Tokens.{first_word, declared_name, some_declared_nam
 use Rattle.c_tape.specs.Tests as tests
 use Rattle.c_tree.specs.Firsts as tokens
 use Rattle.c_tape.specs.Tape.{expr_tape, some_size_tape, spec, declr, specs_with, type_name_with, params_with, tag_tape, body_tape, words_tape, word_tape, struct_tape, struct_items_tape, members_tape, unnamed_tape, unnamed_word_tape, mem_declrs_tape, mem_declr_tape, some_value_tape, enum_tape, enumerators_tape, some_declr_tape, contents, some_contents, params_tape, some_init_tape, init_declrs_tape, struct_item_tape}
-use Rattle.name_laws.proofs.Running.{between, among_words, declaring, Goes, ◌▸◌, one, stays, in_turn}
+use Rattle.name_laws.proofs.Running.{between, among_words, declaring, Goes, ◌▸◌, one, stays, arriving, in_turn}
 use Rattle.name_laws.proofs.Saying.{Says, quietly_says}
 use Rattle.name_laws.proofs.Agreeing.{same_void, same_kind, same_first, same_none}
 use Rattle.name_laws.proofs.Pieces.{listed_behind, lists_of, lists_push, pieces_make}
@@ -46,6 +47,10 @@ storage_word (struct_type word attrs tag body) words = words
 storage_word (enum_type e) words = words
 storage_word (typedef_name name) words = words
 storage_word (attribute attr) words = words
+storage_word (typeof_value keyword opening e closing) words = words
+storage_word (typeof_type word opening ws d closing) words = words
+storage_word (align attr) words = words
+storage_word (auto_word token) words = words
 
 abbrev pub storage_behind : SpecWords → List Keyword → List Keyword
 storage_behind no_words words = words
@@ -71,6 +76,10 @@ untagged_word (struct_type word attrs tag body) b = untagged_body (names.tag_kin
 untagged_word (enum_type e) b = b
 untagged_word (typedef_name name) b = b
 untagged_word (attribute attr) b = b
+untagged_word (typeof_value keyword opening e closing) b = b
+untagged_word (typeof_type word opening ws d closing) b = b
+untagged_word (align attr) b = b
+untagged_word (auto_word token) b = b
 
 abbrev pub untagged_behind : SpecWords → Bool → Bool
 untagged_behind no_words b = b
@@ -87,7 +96,7 @@ listing st own types s =
     record st {
       names = s;
       specifiers = no_specifiers;
-      parameters = record { own = own; types = types } ∷ st.parameters;
+      parameters = record { own = own; types = types; identifiers = [] } ∷ st.parameters;
     }
 
 length_push : (types : List CType) (t : CType) → length (types ++ t ∷ []) ≡ suc (length types)
@@ -96,7 +105,7 @@ length_push (x ∷ types) t = ap suc (length_push types t)
 
 -- the names of `void` as no parameter
 
-and_left : (a b : Bool) → a && b ≡ true → a ≡ true
+pub and_left : (a b : Bool) → a && b ≡ true → a ≡ true
 and_left true b h = refl
 and_left false b h = absurd cc
 
@@ -117,6 +126,10 @@ module _ (u : Spelling) where
   void_word alone (enum_type e) t s h = absurd cc
   void_word alone (typedef_name name) t s h = refl
   void_word alone (attribute attr) t s h = refl
+  void_word alone (typeof_value keyword opening e closing) t s h = absurd cc
+  void_word alone (typeof_type word opening ws d closing) t s h = absurd cc
+  void_word alone (align attr) t s h = refl
+  void_word alone (auto_word token) t s h = absurd cc
 
   void_words : (alone : Bool) (ws : SpecWords) (t : CType) (w : Words) (s : Names) → leave_void ws ≡ true
       → (words_named u alone ws t w s).names ≡ s
@@ -154,6 +167,10 @@ module _ (u : Spelling) where
   own_same (abs_array d opening words size closing) false o s = refl
   own_same (abs_params d opening ps dots closing) true o s = refl
   own_same (abs_params d opening ps dots closing) false o s = refl
+  own_same (identifiers d opening names closing) true o s = refl
+  own_same (identifiers d opening names closing) false o s = refl
+  own_same (base_name token) true o s = refl
+  own_same (base_name token) false o s = refl
 
   -- what each kind of part should do
 
@@ -234,7 +251,7 @@ module _ (u : Spelling) where
   -- specifiers
 
   pub specs_none : (alone : Bool) → SpecsLaw alone no_words
-  specs_none alone st t w k b s = one u (ops.Spec specs.SpecsEnd) _
+  specs_none alone st t w k b s = one u (ops.Spec specs.SpecsEnd) _ (λ passed. refl)
 
   pub specs_more : (alone : Bool) (word : SpecWord) (ws : SpecWords) → WordLaw alone word → SpecsLaw alone ws
       → SpecsLaw alone (more_words word ws)
@@ -246,8 +263,8 @@ module _ (u : Spelling) where
       → Goes u (tag_tape alone kind tag) (among_words st t w k b s)
       (among_words st (tag_named u alone kind tag t s).type w k b (tag_named u alone kind tag t s).names)
   tag_goes alone kind None st t w k b s = stays u _
-  tag_goes true kind (Some tag) st t w k b s = one u (ops.Spec (specs.TagAlone kind tag.token tag.name)) _
-  tag_goes false kind (Some tag) st t w k b s = one u (ops.Spec (specs.TagUse kind tag.token tag.name)) _
+  tag_goes true kind (Some tag) st t w k b s = one u (ops.Spec (specs.TagAlone kind tag.token tag.name)) _ (λ passed. refl)
+  tag_goes false kind (Some tag) st t w k b s = one u (ops.Spec (specs.TagUse kind tag.token tag.name)) _ (λ passed. refl)
 
   -- in a body of a tag
   abbrev bodied : State → TagKind → Begun → CType → Words → List Keyword → Bool → State
@@ -264,8 +281,8 @@ module _ (u : Spelling) where
       → Goes u (body_tape kind keyword tag) (among_words st t w k b s)
       (between (bodied st kind (body_begun u kind keyword tag s) t w k (untagged_begins kind tag b))
       (body_begun u kind keyword tag s).names)
-  body_goes kind keyword None st t w k b s = one u (ops.Spec (specs.Untagged kind keyword)) _
-  body_goes kind keyword (Some tag) st t w k b s = one u (ops.Spec (specs.TagBody kind tag.token tag.name)) _
+  body_goes kind keyword None st t w k b s = one u (ops.Spec (specs.Untagged kind keyword)) _ (λ passed. refl)
+  body_goes kind keyword (Some tag) st t w k b s = one u (ops.Spec (specs.TagBody kind tag.token tag.name)) _ (λ passed. refl)
 
   pub struct_none : (alone : Bool) → StructLaw alone no_body
   struct_none alone kind keyword tag st t w k b s = tag_goes alone kind tag st t w k b s
@@ -276,7 +293,7 @@ module _ (u : Spelling) where
       body_goes kind keyword tag st t w k b s
       ▸ p (bodied st kind (body_begun u kind keyword tag s) t w k (untagged_begins kind tag b))
       (body_begun u kind keyword tag s).names
-      ▸ one u (ops.Spec specs.BodyEnd) _
+      ▸ one u (ops.Spec specs.BodyEnd) _ (λ passed. refl)
 
   pub word_struct : (alone : Bool) (word : Word) (attrs : List Attr) (tag : Option Identifier) (body : SomeBody)
       → StructLaw alone body → WordLaw alone (struct_type word attrs tag body)
@@ -288,7 +305,7 @@ module _ (u : Spelling) where
     where
       by_void : (is : Bool) → Goes u (if is then spec specs.Void else []) (among_words st t w k b s)
           (among_words st (if is then void [] else t) w k b s)
-      by_void true = one u (ops.Spec specs.Void) _
+      by_void true = one u (ops.Spec specs.Void) _ (λ passed. refl)
       by_void false = stays u _
 
   -- enumerations
@@ -296,12 +313,13 @@ module _ (u : Spelling) where
   pub enumerator_says : (token name : ℕ)
       → Says u (spec (specs.Enumerator token name))
       (declared_here (place u token) (u.key name) enumerator_role (base []) None)
-  enumerator_says token name = record { goes = λ st s. record { is = refl } }
+  enumerator_says token name =
+      record { goes = λ st s. one u (ops.Spec (specs.Enumerator token name)) _ (λ passed. refl) }
 
   pub enum_none : (keyword : ℕ) (attrs : List Attr) (tag : Option Identifier)
       → EnumLaw (enum_of keyword attrs tag no_enum_body)
   enum_none keyword attrs None st t w k b s = stays u _
-  enum_none keyword attrs (Some tag) st t w k b s = one u (ops.Spec (specs.TagUse tags.Enum tag.token tag.name)) _
+  enum_none keyword attrs (Some tag) st t w k b s = one u (ops.Spec (specs.TagUse tags.Enum tag.token tag.name)) _ (λ passed. refl)
 
   pub enum_some : (keyword : ℕ) (attrs : List Attr) (tag : Option Identifier) (opening : ℕ) (es : Enumerators)
       (last : Option ℕ) (closing : ℕ) → Says u (enumerators_tape es) (enumerators_named u es)
@@ -309,11 +327,11 @@ module _ (u : Spelling) where
   enum_some keyword attrs None opening es last closing p st t w k b s =
       body_goes tags.Enum keyword None st t w k b s
       ▸ p.goes (bodied st tags.Enum (body_begun u tags.Enum keyword None s) t w k b)
-      (body_begun u tags.Enum keyword None s).names ▸ one u (ops.Spec specs.BodyEnd) _
+      (body_begun u tags.Enum keyword None s).names ▸ one u (ops.Spec specs.BodyEnd) _ (λ passed. refl)
   enum_some keyword attrs (Some tag) opening es last closing p st t w k b s =
       body_goes tags.Enum keyword (Some tag) st t w k b s
       ▸ p.goes (bodied st tags.Enum (body_begun u tags.Enum keyword (Some tag) s) t w k b)
-      (body_begun u tags.Enum keyword (Some tag) s).names ▸ one u (ops.Spec specs.BodyEnd) _
+      (body_begun u tags.Enum keyword (Some tag) s).names ▸ one u (ops.Spec specs.BodyEnd) _ (λ passed. refl)
 
   -- declarators
 
@@ -340,7 +358,16 @@ module _ (u : Spelling) where
           (λ ps s. type_named (place u (first_word ws)) (applied ps t) s))))
       named st s =
           rw (same_first ws)
-          (p st (base []) [] [] false s ▸ whole_declr d q st _ _ _ _ _ ▸ one u (ops.Declr (declrs.TypeName (first_word ws))) _)
+          (p st (base []) [] [] false s ▸ whole_declr d q st _ _ _ _ _ ▸ one u (ops.Declr (declrs.TypeName (first_word ws))) _ (λ passed. refl))
+
+  -- a list without identifiers ends
+  list_ends : (st : State) (t : CType) (k : List Keyword) (b : Bool) (name : Option Named) (m : CType)
+      (finished : List (List CType)) (s : Names) (o : Option Place) (types : List CType) (names : Names)
+      → Goes u (declr declrs.ParamsEnd) (listing (declaring st t k b name m finished s) o types names)
+      (declaring st t k b name m (types ∷ finished) (keep o names))
+  list_ends st t k b name m finished s o types names =
+      arriving (one u (ops.Declr declrs.ParamsEnd) _ (λ passed. refl))
+      (ap (λ (all : List CType). declaring st t k b name m (all ∷ finished) (keep o names)) (append-nil types))
 
   pub list_goes : (ps : Params) → ParamsLaw ps
       → (is_own : Bool) (st : State) (t : CType) (k : List Keyword) (b : Bool) (name : Option Named) (m : CType)
@@ -357,7 +384,8 @@ module _ (u : Spelling) where
 
       begins : Goes u (declr (declrs.ParamsBegin is_own)) (declaring st t k b name m finished s)
           (listing (declaring st t k b name m finished s) o [] (enter s))
-      begins = record { is = ap (λ (o : Option Place). listing (declaring st t k b name m finished s) o [] (enter s)) is }
+      begins = arriving (one u (ops.Declr (declrs.ParamsBegin is_own)) _ (λ passed. refl))
+          (ap (λ (o : Option Place). listing (declaring st t k b name m finished s) o [] (enter s)) is)
 
       by_none : (none : Bool) → trees.says_none ps ≡ none
           → Goes u (params_with is_own none (params_tape ps)) (declaring st t k b name m finished s)
@@ -365,9 +393,9 @@ module _ (u : Spelling) where
           (listed_behind [] (no_params_if none (params_named u 0 o ps (enter s)).types) ∷ finished)
           (keep o (params_named u 0 o ps (enter s)).names))
       by_none true h = rw (none_names ps o (enter s) h)
-          (begins ▸ stays u _ ▸ one u (ops.Declr declrs.ParamsEnd) _)
+          (begins ▸ stays u _ ▸ list_ends st t k b name m finished s o [] (enter s))
       by_none false h = begins ▸ p (declaring st t k b name m finished s) o [] (enter s)
-          ▸ one u (ops.Declr declrs.ParamsEnd) _
+          ▸ list_ends st t k b name m finished s o _ _
 
   pub declr_params : (own : Bool) (d : Declr) (opening : ℕ) (ps : Params) (dots : Option Dots) (closing : ℕ)
       → DeclrLaw own d → ParamsLaw ps → DeclrLaw own (params d opening ps dots closing)
@@ -411,8 +439,18 @@ module _ (u : Spelling) where
       rw (lists_push (some_declr_named u d s).pieces _ finished)
       (p st t k b finished s ▸ inside q st t k b (some_declared_name d) t _ _)
 
+  pub declr_identifiers : (own : Bool) (d : Declr) (opening : ℕ) (names : List Identifier) (closing : ℕ) → DeclrLaw own d
+      → DeclrLaw own (identifiers d opening names closing)
+  declr_identifiers own d opening names closing p st t k b finished s =
+      rw (lists_push (declr_named u (own_where own (linked_some u (declared_name d) s)) d s).pieces _ finished)
+      (p st t k b finished s ▸ one u (ops.Declr (declrs.ParamsBegin false)) _ (λ passed. refl)
+      ▸ one u (ops.Declr declrs.ParamsEnd) _ (λ passed. refl))
+
+  pub declr_base_name : (own : Bool) (token : ℕ) → DeclrLaw own (base_name token)
+  declr_base_name own token st t k b finished s = stays u _
+
   pub declr_of_name : (own : Bool) (token name : ℕ) → DeclrLaw own (declr_name token name)
-  declr_of_name own token name st t k b finished s = one u (ops.Declr (declrs.DeclName token name)) _
+  declr_of_name own token name st t k b finished s = one u (ops.Declr (declrs.DeclName token name)) _ (λ passed. refl)
 
   -- parameters
 
@@ -442,7 +480,7 @@ module _ (u : Spelling) where
       first : Goes u (specs_with (words_tape false ws) ++ some_declr_tape d ++ declr declrs.Param)
           (listing st own types s) (listing st own (types ++ param ∷ []) declared)
       first = p (listing st own types s) (base []) [] [] false s ▸ whole_declr d q (listing st own types s) _ _ _ _ _
-          ▸ one u (ops.Declr declrs.Param) _
+          ▸ one u (ops.Declr declrs.Param) _ (λ passed. refl)
 
       Rest : ℕ → Type 0
       Rest i = Goes u (params_tape ps) (listing st own (types ++ param ∷ []) declared)
@@ -456,7 +494,7 @@ module _ (u : Spelling) where
       → Goes u (unnamed_word_tape word) (declaring st t k b None t finished s)
       (declaring st t k b None t finished (unnamed_by u word (body st).members_of t s))
   unnamed_word_goes (struct_type word attrs None body) st t k b finished s =
-      one u (ops.Spec (specs.UnnamedMember word.token)) _
+      one u (ops.Spec (specs.UnnamedMember word.token)) _ (λ passed. refl)
   unnamed_word_goes (struct_type word attrs (Some tag) body) st t k b finished s = stays u _
   unnamed_word_goes (storage word) st t k b finished s = stays u _
   unnamed_word_goes (thread token) st t k b finished s = stays u _
@@ -467,6 +505,10 @@ module _ (u : Spelling) where
   unnamed_word_goes (enum_type e) st t k b finished s = stays u _
   unnamed_word_goes (typedef_name name) st t k b finished s = stays u _
   unnamed_word_goes (attribute attr) st t k b finished s = stays u _
+  unnamed_word_goes (typeof_value keyword opening e closing) st t k b finished s = stays u _
+  unnamed_word_goes (typeof_type word2 opening ws d2 closing) st t k b finished s = stays u _
+  unnamed_word_goes (align attr) st t k b finished s = stays u _
+  unnamed_word_goes (auto_word token) st t k b finished s = stays u _
 
   unnamed_goes : (ws : SpecWords) (st : State) (t : CType) (k : List Keyword) (b : Bool)
       (finished : List (List CType)) (s : Names)
@@ -487,7 +529,7 @@ module _ (u : Spelling) where
       → Says u (some_value_tape width) (some_value_named u width) → MemberLaw (named d width attrs)
   member_named d width attrs p q st t k b finished s =
       p st t k b finished s ▸ pieces_make u d None s st t k b (declared_name d) t finished _
-      ▸ one u (ops.Declr declrs.Member) _ ▸ inside q st t k b None t finished _
+      ▸ one u (ops.Declr declrs.Member) _ (λ passed. refl) ▸ inside q st t k b None t finished _
 
   pub member_unnamed : (colon : ℕ) (e : Expr) (attrs : List Attr) → Says u (expr_tape false e) (expr_named u false e)
       → MemberLaw (unnamed colon e attrs)
@@ -496,7 +538,7 @@ module _ (u : Spelling) where
   pub item_member : (exts : List ℕ) (ws : SpecWords) (ds : MemDeclrs) (semi : ℕ) → SpecsLaw false ws → MembersLaw ds
       → ItemLaw (member exts ws ds semi)
   item_member exts ws ds semi p q st s =
-      p st (base []) [] [] false s ▸ by_list ds q ▸ one u (ops.Declr declrs.DeclarationEnd) _
+      p st (base []) [] [] false s ▸ by_list ds q ▸ one u (ops.Declr declrs.DeclarationEnd) _ (λ passed. refl)
     where
       t : CType
       t = (words_named u false ws (base []) [] s).type
@@ -522,7 +564,7 @@ module _ (u : Spelling) where
       (finished : List (List CType)) (s : Names)
       → Goes u (declr declrs.Declare) (declaring st t k b name m finished s)
       (declaring st t k false None t finished (declared_some u (untagged_number b t) name k m s))
-  declare_goes name st t k b m finished s = one u (ops.Declr declrs.Declare) _
+  declare_goes name st t k b m finished s = one u (ops.Declr declrs.Declare) _ (λ passed. refl)
 
   pub declrs_none : DeclrsLaw no_init_declrs
   declrs_none st t k b finished s = stays u _

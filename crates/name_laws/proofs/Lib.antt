@@ -1,9 +1,11 @@
 mod Agreeing
 mod Forms
+mod Identified
 mod Items
 mod Pieces
 mod Running
 mod Saying
 mod Sources
 mod Storage
+mod Typing
 mod Whole

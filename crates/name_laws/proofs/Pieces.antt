@@ -7,21 +7,23 @@ use Rattle.c_syntax.specs.declared.parts.PointerWord.{PointerWord}
 use Rattle.c_syntax.specs.declared.parts.PointerWord.TheVariants as pointer_words
 use Rattle.c_syntax.specs.declared.parts.ArrayWord.{ArrayWord}
 use Rattle.c_syntax.specs.declared.parts.ArrayWord.TheVariants as array_words
-use Rattle.c_tree.specs.Tree.{Declr, pointer, declr_name, declr_paren, array, params, abs_pointer, abs_paren, abs_array, abs_params, SomeDeclr, no_declr, some_declr, Params, no_params, more_params, Dots}
+use Rattle.c_tree.specs.Tree.{Declr, pointer, declr_name, declr_paren, array, params, abs_pointer, abs_paren, abs_array, abs_params, SomeDeclr, no_declr, some_declr, Params, no_params, more_params, Dots, identifiers, base_name}
 use Rattle.tape_ops.specs.declared.op.Op.{Op}
 use Rattle.tape_ops.specs.declared.op.Op.TheVariants as ops
 use Rattle.tape_ops.specs.declared.declarator.DeclrOp.TheVariants as declrs
+use Rattle.tape_ops.specs.declared.specifier.SpecOp.TheVariants as specs
+use Rattle.c_tree.specs.Firsts as tokens
 use Rattle.type_table.specs.Types.{Words, CType, base, function, CTypes, no_types, more_types}
 use Rattle.name_rules.specs.Spellings.{Place, Spelling, Named, annotation_at}
 use Rattle.name_rules.specs.Scopes.{Names}
-use Rattle.name_rules.specs.Pieces.{decayed, Piece, to_pointer, to_function, piece_of, applied}
-use Rattle.name_steps.specs.State.{State, types_in}
+use Rattle.name_rules.specs.Pieces.{types_in, decayed, Piece, to_pointer, to_function, piece_of, applied}
+use Rattle.name_steps.specs.State.{State}
 use Rattle.name_steps.specs.Steps.{ellipsis_where}
 use Rattle.type_rules.specs.Tokens.{annotation, annotations, pointer_annotations, array_annotations}
 use Rattle.type_rules.specs.Naming.{ellipsis, declr_named, some_declr_named}
 use Rattle.c_tape.specs.Tests.{has_ellipsis}
 use Rattle.c_tape.specs.Tape.{declr, qual_tape, quals_tape, pointer_words_tape, array_words_tape, dots_tape, pieces, some_pieces}
-use Rattle.name_laws.proofs.Running.{among_words, declaring, Goes, ◌▸◌, one, stays}
+use Rattle.name_laws.proofs.Running.{among_words, declaring, Goes, ◌▸◌, one, stays, arriving}
 use Rattle.name_laws.proofs.Agreeing.{same_qual}
 
 -- these types behind others
@@ -69,7 +71,8 @@ module _ (u : Spelling) where
   pub qual_goes : (q : Qual) (st : State) (t : CType) (w : Words) (storage : List Keyword) (b : Bool) (s : Names)
       → Goes u (qual_tape q) (among_words st t w storage b s) (among_words st t (w ++ annotation u q) storage b s)
   qual_goes q st t w storage b s =
-      record { is = ap (λ (token : ℕ). among_words st t (w ++ annotation_at u token) storage b s) (same_qual q) }
+      arriving (one u (ops.Spec (specs.Word (tokens.qual_token q))) _ (λ passed. refl))
+      (ap (λ (token : ℕ). among_words st t (w ++ annotation_at u token) storage b s) (same_qual q))
 
   -- words behind others
   behind : (st : State) (t : CType) (storage : List Keyword) (b : Bool) (s : Names) {ops : List Op} {before : State}
@@ -81,7 +84,8 @@ module _ (u : Spelling) where
 
   no_more : (st : State) (t : CType) (storage : List Keyword) (b : Bool) (s : Names) (w : Words)
       → Goes u [] (among_words st t w storage b s) (among_words st t (w ++ []) storage b s)
-  no_more st t storage b s w = record { is = ap (λ (y : Words). among_words st t y storage b s) (sym (append-nil w)) }
+  no_more st t storage b s w =
+      arriving (stays u _) (ap (λ (y : Words). among_words st t y storage b s) (sym (append-nil w)))
 
   pub quals_goes : (qs : List Qual) (st : State) (t : CType) (w : Words) (storage : List Keyword) (b : Bool) (s : Names)
       → Goes u (quals_tape qs) (among_words st t w storage b s) (among_words st t (w ++ annotations u qs) storage b s)
@@ -111,7 +115,7 @@ module _ (u : Spelling) where
 
   -- declarators
 
-  abbrev Makes : List Op → List Piece → Type 0
+  abbrev pub Makes : List Op → List Piece → Type 0
   Makes tape made = (st : State) (t : CType) (storage : List Keyword) (b : Bool) (name : Option Named) (m : CType)
       (finished : List (List CType)) (s : Names)
       → Goes u tape (declaring st t storage b name m (lists_of made finished) s)
@@ -120,25 +124,25 @@ module _ (u : Spelling) where
   makes_none : Makes [] []
   makes_none st t storage b name m finished s = stays u _
 
-  one_more : {first others : List Op} (made : List Piece) (p : Piece) → Makes first (p ∷ []) → Makes others made
+  pub one_more : {first others : List Op} (made : List Piece) (p : Piece) → Makes first (p ∷ []) → Makes others made
       → Makes (first ++ others) (made ++ p ∷ [])
   one_more made p f g st t storage b name m finished s =
       rw (lists_push made p finished, applied_push made p m)
       (f st t storage b name m (lists_of made finished) s ▸ g st t storage b name (piece_of p m) finished s)
 
-  pointer_makes : (words : List PointerWord)
+  pub pointer_makes : (words : List PointerWord)
       → Makes (pointer_words_tape words ++ declr declrs.Pointer) (to_pointer (pointer_annotations u words) ∷ [])
   pointer_makes words st t storage b name m finished s =
       pointer_words_goes words (declaring st t storage b name m finished s) (base []) [] [] false s
-      ▸ one u (ops.Declr declrs.Pointer) _
+      ▸ one u (ops.Declr declrs.Pointer) _ (λ passed. refl)
 
-  array_makes : (words : List ArrayWord)
+  pub array_makes : (words : List ArrayWord)
       → Makes (array_words_tape words ++ declr declrs.Array) (to_pointer (array_annotations u words) ∷ [])
   array_makes words st t storage b name m finished s =
       array_words_goes words (declaring st t storage b name m finished s) (base []) [] [] false s
-      ▸ one u (ops.Declr declrs.Array) _
+      ▸ one u (ops.Declr declrs.Array) _ (λ passed. refl)
 
-  function_makes : (ps : Params) (dots : Option Dots) (ts : CTypes)
+  pub function_makes : (ps : Params) (dots : Option Dots) (ts : CTypes)
       → Makes (dots_tape dots ++ declr (declrs.Function (has_ellipsis ps dots)))
       (to_function ts (ellipsis u ps dots) ∷ [])
   function_makes ps dots ts st t storage b name m finished s = by_form ps dots
@@ -147,7 +151,8 @@ module _ (u : Spelling) where
           → Goes u (declr (declrs.Function has))
           (among_words (declaring st t storage b name m (listed_behind [] ts ∷ finished) s) (base []) w [] false s)
           (declaring st t storage b name (function [] ts (decayed m) e) finished s)
-      with_types has e w is = record { is = rw (types_back ts, is) }
+      with_types has e w is =
+          arriving (one u (ops.Declr (declrs.Function has)) _ (λ passed. refl)) (rw (types_back ts, is) refl)
 
       by_form : (ps : Params) (dots : Option Dots)
           → Goes u (dots_tape dots ++ declr (declrs.Function (has_ellipsis ps dots)))
@@ -176,6 +181,10 @@ module _ (u : Spelling) where
         one_more (some_declr_named u d s).pieces _ (array_makes words) (some_pieces_make d s)
     pieces_make (abs_params d opening ps dots closing) own s =
         one_more (some_declr_named u d s).pieces _ (function_makes ps dots _) (some_pieces_make d s)
+    pieces_make (identifiers d opening names closing) own s =
+        one_more (declr_named u own d s).pieces (to_function no_types None)
+        (λ st t storage b name m finished s. one u (ops.Declr (declrs.Function false)) _ (λ passed. refl)) (pieces_make d own s)
+    pieces_make (base_name token) own s = makes_none
 
     pub some_pieces_make : (d : SomeDeclr) (s : Names) → Makes (some_pieces d) (some_declr_named u d s).pieces
     some_pieces_make no_declr s = makes_none

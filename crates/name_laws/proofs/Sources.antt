@@ -8,22 +8,23 @@ use Rattle.name_steps.specs.State.{State, with_names}
 use Rattle.name_steps.specs.Units.{tape_named, tapes_named}
 use Rattle.type_rules.specs.Naming.{items_named}
 use Rattle.type_rules.specs.Program.{Source, sources_named}
+use Rattle.shape_laws.specs.Laws.{ShapesAreLeft}
 use Rattle.name_laws.specs.NameLaws.{NamesAreSteps, NamesOfTapes, tape_of_source, IsSound}
 use Rattle.name_laws.proofs.Items.{items_law}
 
-pub names_step : NamesAreSteps
-names_step u all items s unit = ((items_law u all items unit.parts).goes (with_names s) s).is
+pub names_step : ShapesAreLeft → NamesAreSteps
+names_step left u all items s unit = ((items_law u left all items unit.parts).goes (with_names s) s).is []
 
-one_source : (it : Source) (s : Names) → IsSound it
+one_source : NamesAreSteps → (it : Source) (s : Names) → IsSound it
     → tape_named (tape_of_source it) s ≡ items_named it.spelling it.items s
-one_source it s (all, unit) = ap (λ (st : State). st.names) (names_step it.spelling all it.items s unit)
+one_source steps it s (all, unit) = ap (λ (st : State). st.names) (steps it.spelling all it.items s unit)
 
-all_sources : (sources : List Source) (s : Names) → All IsSound sources
+all_sources : NamesAreSteps → (sources : List Source) (s : Names) → All IsSound sources
     → tapes_named (map tape_of_source sources) s ≡ sources_named sources s
-all_sources [] s h = refl
-all_sources (it ∷ sources) s h =
-    ap (tapes_named (map tape_of_source sources)) (one_source it (unit_begun it.spelling.unit s) (All-head IsSound it sources h))
-    ∙ all_sources sources (items_named it.spelling it.items (unit_begun it.spelling.unit s)) (All-tail IsSound it sources h)
+all_sources steps [] s h = refl
+all_sources steps (it ∷ sources) s h =
+    ap (tapes_named (map tape_of_source sources)) (one_source steps it (unit_begun it.spelling.unit s) (All-head IsSound it sources h))
+    ∙ all_sources steps sources (items_named it.spelling it.items (unit_begun it.spelling.unit s)) (All-tail IsSound it sources h)
 
-pub names_found : NamesOfTapes
-names_found sources h = all_sources sources no_names h
+pub names_found : NamesAreSteps → NamesOfTapes
+names_found steps sources h = all_sources steps sources no_names h

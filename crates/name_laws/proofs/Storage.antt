@@ -6,7 +6,7 @@ use Rattle.c_words.specs.declared.kinds.Keyword.{Keyword}
 use Rattle.c_words.specs.declared.kinds.Keyword.TheVariants as keywords
 use Rattle.tape_ops.specs.declared.specifier.TagKind.{TagKind}
 use Rattle.tape_ops.specs.declared.specifier.TagKind.TheVariants as tags
-use Rattle.c_tree.specs.Tree.{SpecWords, no_words, more_words, SpecWord, storage, thread, inline_word, noreturn, qualifier, basic, struct_type, enum_type, typedef_name, attribute, no_body, some_body}
+use Rattle.c_tree.specs.Tree.{SpecWords, no_words, more_words, SpecWord, storage, thread, inline_word, noreturn, qualifier, basic, struct_type, enum_type, typedef_name, attribute, no_body, some_body, typeof_value, typeof_type, align, auto_word}
 use Rattle.c_tree.specs.Specifiers.{storage_words}
 use Rattle.name_rules.specs.Declaring.{is_word, has_word}
 use Rattle.name_steps.specs.Steps.{untagged_by}
@@ -27,6 +27,10 @@ said_behind (more_words (struct_type w attrs tag body) ws) words = said_behind w
 said_behind (more_words (enum_type e) ws) words = said_behind ws words
 said_behind (more_words (typedef_name name) ws) words = said_behind ws words
 said_behind (more_words (attribute attr) ws) words = said_behind ws words
+said_behind (more_words (typeof_value keyword opening e closing) ws) words = said_behind ws words
+said_behind (more_words (typeof_type word opening ws2 d closing) ws) words = said_behind ws words
+said_behind (more_words (align attr) ws) words = said_behind ws words
+said_behind (more_words (auto_word token) ws) words = said_behind ws words
 
 pub same_said : (ws : SpecWords) → said_words ws ≡ storage_behind ws []
 same_said ws = sym (said_behind ws [])
@@ -44,6 +48,10 @@ said_typedef (more_words (struct_type w attrs tag body) ws) = said_typedef ws
 said_typedef (more_words (enum_type e) ws) = said_typedef ws
 said_typedef (more_words (typedef_name name) ws) = said_typedef ws
 said_typedef (more_words (attribute attr) ws) = said_typedef ws
+said_typedef (more_words (typeof_value keyword opening e closing) ws) = said_typedef ws
+said_typedef (more_words (typeof_type word opening ws2 d closing) ws) = said_typedef ws
+said_typedef (more_words (align attr) ws) = said_typedef ws
+said_typedef (more_words (auto_word token) ws) = said_typedef ws
 
 pub same_typedef : (ws : SpecWords)
     → has_word keywords.Typedef (storage_behind ws []) ≡ has_word keywords.Typedef (storage_words ws)
@@ -73,6 +81,10 @@ word_stays (struct_type w attrs (Some tag) (some_body opening items closing)) = 
 word_stays (enum_type e) = refl
 word_stays (typedef_name name) = refl
 word_stays (attribute attr) = refl
+word_stays (typeof_value keyword opening e closing) = refl
+word_stays (typeof_type word opening ws2 d closing) = refl
+word_stays (align attr) = refl
+word_stays (auto_word token) = refl
 
 words_stay : (ws : SpecWords) → untagged_behind ws true ≡ true
 words_stay no_words = refl
@@ -94,3 +106,7 @@ same_untagged (more_words (struct_type w attrs (Some tag) (some_body opening ite
 same_untagged (more_words (enum_type e) ws) = same_untagged ws
 same_untagged (more_words (typedef_name name) ws) = same_untagged ws
 same_untagged (more_words (attribute attr) ws) = same_untagged ws
+same_untagged (more_words (typeof_value keyword opening e closing) ws) = same_untagged ws
+same_untagged (more_words (typeof_type word opening ws2 d closing) ws) = same_untagged ws
+same_untagged (more_words (align attr) ws) = same_untagged ws
+same_untagged (more_words (auto_word token) ws) = same_untagged ws

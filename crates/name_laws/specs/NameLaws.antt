@@ -12,11 +12,11 @@ use Rattle.name_steps.specs.Units.{Tape, tapes_named}
 use Rattle.type_rules.specs.Naming.{items_named}
 use Rattle.type_rules.specs.Program.{Source, names_of}
 
--- the steps over the tape of a unit find what the unit says of names, and leave nothing begun
+-- the steps over the tape of a unit find what the unit says of names, and leave nothing begun behind its ops
 abbrev pub NamesAreSteps : Type 0
 NamesAreSteps =
     (u : Spelling) (all : List Lexeme) (items : List Item) (s : Names) → IsUnit all items
-    → run u (tape_of items) (with_names s) ≡ with_names (items_named u items s)
+    → run u (tape_of items) (with_names s) ≡ record (with_names (items_named u items s)) { passed = tape_of items }
 
 abbrev pub tape_of_source : Source → Tape
 tape_of_source it = record { spelling = it.spelling; ops = tape_of it.items }

@@ -1,3 +1,4 @@
 mod Added
 mod Changed
 mod Firsts
+mod Members

@@ -4,8 +4,10 @@ ghost use Rattle.std.specs.Prelude.{◌≡◌, ◌<◌, ◌^◌, ◌∷◌, ◌+
 ghost use Rattle.name_rules.specs.Scopes.{changed_at};
 ghost use Rattle.name_records.specs.Bodies.{has_body, or_empty, with_member, with_unnamed};
 ghost use Rattle.name_records.specs.Aggregates.{body_at, known_at, with_body, with_key};
+ghost use Rattle.name_records.specs.Found.{AreMembers, member_named};
 
 use crate::body::{Body, Known};
+use crate::member_map::MemberMap;
 use name_scopes::Place;
 use qual_base::{NameId, NoMemory, Numbered, StructId, TypeId};
 use std::alloc::Global;
@@ -35,6 +37,8 @@ pub struct Aggregate {
 #[derive(Drop)]
 pub struct Aggregates {
     all: Vec<Aggregate>,
+    /// The members so far by their names.
+    members: MemberMap,
 }
 
 impl Model for Aggregates {
@@ -43,7 +47,11 @@ impl Model for Aggregates {
 
     ghost Value = { List Aggregate };
 
+    ghost use Rattle.name_records.specs.Found.{AreMembers};
+
     ghost view = { λ s. s.all.items };
+
+    ghost invariant = { λ s. AreMembers s.all.items s.members };
 }
 
 impl Aggregates {
@@ -53,6 +61,7 @@ impl Aggregates {
     {
         Aggregates {
             all: Vec::new(alloc),
+            members: MemberMap::new(alloc),
         }
     }
 
@@ -99,12 +108,16 @@ impl Aggregates {
         ensures { result ≡ length (or_empty (body_at self.now number)).own }
     {
         match self.all.get(number.number() as usize) {
-            Some(it) => match &it.body {
-                Some(body) => body.count(),
-                None => 0,
-            },
+            Some(it) => it.count(),
             None => 0,
         }
+    }
+
+    /// The first member of one by a name, its own or one of an unnamed member. Constant time.
+    pub fn member_at(&self, number: StructId, name: NameId) -> Option<Known>
+        ensures { result ≡ member_named (known_at self.now number) name }
+    {
+        self.members.get(number, name)
     }
 
     /// A copy of the members that one has by names. Linear in their number.
@@ -140,7 +153,7 @@ impl Aggregates {
         it.set_key(by_typedef, name);
     }
 
-    /// One more own member, which has a name. Constant time but for growth.
+    /// One more own member, which has a name. Constant time but for growth. For want of memory there are none from then on.
     pub fn push_member(
         &mut self,
         alloc: Global,
@@ -152,15 +165,26 @@ impl Aggregates {
         ensures { OnOk result
             (self.new ≡ changed_at self.old number (with_body (with_member name at.now ty))) }
     {
-        let Some(it) = self.all.get_mut(number.number() as usize) else {
-            return Ok(());
-        };
-        it.push_member(alloc, name, at, ty)?;
-        Ok(())
+        match member_pushed(
+            alloc,
+            &mut self.all,
+            &mut self.members,
+            number,
+            name,
+            at,
+            ty,
+        ) {
+            Ok(()) => Ok(()),
+            Err(NoMemory) => {
+                self.all = Vec::new(alloc);
+                self.members = MemberMap::new(alloc);
+                Err(NoMemory)
+            }
+        }
     }
 
     /// One more own member without a name, whose members, those of `inner`, are members of this one too. Linear in their
-    /// number.
+    /// number. For want of memory there are none from then on.
     pub fn push_unnamed(
         &mut self,
         alloc: Global,
@@ -175,15 +199,83 @@ impl Aggregates {
             (with_body (with_unnamed at.now ty (known_at self.old inner)))) }
     {
         let known = self.known(alloc, inner)?;
-        let Some(it) = self.all.get_mut(number.number() as usize) else {
-            return Ok(());
-        };
-        it.push_unnamed(alloc, at, ty, &known)?;
-        Ok(())
+        match unnamed_pushed(
+            alloc,
+            &mut self.all,
+            &mut self.members,
+            number,
+            at,
+            ty,
+            &known,
+        ) {
+            Ok(()) => Ok(()),
+            Err(NoMemory) => {
+                self.all = Vec::new(alloc);
+                self.members = MemberMap::new(alloc);
+                Err(NoMemory)
+            }
+        }
     }
 }
 
+/// One more own member of a struct, which has a name. Constant time but for growth.
+fn member_pushed(
+    alloc: Global,
+    all: &mut Vec<Aggregate>,
+    members: &mut MemberMap,
+    number: StructId,
+    name: NameId,
+    at: &Place,
+    ty: TypeId,
+) -> Result<(), NoMemory>
+    requires { AreMembers all.old.items members.old }
+    ensures pushed { OnOk result (all.new.items
+        ≡ changed_at all.old.items number (with_body (with_member name at.now ty))) }
+    ensures members { OnOk result (AreMembers all.new.items members.new) }
+{
+    let Some(it) = all.get_mut(number.number() as usize) else {
+        return Ok(());
+    };
+    let own = it.count();
+    it.push_member(alloc, name, at, ty)?;
+    let at = *at;
+    members.add(number, &Known { name, at, ty, own })
+}
+
+/// One more own member of a struct without a name, and the members that lie in it. Linear in their number.
+fn unnamed_pushed(
+    alloc: Global,
+    all: &mut Vec<Aggregate>,
+    members: &mut MemberMap,
+    number: StructId,
+    at: &Place,
+    ty: TypeId,
+    inner: &[Known],
+) -> Result<(), NoMemory>
+    requires { AreMembers all.old.items members.old }
+    ensures pushed { OnOk result (all.new.items
+        ≡ changed_at all.old.items number (with_body (with_unnamed at.now ty inner.now))) }
+    ensures members { OnOk result (AreMembers all.new.items members.new) }
+{
+    let Some(it) = all.get_mut(number.number() as usize) else {
+        return Ok(());
+    };
+    let own = it.count();
+    it.push_unnamed(alloc, at, ty, inner)?;
+    members.add_inner(number, own, inner)
+}
+
 impl Aggregate {
+    /// How many own members it has. Constant time.
+    fn count(&self) -> usize
+        ensures { result ≡ length (or_empty self.now.body).own }
+    {
+        match &self.body {
+            Some(body) => body.count(),
+            None => 0,
+        }
+    }
+
     /// What it is known by in other sources. Constant time.
     fn set_key(&mut self, by_typedef: bool, name: NameId)
         ensures { self.new ≡ with_key by_typedef name self.old }

@@ -5,8 +5,11 @@ mod aggregates;
 mod bodies;
 mod body;
 mod declarations;
+mod member_map;
 mod records;
 mod things;
+mod type_names;
+mod uses;
 
 pub use aggregates::{Aggregate, Aggregates, StructKey};
 pub use bodies::{Bodied, Bodies};
@@ -14,3 +17,5 @@ pub use body::{Body, Known, Own};
 pub use declarations::{Declarations, Declared, Role};
 pub use records::{Fault, NameUse, Rule, TypeNamed, Use};
 pub use things::Things;
+pub use type_names::TypeNames;
+pub use uses::Uses;

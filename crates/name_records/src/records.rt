@@ -35,6 +35,8 @@ pub enum Rule {
     DefinedTwice,
     /// A declared type or a type's name has over 4,096 constructors.
     TypeTooLarge,
+    /// An expression that a type is made by has none by what is known behind it.
+    NoType,
 }
 
 /// A rule that fails at a place.

@@ -7,7 +7,7 @@ use Rattle.type_table.specs.Types.{CType}
 use Rattle.name_rules.specs.Spellings.{Place, Spelling, place}
 use Rattle.name_rules.specs.Faults.{Fault, not_pointer, not_function, no_member, argument_count, not_place, fault_where}
 use Rattle.name_rules.specs.Scopes.{Declared, Names}
-use Rattle.name_rules.specs.Values.{Shape, value, points_to_function, takes, lacks_member, is_no_pointer, Target, next_target, named_target}
+use Rattle.name_rules.specs.Values.{Shape, value, points_to_function, takes, lacks_member, is_no_pointer, is_base_value, Target, next_target, named_target}
 
 abbrev pub wants_place : Punct → Bool
 wants_place signs.Ampersand = true
@@ -37,9 +37,10 @@ type_declared (Some d) = Some d.type
 abbrev pub member_faults : Spelling → Names → Option CType → ℕ → ℕ → List Fault
 member_faults u s t token name = fault_where (lacks_member s.aggregates t (u.key name)) (place u token) no_member
 
--- neither operand of `[ ]` is a pointer
-abbrev pub index_faults_at : Place → Shape → Shape → List Fault
-index_faults_at at e e2 = fault_where (is_no_pointer (value e) && is_no_pointer (value e2)) at not_pointer
+-- neither operand of `[ ]` is a pointer, nor in wider C the left one a vector
+abbrev pub index_faults_at : Bool → Place → Shape → Shape → List Fault
+index_faults_at wide at e e2 =
+    fault_where (is_no_pointer (value e) && is_no_pointer (value e2) && not (wide && is_base_value (value e))) at not_pointer
 
 -- what an item of an initialiser in braces initialises: what its designators name, or without any the next member
 abbrev pub target_of_item : Names → Option CType → Bool → ℕ → Option (Option CType) → Target

@@ -3,7 +3,7 @@
 -- A declaration of a name that its scope already declares is a further declaration of the same thing. An object that a
 -- block declares `extern` and a function that a block declares are always the file's. What the prelude declares is in every
 -- source one with the file's object or function of that name. A use of a name has the type of its first declaration.
-use Rattle.std.specs.Prelude.{ℕ, nat_eq, Bool, true, false, ◌&&◌, ◌||◌, List, [], ◌∷◌, ◌++◌, length, Option, None, Some, if◌then◌else◌}
+use Rattle.std.specs.Prelude.{ℕ, nat_eq, Bool, true, false, ◌&&◌, ◌||◌, List, [], ◌∷◌, ◌++◌, length, Option, None, Some, if◌then◌else◌, not}
 use Rattle.c_words.specs.declared.kinds.Keyword.{Keyword}
 use Rattle.c_words.specs.declared.kinds.Keyword.TheVariants as keywords
 use Rattle.tape_ops.specs.declared.specifier.TagKind.{TagKind}
@@ -243,15 +243,30 @@ abbrev pub scope_kept : Option Scope → List Scope → List Scope
 scope_kept None scopes = scopes
 scope_kept (Some scope) scopes = scope ∷ scopes
 
--- a body begins, in the scope of its function's own parameters, which was kept for it
-abbrev pub body_entered : Place → Place → Bool → Names → Names
-body_entered at first is_plain s =
+-- in wider C a body whose specifiers have `extern` and `inline` is not counted
+abbrev pub is_counted_by : Bool → List Keyword → Bool
+is_counted_by wide storage = not (wide && (has_word keywords.Extern storage && has_word keywords.Inline storage))
+
+-- a function has a body
+abbrev pub body_counted : Place → Place → Bool → Names → Names
+body_counted at first is_plain s =
     record (with_faults (fault_where (has_body_in at.0 s.bodies first) at defined_twice) s) {
       bodies = record { first = first; at = at; is_plain = is_plain } ∷ s.bodies;
+    }
+
+-- a body begins, in the scope of its function's own parameters, which was kept for it
+abbrev pub body_begun : Place → Names → Names
+body_begun first s =
+    record s {
       scopes = scope_kept s.kept s.scopes;
       enclosing = Some first;
       kept = None;
     }
+
+-- a body may be one that is not counted
+abbrev pub body_entered : Place → Place → Bool → Bool → Names → Names
+body_entered at first is_plain is_counted s =
+    body_begun first (if is_counted then body_counted at first is_plain s else s)
 
 abbrev pub body_left : Names → Names
 body_left s = leave (record s { enclosing = None })

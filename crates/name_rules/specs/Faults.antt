@@ -20,6 +20,8 @@ pub data Rule : Type 0 where
   defined_twice : Rule
   -- a declared type or a type's name has over 4,096 constructors
   type_too_large : Rule
+  -- an expression that a type is made by has none by what is known behind it
+  no_type : Rule
 
 abbrev pub number : Rule → ℕ
 number undeclared = 1
@@ -30,6 +32,7 @@ number argument_count = 5
 number not_place = 6
 number defined_twice = 7
 number type_too_large = 8
+number no_type = 9
 
 pub record Fault : Type 0 where
   pub at : Place

@@ -8,3 +8,4 @@ pub mod Spellings
 pub mod Units
 pub mod Uses
 pub mod Values
+pub mod Identifiers

@@ -1,7 +1,7 @@
 -- What a declarator makes of a type (C99, 6.7.5). An array is a pointer to its element. A parameter or result of
 -- function type is a pointer to the function.
-use Rattle.std.specs.Prelude.{Bool, true, false, List, [], ◌∷◌, ◌++◌, Option}
-use Rattle.type_table.specs.Types.{Words, CType, base, void, struct, pointer, function, CTypes, no_types}
+use Rattle.std.specs.Prelude.{Bool, true, false, List, [], ◌∷◌, ◌++◌, Option, None, Some}
+use Rattle.type_table.specs.Types.{Words, CType, base, void, struct, pointer, function, CTypes, no_types, more_types}
 
 abbrev pub with_words : Words → CType → CType
 with_words more (base ws) = base (ws ++ more)
@@ -17,6 +17,23 @@ decayed (void ws) = void ws
 decayed (struct ws n) = struct ws n
 decayed (pointer ws t) = pointer ws t
 decayed (function ws ps r e) = pointer [] (function ws ps r e)
+
+-- a type without annotation words, on each node and before each ellipsis
+abbrev pub bare_ellipsis : Option Words → Option Words
+bare_ellipsis None = None
+bare_ellipsis (Some es) = Some []
+
+abbrev mutual
+  pub bare : CType → CType
+  bare (base ws) = base []
+  bare (void ws) = void []
+  bare (struct ws n) = struct [] n
+  bare (pointer ws t) = pointer [] (bare t)
+  bare (function ws ps r e) = function [] (all_bare ps) (bare r) (bare_ellipsis e)
+
+  pub all_bare : CTypes → CTypes
+  all_bare no_types = no_types
+  all_bare (more_types t ts) = more_types (bare t) (all_bare ts)
 
 abbrev pub is_function : CType → Bool
 is_function (base ws) = false
@@ -43,3 +60,7 @@ applied (p ∷ ps) t = piece_of p (applied ps t)
 abbrev pub no_params_if : Bool → CTypes → CTypes
 no_params_if true types = no_types
 no_params_if false types = types
+
+abbrev pub types_in : List CType → CTypes
+types_in [] = no_types
+types_in (t ∷ ts) = more_types t (types_in ts)

@@ -1,5 +1,5 @@
 -- Types of values and of what is in a place, by those of their parts; none where a part has none.
-use Rattle.std.specs.Prelude.{ℕ, suc, nat_eq, nat_lt, Bool, true, false, not, List, [], ◌∷◌, slice_get, Option, None, Some, if◌then◌else◌}
+use Rattle.std.specs.Prelude.{ℕ, suc, nat_eq, nat_lt, Bool, true, false, ◌&&◌, not, List, [], ◌∷◌, ◌++◌, length, slice_get, Option, None, Some, is_some, if◌then◌else◌, ◌||◌}
 use Rattle.c_words.specs.declared.kinds.Punct.{Punct}
 use Rattle.c_words.specs.declared.kinds.Punct.TheVariants as signs
 use Rattle.tape_ops.specs.declared.specifier.TagKind.{TagKind}
@@ -175,6 +175,141 @@ lacks_member all (Some t) name = is_absent (member_of all t name) where
 abbrev pub is_no_pointer : Option CType → Bool
 is_no_pointer None = false
 is_no_pointer (Some t) = not (is_pointer t)
+
+-- picks
+
+abbrev pub is_base_type : CType → Bool
+is_base_type (base ws) = true
+is_base_type (void ws) = false
+is_base_type (struct ws n) = false
+is_base_type (pointer ws t) = false
+is_base_type (function ws ps r e) = false
+
+abbrev pub is_struct_of : ℕ → CType → Bool
+is_struct_of n (base ws) = false
+is_struct_of n (void ws) = false
+is_struct_of n (struct ws m) = nat_eq n m
+is_struct_of n (pointer ws t) = false
+is_struct_of n (function ws ps r e) = false
+
+-- whether two types may be one: by their constructors and structures, down to what pointers point at and functions give
+abbrev pub may_be_one : CType → CType → Bool
+may_be_one (base ws) u = is_base_type u
+may_be_one (void ws) u = is_void_type u
+may_be_one (struct ws n) u = is_struct_of n u
+may_be_one (pointer ws t) (base vs) = false
+may_be_one (pointer ws t) (void vs) = false
+may_be_one (pointer ws t) (struct vs n) = false
+may_be_one (pointer ws t) (pointer vs u) = may_be_one t u
+may_be_one (pointer ws t) (function vs ps r e) = false
+may_be_one (function ws qs t f) (base vs) = false
+may_be_one (function ws qs t f) (void vs) = false
+may_be_one (function ws qs t f) (struct vs n) = false
+may_be_one (function ws qs t f) (pointer vs u) = false
+may_be_one (function ws qs t f) (function vs ps r e) = may_be_one t r
+
+-- an expression that may be picked
+pub record Candidate : Type 0 where
+  pub shape : Shape
+  pub is_zero : Bool
+
+-- an association of a selection by a type: the type that is named before its expression, where that is not `default`
+pub record Association : Type 0 where
+  pub type : Option CType
+  pub candidate : Candidate
+
+abbrev pub is_candidate : CType → Option CType → Bool
+is_candidate t None = true
+is_candidate t (Some u) = may_be_one t u
+
+-- the candidates by the type of the control's value
+abbrev pub candidates_of : CType → List Association → List Candidate
+candidates_of t [] = []
+candidates_of t (it ∷ others) = (if is_candidate t it.type then it.candidate ∷ [] else []) ++ candidates_of t others
+
+abbrev pub all_candidates : List Association → List Candidate
+all_candidates [] = []
+all_candidates (it ∷ others) = it.candidate ∷ all_candidates others
+
+abbrev pub or_all : List Candidate → List Candidate → List Candidate
+or_all [] others = others
+or_all (it ∷ some) others = it ∷ some
+
+-- those of the type, or all where there are none
+abbrev pub selected : CType → List Association → List Candidate
+selected t all = or_all (candidates_of t all) (all_candidates all)
+
+-- whether an association is one of the control's type, where that is known
+abbrev pub is_of_type : Option CType → Option CType → Bool
+is_of_type None named = false
+is_of_type (Some t) named = is_candidate t named
+
+abbrev pub has_of_type : Option CType → List Association → Bool
+has_of_type t [] = false
+has_of_type t (it ∷ others) = is_of_type t it.type || has_of_type t others
+
+abbrev pub no_zeros : List Candidate → List Candidate
+no_zeros [] = []
+no_zeros (it ∷ others) = if it.is_zero then no_zeros others else it ∷ no_zeros others
+
+-- zeros aside, where not all are zeros
+abbrev pub left_of : List Candidate → List Candidate
+left_of all = or_all (no_zeros all) all
+
+abbrev pub rank : CType → ℕ
+rank (void ws) = 0
+rank (base ws) = 1
+rank (function ws ps r e) = 2
+rank (struct ws n) = 3
+rank (pointer ws t) = if is_void_type t then 4 else 5
+
+-- that of two types which is of a higher rank, or else the first; of one that is known that
+abbrev pub higher_of : Option CType → Option CType → Option CType
+higher_of t None = t
+higher_of None (Some u) = Some u
+higher_of (Some t) (Some u) = Some (if nat_lt (rank t) (rank u) then u else t)
+
+abbrev pub ranked : Option CType → List Candidate → Option CType
+ranked best [] = best
+ranked best (it ∷ others) = ranked (higher_of best (value it.shape)) others
+
+-- the first type of the highest rank
+abbrev pub first_ranked : List Candidate → Option CType
+first_ranked all = ranked None all
+
+abbrev pub have_types : List Candidate → Bool
+have_types [] = true
+have_types (it ∷ others) = is_some (value it.shape) && have_types others
+
+-- the value of a pick of several candidates
+abbrev pub picked_value : List Candidate → Option CType
+picked_value all = if have_types all then first_ranked (left_of all) else None
+
+-- one candidate is picked, place and value
+abbrev pub pick_shape : List Candidate → Shape
+pick_shape [] = a_value None
+pick_shape (it ∷ []) = it.shape
+pick_shape (it ∷ other ∷ others) = a_value (picked_value (it ∷ other ∷ others))
+
+-- by the control's value; without its type there is none
+abbrev pub selected_shape : Option CType → List Association → Shape
+selected_shape None all = a_value None
+selected_shape (Some t) all = pick_shape (selected t all)
+
+-- how many expressions give a value of their own to a pick
+abbrev pub is_fresh_pick : List Candidate → Bool
+is_fresh_pick all = nat_lt 1 (length (left_of all))
+
+-- `[ ]` of wider C: where neither value is a pointer and the left one is a number, that is a vector, and its element is as it is
+abbrev pub is_base_value : Option CType → Bool
+is_base_value None = false
+is_base_value (Some t) = is_base_type t
+
+abbrev pub is_vector_index : Bool → Shape → Shape → Bool
+is_vector_index wide e e2 = wide && (is_base_value (value e) && is_no_pointer (value e2))
+
+abbrev pub index_shape : Bool → Shape → Shape → Shape
+index_shape wide e e2 = if is_vector_index wide e e2 then e else a_place (index_type (value e) (value e2))
 
 -- targets of items in braces (C99, 6.7.8)
 

@@ -2,9 +2,11 @@
 -- first.
 use Rattle.std.specs.Prelude.{ℕ, Bool, false, List, [], ◌∷◌, Option, None}
 use Rattle.c_words.specs.declared.kinds.Keyword.{Keyword}
-use Rattle.type_table.specs.Types.{Words, CType, base, CTypes, no_types, more_types}
+use Rattle.tape_ops.specs.declared.op.Op.{Op}
+use Rattle.type_table.specs.Types.{Words, CType, base}
 use Rattle.name_rules.specs.Spellings.{Place, Named}
 use Rattle.name_rules.specs.Scopes.{Names}
+use Rattle.name_rules.specs.Identifiers.{OldParameter}
 
 -- specifiers: their type without annotation words, these words, the storage words and `inline`, and whether a struct or union
 -- without a tag is one of them, so far
@@ -29,10 +31,18 @@ pub record OpenDeclaration : Type 0 where
   pub name : Option Named
   pub declared : CType
 
--- a list of parameters: the function whose own they are, where they are a function's own, and their types so far
+-- a list of parameters: the function whose own they are, where they are a function's own, and their types so far; where it is a list
+-- of identifiers, these
 pub record OpenParameters : Type 0 where
   pub own : Option Place
   pub types : List CType
+  pub identifiers : List OldParameter
+
+-- a type by what stands in parentheses, or the initialiser that gives its type to a name: the specifiers outside, and how many ops are
+-- before it
+pub record OpenPart : Type 0 where
+  pub outer : Specifiers
+  pub from : ℕ
 
 pub record State : Type 0 where
   pub names : Names
@@ -43,6 +53,9 @@ pub record State : Type 0 where
   pub parameters : List OpenParameters
   -- the types of the parameters of lists that ended and of which no function was made, the last one first
   pub finished : List (List CType)
+  pub parts : List OpenPart
+  -- the ops so far
+  pub passed : List Op
 
 -- specifiers of which no word was read
 abbrev pub no_specifiers : Specifiers
@@ -58,6 +71,8 @@ with_names names =
       declarations = [];
       parameters = [];
       finished = [];
+      parts = [];
+      passed = [];
     }
 
 abbrev pub no_declaration : OpenDeclaration
@@ -67,7 +82,10 @@ abbrev pub no_body : OpenBody
 no_body = record { outer = no_specifiers; members_of = 0 }
 
 abbrev pub no_parameters : OpenParameters
-no_parameters = record { own = None; types = [] }
+no_parameters = record { own = None; types = []; identifiers = [] }
+
+abbrev pub no_part : OpenPart
+no_part = record { outer = no_specifiers; from = 0 }
 
 -- the innermost one, or this one where there is none
 abbrev pub innermost_or : {A : Type 0} → A → List A → A
@@ -82,7 +100,3 @@ with_innermost y (x ∷ xs) = y ∷ xs
 abbrev pub without_innermost : {A : Type 0} → List A → List A
 without_innermost [] = []
 without_innermost (x ∷ xs) = xs
-
-abbrev pub types_in : List CType → CTypes
-types_in [] = no_types
-types_in (t ∷ ts) = more_types t (types_in ts)

@@ -1,5 +1,5 @@
 -- Names by one loop over a tape: what each op makes of what is known before it.
-use Rattle.std.specs.Prelude.{ℕ, Bool, true, false, not, List, [], ◌∷◌, ◌++◌, length, Option, None, Some}
+use Rattle.std.specs.Prelude.{ℕ, Bool, true, false, not, List, [], ◌∷◌, ◌++◌, length, drop, Option, None, Some, if◌then◌else◌}
 use Rattle.std.specs.List.{last_or}
 use Rattle.c_words.specs.declared.kinds.Keyword.{Keyword}
 use Rattle.c_words.specs.declared.kinds.Keyword.TheVariants as keywords
@@ -15,12 +15,17 @@ use Rattle.tape_ops.specs.declared.declarator.DeclrOp.{DeclrOp}
 use Rattle.tape_ops.specs.declared.declarator.DeclrOp.TheVariants as declrs
 use Rattle.tape_ops.specs.declared.statement.StmtOp.{StmtOp}
 use Rattle.tape_ops.specs.declared.statement.StmtOp.TheVariants as stmts
-use Rattle.type_table.specs.Types.{Words, CType, base, void}
+use Rattle.type_table.specs.Types.{Words, CType, base, void, words_of}
 use Rattle.name_rules.specs.Spellings.{Place, Spelling, place, annotation_at, Named}
-use Rattle.name_rules.specs.Scopes.{enumerator_role, Declared, Names, meaning, enter, leave}
-use Rattle.name_rules.specs.Pieces.{with_words, decayed, piece_of, to_pointer, to_function}
-use Rattle.name_rules.specs.Declaring.{used, type_named, type_by, Numbered, tag_used, tag_type, Begun, tag_begun, untagged_begun, untagged_number, declared_here, linked, has_word, declared_some, declared_param, declared_member, unnamed_member, own_where, keep, body_entered, body_left}
-use Rattle.name_steps.specs.State.{OpenBody, OpenDeclaration, OpenParameters, State, no_specifiers, no_declaration, no_body, no_parameters, innermost_or, with_innermost, without_innermost, types_in}
+use Rattle.name_rules.specs.Faults.{no_type, fault_where}
+use Rattle.name_rules.specs.Scopes.{enumerator_role, Declared, TypeNamed, Names, meaning, enter, leave, with_faults}
+use Rattle.name_rules.specs.Values.{Shape, value}
+use Rattle.shape_steps.specs.State.{nothing, shape_at}
+use Rattle.shape_steps.specs.Steps as shapes
+use Rattle.name_rules.specs.Pieces.{bare, with_words, decayed, piece_of, to_pointer, to_function, types_in}
+use Rattle.name_rules.specs.Declaring.{used, type_named, type_by, Numbered, tag_used, tag_type, Begun, tag_begun, untagged_begun, untagged_number, declared_here, linked, has_word, declared_some, declared_param, declared_member, unnamed_member, own_where, keep, body_entered, body_left, is_counted_by}
+use Rattle.name_steps.specs.State.{OpenBody, OpenDeclaration, OpenParameters, OpenPart, State, no_specifiers, no_declaration, no_body, no_parameters, no_part, innermost_or, with_innermost, without_innermost}
+use Rattle.name_rules.specs.Identifiers.{Olds, identified, old_declared_some, is_unknown, old_faults, old_types}
 
 -- the innermost of what is begun
 
@@ -93,6 +98,48 @@ with_enumerator at name st = record st { names = declared_here at name enumerato
 abbrev pub with_unnamed_member : Place → State → State
 with_unnamed_member at st = record st { names = unnamed_member at (body st).members_of (declaration st).type st.names }
 
+-- Types by expressions: the ops since one began are gone through once more, with the names that are known at its end and nothing on
+-- the stacks, and leave the shape of the expression.
+
+-- a part begins; the op that it begins with is the first of its own
+abbrev pub part_begun : State → State
+part_begun st =
+    record st {
+      specifiers = no_specifiers;
+      parts = record { outer = st.specifiers; from = length st.passed } ∷ st.parts;
+    }
+
+abbrev pub part : State → OpenPart
+part st = innermost_or no_part st.parts
+
+abbrev pub shape_of_part : Spelling → State → Shape
+shape_of_part u st = shape_at 0 (shapes.run u st.names nothing (drop (part st).from st.passed))
+
+abbrev pub part_ended : State → State
+part_ended st = record st { specifiers = (part st).outer; parts = without_innermost st.parts }
+
+-- a type by an expression, without annotation words, and the base type where there is none
+abbrev pub bare_or_base : Option CType → CType
+bare_or_base None = base []
+bare_or_base (Some t) = bare t
+
+abbrev pub typed_by : Spelling → ℕ → Option CType → State → State
+typed_by u token t st =
+    record (with_type (bare_or_base t) (part_ended st))
+    { names = with_faults (fault_where (is_unknown t) (place u token) no_type) st.names }
+
+abbrev pub typeof_ended : Spelling → ℕ → State → State
+typeof_ended u token st = typed_by u token (shape_of_part u st).type st
+
+-- by the name of a type that ended last
+abbrev pub type_or : CType → Option TypeNamed → CType
+type_or t None = t
+type_or t (Some it) = it.type
+
+abbrev pub type_ended : State → State
+type_ended st =
+    with_type (type_or (part_ended st).specifiers.type (last_or None st.names.type_names)) (part_ended st)
+
 abbrev pub specifier_step : Spelling → State → SpecOp → State
 specifier_step u st (specs.Word token) = with_word u token st
 specifier_step u st (specs.Storage keyword) = with_storage keyword st
@@ -106,6 +153,9 @@ specifier_step u st (specs.Untagged kind token) =
 specifier_step u st specs.BodyEnd = body_ended st
 specifier_step u st (specs.Enumerator token name) = with_enumerator (place u token) (u.key name) st
 specifier_step u st (specs.UnnamedMember token) = with_unnamed_member (place u token) st
+specifier_step u st specs.PartBegin = part_begun st
+specifier_step u st (specs.TypeofEnd token) = typeof_ended u token st
+specifier_step u st specs.TypeEnd = type_ended st
 specifier_step u st specs.SpecsEnd = specifiers_ended st
 
 -- declarators
@@ -145,7 +195,7 @@ linked_some u (Some it) s = Some (linked (u.key it.name) (place u it.token) s)
 
 abbrev pub parameters_begun : Option Place → State → State
 parameters_begun own st =
-    record st { names = enter st.names; parameters = record { own = own; types = [] } ∷ st.parameters }
+    record st { names = enter st.names; parameters = record { own = own; types = []; identifiers = [] } ∷ st.parameters }
 
 -- a declaration ends
 abbrev pub let_go : State → State
@@ -161,12 +211,27 @@ with_parameter u st =
           st.parameters;
     }
 
-abbrev pub parameters_ended : State → State
-parameters_ended st =
+-- lists of identifiers
+
+abbrev pub olds : State → Olds
+olds st = record { list = (parameters st).identifiers; names = st.names }
+
+abbrev pub with_olds : Olds → State → State
+with_olds it st =
     record st {
-      names = keep (parameters st).own st.names;
+      names = it.names;
+      parameters = with_innermost (record (parameters st) { identifiers = it.list }) st.parameters;
+    }
+
+abbrev pub with_identifier : Spelling → ℕ → ℕ → State → State
+with_identifier u token name st = with_olds (identified u token name (olds st)) st
+
+abbrev pub parameters_ended : Spelling → State → State
+parameters_ended u st =
+    record st {
+      names = keep (parameters st).own (old_faults u (parameters st).identifiers st.names);
       parameters = without_innermost st.parameters;
-      finished = (parameters st).types ∷ st.finished;
+      finished = ((parameters st).types ++ old_types (parameters st).identifiers) ∷ st.finished;
     }
 
 -- a declarator ends: the next one, without a name so far, is made of the type of the specifiers
@@ -192,6 +257,25 @@ name_declared u st =
           (declaration st).name (declaration st).storage (declaration st).declared st.names;
     }
 
+abbrev pub with_old_parameter : Spelling → State → State
+with_old_parameter u st =
+    if has_word keywords.Typedef (declaration st).storage then name_declared u st
+    else name_ended (with_olds
+    (old_declared_some u (parameters st).own (declaration st).name (decayed (declaration st).declared) (olds st)) st)
+
+-- a name of the type of the value of its initialiser, with the words of its specifiers
+abbrev pub auto_typed : Spelling → ℕ → Option CType → State → State
+auto_typed u token t st =
+    name_declared u (record (part_ended st) {
+      names = with_faults (fault_where (is_unknown t) (place u token) no_type) st.names;
+      declarations = with_innermost
+          (record (declaration st) { declared = with_words (words_of (declaration st).type) (bare_or_base t) })
+          st.declarations;
+    })
+
+abbrev pub auto_ended : Spelling → ℕ → State → State
+auto_ended u token st = auto_typed u token (value (shape_of_part u st)) st
+
 abbrev pub with_member : Spelling → State → State
 with_member u st =
     record (declarator_ended st) {
@@ -206,11 +290,15 @@ declarator_step u st (declrs.DeclName token name) = with_name token name st
 declarator_step u st (declrs.ParamsBegin is_own) =
     parameters_begun (own_where is_own (linked_some u (declaration st).name st.names)) st
 declarator_step u st declrs.Param = with_parameter u st
-declarator_step u st declrs.ParamsEnd = parameters_ended st
+declarator_step u st declrs.ParamsEnd = parameters_ended u st
 declarator_step u st declrs.Pointer = pointed st
 declarator_step u st declrs.Array = pointed st
 declarator_step u st (declrs.Function has_ellipsis) = called_with has_ellipsis st
 declarator_step u st declrs.Declare = name_declared u st
+declarator_step u st declrs.AutoBegin = part_begun st
+declarator_step u st (declrs.AutoEnd token) = auto_ended u token st
+declarator_step u st (declrs.Identifier token name) = with_identifier u token name st
+declarator_step u st declrs.OldParam = with_old_parameter u st
 declarator_step u st declrs.Member = with_member u st
 declarator_step u st (declrs.TypeName first) = with_type_name (place u first) st
 declarator_step u st declrs.DeclarationEnd = let_go st
@@ -228,18 +316,22 @@ expression_step u st (exprs.Comma token) = st
 expression_step u st (exprs.Assign sign token first last) = st
 expression_step u st (exprs.Cond has_middle token first last) = st
 expression_step u st (exprs.Binary sign token first last) = st
-expression_step u st (exprs.Prefix sign token last) = st
+expression_step u st (exprs.Prefix sign token last aims) = st
 expression_step u st (exprs.Post sign token first) = st
-expression_step u st (exprs.Index token first last) = st
+expression_step u st (exprs.Index token first last aims) = st
 expression_step u st (exprs.Arg behind first last) = st
 expression_step u st (exprs.Call token count) = st
-expression_step u st (exprs.Arrow token first last) = st
+expression_step u st (exprs.Arrow token first last aims) = st
 expression_step u st (exprs.Dot token member name) = st
+expression_step u st (exprs.Label token) = st
 
 -- the body of the function that was declared last
-abbrev pub body_entered_by : Bool → Option Declared → Names → Names
-body_entered_by is_plain None s = s
-body_entered_by is_plain (Some d) s = body_entered d.at d.first is_plain s
+abbrev pub body_entered_by : Bool → Bool → Option Declared → Names → Names
+body_entered_by is_plain is_counted None s = s
+body_entered_by is_plain is_counted (Some d) s = body_entered d.at d.first is_plain is_counted s
+
+abbrev pub is_counted : Spelling → State → Bool
+is_counted u st = is_counted_by u.wide (declaration st).storage
 
 -- whether the innermost declaration is without `inline`
 abbrev pub is_plain : State → Bool
@@ -253,17 +345,23 @@ statement_step u st (stmts.Return token last) = st
 statement_step u st stmts.Enter = record st { names = enter st.names }
 statement_step u st stmts.Leave = record st { names = leave st.names }
 statement_step u st stmts.FunctionBody =
-    record st { names = body_entered_by (is_plain st) (last_or None st.names.declared) st.names }
+    record st { names = body_entered_by (is_plain st) (is_counted u st) (last_or None st.names.declared) st.names }
 statement_step u st stmts.FunctionEnd = record st { names = body_left st.names }
 
 -- ops of the forms with type names and of initialisers say nothing of names
+abbrev pub names_step : Spelling → State → Op → State
+names_step u st (ops.Expr op) = expression_step u st op
+names_step u st (ops.Form op) = st
+names_step u st (ops.Init op) = st
+names_step u st (ops.Spec op) = specifier_step u st op
+names_step u st (ops.Declr op) = declarator_step u st op
+names_step u st (ops.Stmt op) = statement_step u st op
+
+abbrev pub passed_on : Op → State → State
+passed_on op st = record st { passed = st.passed ++ op ∷ [] }
+
 abbrev pub step : Spelling → State → Op → State
-step u st (ops.Expr op) = expression_step u st op
-step u st (ops.Form op) = st
-step u st (ops.Init op) = st
-step u st (ops.Spec op) = specifier_step u st op
-step u st (ops.Declr op) = declarator_step u st op
-step u st (ops.Stmt op) = statement_step u st op
+step u st op = passed_on op (names_step u st op)
 
 abbrev pub run : Spelling → List Op → State → State
 run u [] st = st

@@ -1,13 +1,13 @@
 -- What is known of a table is known of those before it.
-use Rattle.std.proofs.Common.{arith, ◌≡◌, ℕ, ◌<◌, ◌≤◌, ◌++◌, Bool, true, false, List, [], ◌∷◌, length, map, min, Option, refl, sym, ◌∙◌, ap}
+use Rattle.std.proofs.Common.{arith, ◌≡◌, ℕ, ◌≤◌, ◌++◌, true, false, List, [], ◌∷◌, length, map, Option, refl, ◌∙◌, ap}
 use Rattle.type_table.specs.declared.row.Shape.{Shape}
 use Rattle.type_table.specs.declared.row.Shape.TheVariants as shapes
 use Rattle.type_table.specs.declared.row.Row.{Row}
 use Rattle.type_table.specs.Types.{Words, CType, base, void, struct, pointer, function, CTypes}
-use Rattle.type_table.specs.Rows.{shown, type_of, types_of, types_at, some_where, AreBelow, AreParts, Keeps}
+use Rattle.type_table.specs.Rows.{shown, types_of, types_at, AreBelow, AreParts, Keeps}
 use Rattle.name_rules.specs.Pieces.{with_words, decayed, is_function}
-use Rattle.name_steps.specs.State.{types_in}
-use Rattle.name_types.specs.Known.{Knows, Is, Grows}
+use Rattle.name_rules.specs.Pieces.{types_in}
+use Rattle.name_types.specs.Known.{Knows, Grows}
 
 pub knows_before : (old new : List Row) (t : ℕ → CType) → Grows old new → Knows t new → Knows t old
 knows_before old new t grows knows = λ n lt. knows n (let l = grows.longer in omega arith) ∙ grows.keeps n lt

@@ -1,9 +1,10 @@
 -- What is known of numbers of types while their table grows.
-use Rattle.std.specs.Prelude.{◌≡◌, ℕ, ◌<◌, ◌≤◌, List, [], length}
+use Rattle.std.specs.Prelude.{◌≡◌, ℕ, ◌<◌, ◌≤◌, List, [], length, slice_get, unwrap_or}
 use Rattle.type_table.specs.declared.row.Shape.{Shape}
 use Rattle.type_table.specs.declared.row.Row.{Row}
 use Rattle.type_table.specs.Types.{Words, CType, base, void, struct}
 use Rattle.type_table.specs.Rows.{shown, type_of, AreParts, Keeps}
+use Rattle.name_rules.specs.Pieces.{bare}
 use Rattle.name_types.specs.declared.types.SoFar.{SoFar}
 use Rattle.name_types.specs.declared.types.SoFar.TheVariants as so_fars
 
@@ -37,3 +38,13 @@ IsLow n (so_fars.Type ty) = ty < n
 pub record IsCopy (shape copy : Shape) : Type 0 where
   pub same : (types : List CType) (ws es : Words) → shown types copy ws es ≡ shown types shape ws es
   pub parts : (n : ℕ) → AreParts n shape → AreParts n copy
+
+-- of a list of the types without annotation words of the first types, that of a number; behind them the number itself
+abbrev pub bare_at : List ℕ → ℕ → ℕ
+bare_at bares n = unwrap_or (slice_get bares n) n
+
+-- of the first types the ones without annotation words are known
+pub record AreBare (rows : List Row) (bares : List ℕ) : Type 0 where
+  pub few : length bares ≤ length rows
+  pub low : (n : ℕ) → n < length bares → bare_at bares n < length rows
+  pub same : (n : ℕ) → n < length bares → type_of rows (bare_at bares n) ≡ bare (type_of rows n)

@@ -1,13 +1,14 @@
 //! The types so far, and one more.
 
-ghost use Rattle.std.specs.Prelude.{◌≡◌, ◌<◌, ◌≤◌, ◌++◌, ℕ, [], length, map, nat_lt, IfOk, OnOk};
+ghost use Rattle.std.specs.Prelude.{◌≡◌, ◌+◌, ◌<◌, ◌≤◌, ◌++◌, ℕ, [], length, map, nat_lt, true, IfOk, OnOk};
 ghost use Rattle.type_table.specs.Types.{CType, base, pointer, size};
 ghost use Rattle.type_table.specs.Rows.{shown, types_of, type_of, AreParts, AreBelow};
+ghost use Rattle.name_rules.specs.Pieces as pieces;
 ghost use Rattle.name_rules.specs.Pieces.{with_words, decayed, is_function, piece_of, to_function};
 ghost use Rattle.name_rules.specs.Declaring.{struct_number};
-ghost use Rattle.name_steps.specs.State.{types_in};
+ghost use Rattle.name_rules.specs.Pieces.{types_in};
 ghost use Rattle.name_steps.specs.Steps.{ellipsis_where};
-ghost use Rattle.name_types.specs.Known.{Knows, Is, Grows, so_far_type, IsLow};
+ghost use Rattle.name_types.specs.Known.{Knows, Is, Grows, so_far_type, IsLow, bare_at, AreBare};
 
 use crate::copy::copy_of;
 use name_scopes::Place;
@@ -30,6 +31,8 @@ pub enum SoFar {
 pub struct Types {
     table: TypeTable,
     plain: TypeId,
+    /// Of the first types, as many as were asked for, the types without annotation words.
+    bare: Vec<TypeId>,
 }
 
 impl Model for Types {
@@ -42,7 +45,10 @@ impl Model for Types {
 
     ghost view = { λ s. s.table };
 
-    ghost invariant = { λ s. (s.plain < length s.table) × (type_of s.table s.plain ≡ base []) };
+    ghost use Rattle.name_types.specs.Known.{AreBare};
+
+    ghost invariant = { λ s. ((s.plain < length s.table) × (type_of s.table s.plain ≡ base []))
+        × AreBare s.table s.bare.items };
 }
 
 impl Types {
@@ -50,7 +56,8 @@ impl Types {
     pub fn new(alloc: Global) -> Result<Self, NoMemory> {
         let mut table = TypeTable::new(alloc);
         let plain = table.push(Shape::Base, Vec::new(alloc), Vec::new(alloc))?;
-        Ok(Types { table, plain })
+        let bare = Vec::new(alloc);
+        Ok(Types { table, plain, bare })
     }
 
     /// The table of all types.
@@ -193,6 +200,21 @@ impl Types {
         self.add(shape, words, ellipsis_words)
     }
 
+    /// A type without annotation words, on each node and before each ellipsis. All calls together are linear in the types and in the
+    /// parameters of those that were there.
+    pub fn bare(&mut self, alloc: Global, ty: TypeId) -> Result<TypeId, NoMemory>
+        ensures made { IfOk result
+            (λ at. type_of self.new at ≡ pieces.bare (type_of self.old ty)) }
+        ensures low { IfOk result (λ at. at < length self.new) }
+        ensures grown { OnOk result (Grows self.old self.new) }
+    {
+        if ty.number() >= self.table.len() {
+            return Ok(self.plain);
+        }
+        find_bare_to(alloc, &mut self.table, &mut self.bare, ty)?;
+        Ok(bare_part(&self.bare, ty))
+    }
+
     /// The type of specifiers with their words. Linear in the words, and in the number of parameters where there are words.
     pub fn specified(
         &mut self,
@@ -222,4 +244,132 @@ fn joined(alloc: Global, words: &[Place], more: &[Place]) -> Result<Vec<Place>, 
     let mut all = words.to_vec(alloc)?;
     all.extend_from_slice(more)?;
     Ok(all)
+}
+
+/// The type without annotation words of a type, by those of the first types; past these the type itself. Constant time.
+fn bare_part(bare: &[TypeId], ty: TypeId) -> TypeId
+    ensures { result ≡ bare_at bare.now ty }
+{
+    match bare.get(ty.number() as usize) {
+        Some(at) => *at,
+        None => ty,
+    }
+}
+
+/// The types without annotation words of types, by those of the first types. Linear in them.
+fn bare_parts(alloc: Global, bare: &[TypeId], types: &[TypeId]) -> Result<Vec<TypeId>, NoMemory>
+    ensures { IfOk result (λ all. all.items ≡ map (bare_at bare.now) types.now) }
+{
+    let mut all = Vec::new(alloc);
+    for ty in types {
+        all.push(bare_part(bare, *ty))?;
+    }
+    Ok(all)
+}
+
+/// The outermost constructor of a type, with parts without annotation words, which are known of those before it. Linear in the number
+/// of its parameters.
+fn bare_shape(
+    alloc: Global,
+    table: &TypeTable,
+    bare: &[TypeId],
+    ty: TypeId,
+) -> Result<Shape, NoMemory>
+    requires known { AreBare table.now bare.now }
+    requires next { ty ≡ length bare.now }
+    requires there { ty < length table.now }
+    ensures made { IfOk result
+        (λ shape. shown (types_of table.now) shape [] [] ≡ pieces.bare (type_of table.now ty)) }
+    ensures parts { IfOk result (AreParts (length table.now)) }
+{
+    match table.shape(ty) {
+        Shape::Base => Ok(Shape::Base),
+        Shape::Void => Ok(Shape::Void),
+        Shape::Ref(inside) => Ok(Shape::Ref(bare_part(bare, *inside))),
+        Shape::Fun {
+            params,
+            result: back,
+            ellipsis,
+        } => {
+            let params = bare_parts(alloc, bare, params)?;
+            Ok(Shape::Fun {
+                params,
+                result: bare_part(bare, *back),
+                ellipsis: *ellipsis,
+            })
+        }
+        Shape::Struct(number) => Ok(Shape::Struct(*number)),
+    }
+}
+
+/// Whether types are their own types without annotation words. Linear in them.
+fn are_bare(bare: &[TypeId], types: &[TypeId]) -> bool
+    ensures { result ≡ true → map (bare_at bare.now) types.now ≡ types.now }
+{
+    for ty in types {
+        if bare_part(bare, *ty) != *ty {
+            return false;
+        }
+    }
+    true
+}
+
+/// Whether a type has no annotation words, where that is known of those before it. Linear in the number of its parameters.
+fn is_bare(table: &TypeTable, bare: &[TypeId], ty: TypeId) -> bool
+    requires known { AreBare table.now bare.now }
+    requires next { ty ≡ length bare.now }
+    ensures { result ≡ true → pieces.bare (type_of table.now ty) ≡ type_of table.now ty }
+{
+    if !table.words(ty).is_empty() || !table.ellipsis_words(ty).is_empty() {
+        return false;
+    }
+    match table.shape(ty) {
+        Shape::Base | Shape::Void | Shape::Struct(_) => true,
+        Shape::Ref(inside) => bare_part(bare, *inside) == *inside,
+        Shape::Fun {
+            params,
+            result: back,
+            ..
+        } => are_bare(bare, params) && bare_part(bare, *back) == *back,
+    }
+}
+
+/// Finds the type without annotation words of the first type of which it is not known. Linear in the number of its parameters,
+/// but for growth.
+fn find_bare(alloc: Global, table: &mut TypeTable, bare: &mut Vec<TypeId>) -> Result<(), NoMemory>
+    requires known { AreBare table.old bare.old.items }
+    requires room { length bare.old.items < length table.old }
+    ensures known { AreBare table.new bare.new.items }
+    ensures grown { Grows table.old table.new }
+    ensures one { OnOk result (length bare.new.items ≡ length bare.old.items + 1) }
+{
+    let _count = table.len();
+    let ty = TypeId::new(bare.len() as u32);
+    if is_bare(table, bare, ty) {
+        bare.push(ty)?;
+        return Ok(());
+    }
+    let shape = bare_shape(alloc, table, bare, ty)?;
+    let at = table.push(shape, Vec::new(alloc), Vec::new(alloc))?;
+    bare.push(at)?;
+    Ok(())
+}
+
+/// Finds the types without annotation words of the types up to one.
+fn find_bare_to(
+    alloc: Global,
+    table: &mut TypeTable,
+    bare: &mut Vec<TypeId>,
+    ty: TypeId,
+) -> Result<(), NoMemory>
+    requires known { AreBare table.old bare.old.items }
+    requires there { ty < length table.old }
+    ensures known { AreBare table.new bare.new.items }
+    ensures grown { Grows table.old table.new }
+    ensures found { OnOk result (ty < length bare.new.items) }
+{
+    while bare.len() <= ty.number() as usize {
+        find_bare(alloc, table, bare)?;
+    }
+    Ok(())
 }

@@ -1,11 +1,11 @@
 //! What declarators, enumerators and members declare (C99, 6.7).
 
-ghost use Rattle.std.specs.Prelude.{◌≡◌, ◌<◌, [], ℕ, Bool, Option, None, OnOk, length, option_map};
+ghost use Rattle.std.specs.Prelude.{◌≡◌, ◌<◌, [], ℕ, Bool, Option, None, OnOk, length, option_map, if◌then◌else◌};
 ghost use Rattle.std.specs.List.{last_or};
 ghost use Rattle.type_table.specs.Types.{CType, base};
 ghost use Rattle.name_types.specs.Known.{Knows};
 ghost use Rattle.name_rules.specs.Scopes.{enumerator_role};
-ghost use Rattle.name_rules.specs.Declaring.{untagged_number, declared_here, thing_where, static_where, declared_thing, declared_typedef, declared_by, typedef_known, declared_some, declared_param, declared_member, unnamed_member, body_entered};
+ghost use Rattle.name_rules.specs.Declaring.{untagged_number, declared_here, thing_where, static_where, declared_thing, declared_typedef, declared_by, typedef_known, declared_some, declared_param, declared_member, unnamed_member, body_counted, body_entered};
 ghost use Rattle.name_steps.specs.Steps.{body_entered_by};
 ghost use Rattle.unit_spelling.specs.Spelled.{spelling_of};
 ghost use Rattle.unit_names.specs.Shown.{names_of};
@@ -274,11 +274,10 @@ pub fn declare_unnamed(
     Ok(())
 }
 
-/// A body begins at a function's name; the function was first declared at this place. It is plain without `inline`. Constant time
-/// but for growth.
-fn enter_at(names: &mut Names, at: &Place, first: &Place, is_plain: bool) -> Result<(), NoMemory>
+/// A body at a function's name is counted; the function was first declared at this place. Constant time but for growth.
+fn count_body(names: &mut Names, at: &Place, first: &Place, is_plain: bool) -> Result<(), NoMemory>
     ensures { OnOk result ((t : ℕ → CType) → names_of t names.new
-        ≡ body_entered at.now first.now is_plain (names_of t names.old)) }
+        ≡ body_counted at.now first.now is_plain (names_of t names.old)) }
 {
     let known = names.is_entered(at.0, first);
     names.blame(known, at, Rule::DefinedTwice)?;
@@ -289,14 +288,49 @@ fn enter_at(names: &mut Names, at: &Place, first: &Place, is_plain: bool) -> Res
     })
 }
 
-/// The body begins of the function that was declared last. It is plain without `inline`. Constant time but for growth.
-pub fn enter_body(names: &mut Names, is_plain: bool) -> Result<(), NoMemory>
+/// The same where bodies are counted by their specifiers. Constant time but for growth.
+fn count_where(
+    names: &mut Names,
+    at: &Place,
+    first: &Place,
+    is_plain: bool,
+    is_counted: bool,
+) -> Result<(), NoMemory>
     ensures { OnOk result ((t : ℕ → CType) → names_of t names.new
-        ≡ body_entered_by is_plain (last_or None (names_of t names.old).declared)
+        ≡ (if is_counted then body_counted at.now first.now is_plain (names_of t names.old)
+        else names_of t names.old)) }
+{
+    if is_counted {
+        count_body(names, at, first, is_plain)
+    } else {
+        Ok(())
+    }
+}
+
+/// A body begins at a function's name; the function was first declared at this place. It is plain without `inline`. Constant time
+/// but for growth.
+fn enter_at(
+    names: &mut Names,
+    at: &Place,
+    first: &Place,
+    is_plain: bool,
+    is_counted: bool,
+) -> Result<(), NoMemory>
+    ensures { OnOk result ((t : ℕ → CType) → names_of t names.new
+        ≡ body_entered at.now first.now is_plain is_counted (names_of t names.old)) }
+{
+    count_where(names, at, first, is_plain, is_counted)?;
+    names.begin_body(first)
+}
+
+/// The body begins of the function that was declared last. It is plain without `inline`, and may be not counted. Constant time but for growth.
+pub fn enter_body(names: &mut Names, is_plain: bool, is_counted: bool) -> Result<(), NoMemory>
+    ensures { OnOk result ((t : ℕ → CType) → names_of t names.new
+        ≡ body_entered_by is_plain is_counted (last_or None (names_of t names.old).declared)
         (names_of t names.old)) }
 {
     match names.last_declared() {
-        Some(declared) => enter_at(names, &declared.at, &declared.first, is_plain),
+        Some(declared) => enter_at(names, &declared.at, &declared.first, is_plain, is_counted),
         None => Ok(()),
     }
 }

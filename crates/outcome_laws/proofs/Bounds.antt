@@ -1,5 +1,5 @@
 -- Lattices that are read are few and small, and so what certificates are read over is bounded.
-use Rattle.std.proofs.Common.{◌≡◌, ℕ, zero, suc, ◌≤◌, arith, List, [], ◌∷◌, length, slice_get, Some, refl, ap, subst}
+use Rattle.std.proofs.Common.{◌≡◌, ℕ, Bool, zero, suc, ◌≤◌, arith, List, [], ◌∷◌, length, slice_get, Some, refl, ap, subst}
 use Rattle.std.proofs.lemmas.List.{length-map}
 use Rattle.lattice_core.specs.Order.{Order, size}
 use Rattle.lattice_core.specs.View.{LatticeView, orders_of}
@@ -31,8 +31,8 @@ small (b ∷ bs) (l ∷ ls) h zero order there =
     subst (λ (o : Order). size o ≤ 64) same (omega (arith, few, elements))
 small (b ∷ bs) (l ∷ ls) h (suc n) order there = small bs ls h.1 n order there
 
-pub read_few : (bytes : List ℕ) (lattices : List LatticeView) → LatticesRead bytes lattices → AreFew lattices
-read_few bytes lattices h = record {
+pub read_few : (wide : Bool) (bytes : List ℕ) (lattices : List LatticeView) → LatticesRead wide bytes lattices → AreFew lattices
+read_few wide bytes lattices h = record {
   lattices_are =
       let same = length-map lattices (λ (lattice : LatticeView). lattice.order) in
       let many = as_many h.read.blocks lattices h.read.built in

@@ -1,5 +1,5 @@
 -- Bytes read as one list of lattices, and have no fault beside it.
-use Rattle.std.proofs.Common.{◌≡◌, ◌≢◌, ℕ, ◌<◌, zero, suc, true, List, [], ◌∷◌, length, get_or, Some, None, slice_get, refl, sym, ◌∙◌, ap, subst, arith, inl, inr}
+use Rattle.std.proofs.Common.{◌≡◌, ◌≢◌, ℕ, ◌<◌, zero, suc, Bool, true, List, [], ◌∷◌, length, get_or, Some, None, slice_get, refl, sym, ◌∙◌, ap, subst, arith, inl, inr}
 use Rattle.std.proofs.lemmas.Grind.{same_number_lists}
 use Rattle.lattice_core.specs.declared.Entry.{Entry}
 use Rattle.lattice_core.specs.declared.Pair.{Pair}
@@ -92,10 +92,10 @@ get_within [] at l e = absurd cc
 get_within (x ∷ xs) zero l e = omega arith
 get_within (x ∷ xs) (suc at) l e = let under : at < length xs = get_within xs at l e in omega arith
 
-reads_once : (bytes : List ℕ) (a b : List LatticeView) → Reads bytes a → Reads bytes b → a ≡ b
-reads_once bytes a b h k =
+reads_once : (wide : Bool) (bytes : List ℕ) (a b : List LatticeView) → Reads wide bytes a → Reads wide bytes b → a ≡ b
+reads_once wide bytes a b h k =
     all_built_one h.blocks a b h.built
-    (subst (λ (blocks : List BlockView). AreAllBuilt blocks b) (one_reading k.blocks h.blocks bytes k.text h.text) k.built)
+    (subst (λ (blocks : List BlockView). AreAllBuilt blocks b) (one_reading wide k.blocks h.blocks bytes k.text h.text) k.built)
 
 no_refused_block : (blocks : List BlockView) (lattices : List LatticeView) (number : ℕ) (reason : LatticeFault) → AreAllBuilt blocks lattices →
     IsFirstRefused blocks number reason → ⊥
@@ -103,24 +103,24 @@ no_refused_block blocks lattices number reason h refused =
     let built = built_at blocks lattices refused.at refused.block h refused.there in
     built_not_refused refused.block.entries refused.block.pairs built.0 reason built.1.built refused.reason refused.refused
 
-no_fault : (bytes : List ℕ) (lattices : List LatticeView) → Reads bytes lattices → (fault : LatticeFileFault) → fault ≢ OutOfMemory →
-    IsFileFault bytes fault → ⊥
-no_fault bytes lattices h (Block number reason) other refused =
+no_fault : (wide : Bool) (bytes : List ℕ) (lattices : List LatticeView) → Reads wide bytes lattices → (fault : LatticeFileFault) → fault ≢ OutOfMemory →
+    IsFileFault wide bytes fault → ⊥
+no_fault wide bytes lattices h (Block number reason) other refused =
     no_refused_block h.blocks lattices number reason h.built
     (subst (λ (blocks : List BlockView). IsFirstRefused blocks number reason)
-    (one_reading refused.blocks h.blocks bytes refused.text h.text) refused.first)
-no_fault bytes lattices h (Grammar line column) other refused = bad_no_text bytes refused.place h.blocks refused.first h.text
-no_fault bytes lattices h TooManyLattices other refused =
-    let e : length refused.blocks ≡ length h.blocks = ap length (one_reading refused.blocks h.blocks bytes refused.text h.text) in
+    (one_reading wide refused.blocks h.blocks bytes refused.text h.text) refused.first)
+no_fault wide bytes lattices h (Grammar line column) other refused = bad_no_text wide bytes refused.place h.blocks refused.first h.text
+no_fault wide bytes lattices h TooManyLattices other refused =
+    let e : length refused.blocks ≡ length h.blocks = ap length (one_reading wide refused.blocks h.blocks bytes refused.text h.text) in
     omega (arith, e, h.few, refused.many)
-no_fault bytes lattices h (SharedName name) other refused =
-    let blocks : refused.blocks ≡ h.blocks = one_reading refused.blocks h.blocks bytes refused.text h.text in
+no_fault wide bytes lattices h (SharedName name) other refused =
+    let blocks : refused.blocks ≡ h.blocks = one_reading wide refused.blocks h.blocks bytes refused.text h.text in
     let e : refused.lattices ≡ lattices = all_built_one h.blocks refused.lattices lattices
     (subst (λ (bs : List BlockView). AreAllBuilt bs refused.lattices) blocks refused.built) h.built in
     let apart = subst (λ (ls : List LatticeView). AreApart ls (length ls)) (sym e) h.apart in
     apart refused.first.at refused.first.here.elem name
     (get_within refused.lattices refused.first.at refused.first.here.shared.lattice refused.first.here.shared.there) refused.first.here.shared
-no_fault bytes lattices h OutOfMemory other refused = other refl
+no_fault wide bytes lattices h OutOfMemory other refused = other refl
 
 pub one_reading_of_lattices : OneReadingOfLattices
-one_reading_of_lattices bytes lattices h = record { only = λ others k. reads_once bytes lattices others h k; sound = no_fault bytes lattices h }
+one_reading_of_lattices wide bytes lattices h = record { only = λ others k. reads_once wide bytes lattices others h k; sound = no_fault wide bytes lattices h }

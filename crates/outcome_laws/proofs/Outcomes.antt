@@ -1,5 +1,5 @@
 -- The outcome is one.
-use Rattle.std.proofs.Common.{◌≡◌, ◌⊎◌, ℕ, ◌<◌, inl, inr, slice_get, true, false, List, [], ◌∷◌, ◌++◌, length, Option, Some, None, refl, sym, ◌∙◌, ap, subst, arith, zero, suc}
+use Rattle.std.proofs.Common.{◌≡◌, ◌⊎◌, ℕ, ◌<◌, inl, inr, slice_get, Bool, true, false, List, [], ◌∷◌, ◌++◌, length, Option, Some, None, refl, sym, ◌∙◌, ap, subst, arith, zero, suc}
 use Rattle.std.specs.Prelude.{codes}
 use Rattle.lattice_core.specs.Order.{IsLattice}
 use Rattle.lattice_core.specs.View.{LatticeView, AreLattices, orders_of}
@@ -249,24 +249,24 @@ EndsOnce Ends it = (s t : Status) (x y : List ℕ) → Ends it s x → Ends it t
 module _ (one_unit : OneUnitAtMost) (named : FileNames) (lattices : List LatticeView) (before : List UnitRead) (Ends : Judging → Status → List ℕ → Type 0)
     (number left : ℕ) (sources : List (List ℕ × List ℕ)) (marks said : List IndexMark) (same : SameIndices marks said)
     (once : (units : List UnitRead) → AreCounted named lattices marks units → EndsOnce Ends (judging_of named lattices marks units)) where
-  behind : (units others : List UnitRead) → SourcesParse lattices number left sources units → SourcesParse lattices number left sources others
+  behind : (units others : List UnitRead) → SourcesParse named.wide lattices number left sources units → SourcesParse named.wide lattices number left sources others
       → before ++ units ≡ before ++ others
   behind units others h k =
-      ap (λ (us : List UnitRead). before ++ us) (sources_once one_unit lattices number left sources units others h k)
+      ap (λ (us : List UnitRead). before ++ us) (sources_once one_unit named.wide lattices number left sources units others h k)
 
   sources_one : (s t : Status) (x y : List ℕ) → OfSources named lattices before marks Ends number left sources s x
       → OfSources named lattices before said Ends number left sources t y → Same s t x y
   sources_one _ _ _ _ (NotParsed x fails) (NotParsed y also) = malformed _ _
   sources_one _ _ _ _ (NotParsed x fails) (NotCounted units y parse refused) = malformed _ _
   sources_one _ _ _ _ (NotParsed x fails) (SourcesRead units t y parse counted k) =
-      absurd (never_fail one_unit lattices number left sources units x parse fails)
+      absurd (never_fail one_unit named.wide lattices number left sources units x parse fails)
   sources_one _ _ _ _ (NotCounted units x parse refused) (NotParsed y fails) = malformed _ _
   sources_one _ _ _ _ (NotCounted units x parse refused) (NotCounted others y also too) = malformed _ _
   sources_one _ _ _ _ (NotCounted units x parse refused) (SourcesRead others t y also counted k) =
       absurd (never_uncounted named lattices said marks (λ p. sym (same p)) (before ++ others) (before ++ units) (behind others units also parse)
       counted x refused)
   sources_one _ _ _ _ (SourcesRead units s x parse counted h) (NotParsed y fails) =
-      absurd (never_fail one_unit lattices number left sources units y parse fails)
+      absurd (never_fail one_unit named.wide lattices number left sources units y parse fails)
   sources_one _ _ _ _ (SourcesRead units s x parse counted h) (NotCounted others y also refused) =
       absurd (never_uncounted named lattices marks said same (before ++ units) (before ++ others) (behind units others parse also) counted y refused)
   sources_one _ _ _ _ (SourcesRead units s x parse counted h) (SourcesRead others t y also too k) =
@@ -285,7 +285,7 @@ module _ (one_unit : OneUnitAtMost) (one_certificate : OneCertificate) (one_verd
   before_once _ _ _ _ (NoPrelude none) (OnePrelude file unit said some k) = absurd cc
   before_once _ _ _ _ (OnePrelude file unit marks some h) (NoPrelude none) = absurd cc
   before_once _ _ _ _ (OnePrelude file unit marks some h) (OnePrelude name other said too k) =
-      let is = one_prelude one_unit h.words (words_of lattices) inputs.prelude unit marks h.mean h.is in
+      let is = one_prelude one_unit named.wide h.words (words_of lattices) inputs.prelude unit marks h.mean h.is in
       (ap (λ (u : UnitRead). u ∷ []) (is.only k.words other said k.mean k.is), is.numbers k.words other said k.mean k.is)
 
   before_fits : (before : List UnitRead) (marks : List IndexMark) (file : List ℕ) → named.prelude ≡ Some file → source_limit < length inputs.prelude →
@@ -294,10 +294,10 @@ module _ (one_unit : OneUnitAtMost) (one_certificate : OneCertificate) (one_verd
   before_fits _ _ file some over (OnePrelude name unit marks too h) = let within = h.within in omega (arith, over, within)
 
   before_reads : (before : List UnitRead) (marks : List IndexMark) (file : List ℕ) (fault : PreludeFault) → named.prelude ≡ Some file →
-      PreludeFails lattices inputs.prelude fault → AreBefore named inputs lattices before marks → ⊥
+      PreludeFails named.wide lattices inputs.prelude fault → AreBefore named inputs lattices before marks → ⊥
   before_reads _ _ file fault some fails (NoPrelude none) = absurd cc
   before_reads _ _ file fault some fails (OnePrelude name unit marks too h) =
-      (one_prelude one_unit h.words (words_of lattices) inputs.prelude unit marks h.mean h.is).sound fails.words fault fails.mean fails.reason
+      (one_prelude one_unit named.wide h.words (words_of lattices) inputs.prelude unit marks h.mean h.is).sound fails.words fault fails.mean fails.reason
       fails.refused
 
   units_one : (s t : Status) (x y : List ℕ) → OfUnits named inputs lattices s x → OfUnits named inputs lattices t y → Same s t x y
@@ -329,8 +329,8 @@ built_lattices (b ∷ bs) (l ∷ ls) h zero view there =
     let is : l ≡ view = cc in subst (λ (v : LatticeView). IsLattice v.order) is h.0.built.bounded
 built_lattices (b ∷ bs) (l ∷ ls) h (suc n) view there = built_lattices bs ls h.1 n view there
 
-read_lattices : (bytes : List ℕ) (lattices : List LatticeView) → LatticesRead bytes lattices → AreLattices lattices
-read_lattices bytes lattices h = built_lattices h.read.blocks lattices h.read.built
+read_lattices : (wide : Bool) (bytes : List ℕ) (lattices : List LatticeView) → LatticesRead wide bytes lattices → AreLattices lattices
+read_lattices wide bytes lattices h = built_lattices h.read.blocks lattices h.read.built
 
 module _ (one_unit : OneUnitAtMost) (one_certificate : OneCertificate) (one_verdict : OneVerdict) (one_text : OneText) where
   files_one : (named : FileNames) (inputs : Inputs) (s t : Status) (x y : List ℕ) → OfFiles named inputs s x → OfFiles named inputs t y → Same s t x y
@@ -340,13 +340,13 @@ module _ (one_unit : OneUnitAtMost) (one_certificate : OneCertificate) (one_verd
   files_one named inputs _ _ _ _ (LatticeRefused fault fails) (LatticeTooLarge over) = malformed _ _
   files_one named inputs _ _ _ _ (LatticeRefused fault fails) (LatticeRefused other also) = malformed _ _
   files_one named inputs _ _ _ _ (LatticeRefused fault fails) (LatticeRead lattices t y read k) =
-      absurd ((one_reading_of_lattices inputs.lattice lattices read.read).sound fault fails.reason fails.refused)
+      absurd ((one_reading_of_lattices named.wide inputs.lattice lattices read.read).sound fault fails.reason fails.refused)
   files_one named inputs _ _ _ _ (LatticeRead lattices s x read h) (LatticeTooLarge over) = let within = read.within in absurd (omega (arith, over, within))
   files_one named inputs _ _ _ _ (LatticeRead lattices s x read h) (LatticeRefused fault fails) =
-      absurd ((one_reading_of_lattices inputs.lattice lattices read.read).sound fault fails.reason fails.refused)
+      absurd ((one_reading_of_lattices named.wide inputs.lattice lattices read.read).sound fault fails.reason fails.refused)
   files_one named inputs _ _ _ _ (LatticeRead lattices s x read h) (LatticeRead others t y also k) =
-      let same : lattices ≡ others = (one_reading_of_lattices inputs.lattice lattices read.read).only others also.read in
-      units_one one_unit one_certificate one_verdict one_text named inputs lattices (read_lattices inputs.lattice lattices read) (read_few inputs.lattice lattices read) s t x y h
+      let same : lattices ≡ others = (one_reading_of_lattices named.wide inputs.lattice lattices read.read).only others also.read in
+      units_one one_unit one_certificate one_verdict one_text named inputs lattices (read_lattices named.wide inputs.lattice lattices read) (read_few named.wide inputs.lattice lattices read) s t x y h
       (subst (λ (ls : List LatticeView). OfUnits named inputs ls t y) (sym same) k)
 
   -- a source that the tool makes itself
@@ -367,11 +367,11 @@ module _ (one_unit : OneUnitAtMost) (one_certificate : OneCertificate) (one_verd
     made_one : (s t : Status) (x y : List ℕ) → OfMade number s x → OfMade number t y → Same s t x y
     made_one _ _ _ _ (MadeLatticesRefused fault fails) (MadeLatticesRefused other also) = malformed _ _
     made_one _ _ _ _ (MadeLatticesRefused fault fails) (MadeRead lattices t y read k) =
-        absurd ((one_reading_of_lattices lattice_text lattices read.read).sound fault fails.reason fails.refused)
+        absurd ((one_reading_of_lattices false lattice_text lattices read.read).sound fault fails.reason fails.refused)
     made_one _ _ _ _ (MadeRead lattices s x read h) (MadeLatticesRefused fault fails) =
-        absurd ((one_reading_of_lattices lattice_text lattices read.read).sound fault fails.reason fails.refused)
+        absurd ((one_reading_of_lattices false lattice_text lattices read.read).sound fault fails.reason fails.refused)
     made_one _ _ _ _ (MadeRead lattices s x read h) (MadeRead others t y also k) =
-        let same : lattices ≡ others = (one_reading_of_lattices lattice_text lattices read.read).only others also.read in
+        let same : lattices ≡ others = (one_reading_of_lattices false lattice_text lattices read.read).only others also.read in
         let files = files_with made_names.sources (generated_text number ∷ []) in
         sources_one one_unit made_names lattices [] (IsSummed number) 1 total_limit files [] [] (λ p. refl)
         (λ units counted. sum_once number (judging_of made_names lattices [] units)) s t x y h

@@ -1,5 +1,5 @@
 -- Bytes are one prelude, and have no fault beside it.
-use Rattle.std.proofs.Common.{◌≡◌, ◌≢◌, ℕ, zero, List, [], ◌∷◌, Contains, refl, sym, ◌∙◌, ap, subst, arith}
+use Rattle.std.proofs.Common.{◌≡◌, ◌≢◌, ℕ, Bool, zero, List, [], ◌∷◌, Contains, refl, sym, ◌∙◌, ap, subst, arith}
 use Rattle.std.specs.Prelude.{nat_eq, if◌then◌else◌}
 use Rattle.qual_base.specs.Words.{MeansTheSame}
 use Rattle.c_lexer.specs.Reading.{Meanings}
@@ -19,10 +19,11 @@ use Rattle.outcome_laws.proofs.Tokens.{one_list_of_tokens}
 use Rattle.outcome_laws.proofs.Indices.{one_set_of_indices}
 use Rattle.outcome_laws.proofs.Units.{unit_once, unit_not_refused, no_first_fault}
 
-lexes_by : (words meanings : Meanings) → MeansTheSame words meanings → (bytes : List ℕ) (lexed : Lexed) → preludes.Lexes words bytes lexed →
-    Lexes 0 meanings bytes lexed
-lexes_by words meanings mean bytes lexed h = record {
+lexes_by : (wide : Bool) (words meanings : Meanings) → MeansTheSame words meanings → (bytes : List ℕ) (lexed : Lexed) → preludes.Lexes wide words bytes lexed →
+    Lexes 0 wide meanings bytes lexed
+lexes_by wide words meanings mean bytes lexed h = record {
   unit_is = h.unit;
+  dialect = h.dialect;
   bytes_are = h.bytes_are;
   marks = record {
     words = h.marks.words;
@@ -52,22 +53,22 @@ module _ (lexed : Lexed) (marks said : List IndexMark) (are : AreMarks lexed mar
   index_once : (p : ℕ × ℕ) → index_in marks p ≡ index_in said p
   index_once p = ap (λ (ns : List ℕ). if nat_eq p.0 0 then ns else []) (numbers_once p.1)
 
-module _ (one_unit : OneUnitAtMost) (meanings : Meanings) (bytes : List ℕ) where
+module _ (one_unit : OneUnitAtMost) (wide : Bool) (meanings : Meanings) (bytes : List ℕ) where
   parses_once : (words others : Meanings) (a b : UnitRead) → MeansTheSame words meanings → MeansTheSame others meanings →
-      Parses words bytes a → Parses others bytes b → a ≡ b
+      Parses wide words bytes a → Parses wide others bytes b → a ≡ b
   parses_once words others a b mean same h k =
-      unit_once one_unit 0 meanings bytes a b (lexes_by words meanings mean bytes a.lexed h.lexes) h.formed
-      (lexes_by others meanings same bytes b.lexed k.lexes) k.formed
+      unit_once one_unit 0 wide meanings bytes a b (lexes_by wide words meanings mean bytes a.lexed h.lexes) h.formed
+      (lexes_by wide others meanings same bytes b.lexed k.lexes) k.formed
 
   prelude_sound : (words others : Meanings) (unit : UnitRead) (marks : List IndexMark) → MeansTheSame words meanings →
-      MeansTheSame others meanings → IsPrelude words bytes unit marks → (fault : PreludeFault) → fault ≢ NoMemory →
-      IsFaultOf others bytes fault → ⊥
+      MeansTheSame others meanings → IsPrelude wide words bytes unit marks → (fault : PreludeFault) → fault ≢ NoMemory →
+      IsFaultOf wide others bytes fault → ⊥
   prelude_sound words others unit marks mean same h (Lex fault) reason refused =
-      (one_list_of_tokens 0 meanings bytes unit.lexed (lexes_by words meanings mean bytes unit.lexed h.parses.lexes)).sound others fault same
+      (one_list_of_tokens 0 wide meanings bytes unit.lexed (lexes_by wide words meanings mean bytes unit.lexed h.parses.lexes)).sound others fault same
       refused.1 refused.0
   prelude_sound words others unit marks mean same h (Parse fault spot) reason refused =
-      unit_not_refused one_unit 0 meanings bytes unit (lexes_by words meanings mean bytes unit.lexed h.parses.lexes) h.parses.formed
-      refused.0 fault (lexes_by others meanings same bytes refused.0 refused.1) refused.3
+      unit_not_refused one_unit 0 wide meanings bytes unit (lexes_by wide words meanings mean bytes unit.lexed h.parses.lexes) h.parses.formed
+      refused.0 fault (lexes_by wide others meanings same bytes refused.0 refused.1) refused.3
   prelude_sound words others unit marks mean same h (HasBody spot) reason refused =
       let one : unit ≡ refused.0 = parses_once words others unit refused.0 mean same h.parses refused.2 in
       subst (λ (it : UnitRead). NoneFails it.lexed it.items) one h.rules has_body refused.1 refused.3.fails
@@ -81,10 +82,10 @@ module _ (one_unit : OneUnitAtMost) (meanings : Meanings) (bytes : List ℕ) whe
   prelude_sound words others unit marks mean same h NoMemory reason refused = reason refl
 
 pub one_prelude : OneUnitAtMost → OnePrelude
-one_prelude one_unit words meanings bytes unit marks mean h = record {
-  only = λ others other said same k. parses_once one_unit meanings bytes words others unit other mean same h.parses k.parses;
+one_prelude one_unit wide words meanings bytes unit marks mean h = record {
+  only = λ others other said same k. parses_once one_unit wide meanings bytes words others unit other mean same h.parses k.parses;
   numbers = λ others other said same k.
       index_once unit.lexed marks said h.marks_are (subst (λ (it : UnitRead). AreMarks it.lexed said)
-      (sym (parses_once one_unit meanings bytes words others unit other mean same h.parses k.parses)) k.marks_are);
-  sound = λ others fault same reason refused. prelude_sound one_unit meanings bytes words others unit marks mean same h fault reason refused;
+      (sym (parses_once one_unit wide meanings bytes words others unit other mean same h.parses k.parses)) k.marks_are);
+  sound = λ others fault same reason refused. prelude_sound one_unit wide meanings bytes words others unit marks mean same h fault reason refused;
 }

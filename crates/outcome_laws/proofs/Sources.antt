@@ -1,5 +1,5 @@
 -- The units that sources are, one list of them, and no refusal beside it.
-use Rattle.std.proofs.Common.{◌≡◌, ◌<◌, ◌≤◌, ◌+◌, ◌-◌, ℕ, List, [], ◌∷◌, ◌++◌, length, refl, ap, subst, sym, ◌∙◌, arith}
+use Rattle.std.proofs.Common.{◌≡◌, ◌<◌, ◌≤◌, ◌+◌, ◌-◌, ℕ, Bool, List, [], ◌∷◌, ◌++◌, length, refl, ap, subst, sym, ◌∙◌, arith}
 use Rattle.lattice_core.specs.View.{LatticeView}
 use Rattle.lattice_core.specs.Names.{words_of}
 use Rattle.c_lexer.specs.Tokens.{Lexed}
@@ -15,37 +15,37 @@ use Rattle.outcome_laws.proofs.Tokens.{one_list_of_tokens}
 use Rattle.outcome_laws.proofs.Units.{unit_once, unit_not_refused, no_first_fault}
 use Rattle.outcome_laws.proofs.Programs.{SameIndices, judged_same}
 
-module _ (one_unit : OneUnitAtMost) (lattices : List LatticeView) where
+module _ (one_unit : OneUnitAtMost) (wide : Bool) (lattices : List LatticeView) where
   -- one source
   module _ (number : ℕ) (bytes : List ℕ) where
-    lexes : (lexed : Lexed) → SourceLexes lattices number bytes lexed → Lexes number (words_of lattices) bytes lexed
-    lexes lexed h = record { unit_is = h.unit; bytes_are = h.bytes_are; marks = h.marks }
+    lexes : (lexed : Lexed) → SourceLexes wide lattices number bytes lexed → Lexes number wide (words_of lattices) bytes lexed
+    lexes lexed h = record { unit_is = h.unit; dialect = h.dialect; bytes_are = h.bytes_are; marks = h.marks }
 
-    source_once : (a b : UnitRead) → SourceParses lattices number bytes a → SourceParses lattices number bytes b → a ≡ b
+    source_once : (a b : UnitRead) → SourceParses wide lattices number bytes a → SourceParses wide lattices number bytes b → a ≡ b
     source_once a b h k =
-        unit_once one_unit number (words_of lattices) bytes a b (lexes a.lexed h.lexes) h.formed (lexes b.lexed k.lexes) k.formed
+        unit_once one_unit number wide (words_of lattices) bytes a b (lexes a.lexed h.lexes) h.formed (lexes b.lexed k.lexes) k.formed
 
-    never_refused : (file text : List ℕ) (it : UnitRead) → SourceParses lattices number bytes it → SourceRefused lattices number file bytes text → ⊥
+    never_refused : (file text : List ℕ) (it : UnitRead) → SourceParses wide lattices number bytes it → SourceRefused wide lattices number file bytes text → ⊥
     never_refused file _ it h (Unspelled fault fails) =
-        (one_list_of_tokens number (words_of lattices) bytes it.lexed (lexes it.lexed h.lexes)).sound fails.words fault fails.mean
+        (one_list_of_tokens number wide (words_of lattices) bytes it.lexed (lexes it.lexed h.lexes)).sound fails.words fault fails.mean
         fails.reason fails.refused
     never_refused file _ it h (Unparsed lexed fault spelled reason refused) =
-        unit_not_refused one_unit number (words_of lattices) bytes it (lexes it.lexed h.lexes) h.formed lexed fault (lexes lexed spelled) refused
+        unit_not_refused one_unit number wide (words_of lattices) bytes it (lexes it.lexed h.lexes) h.formed lexed fault (lexes lexed spelled) refused
 
   -- all of them
 
   one_more : (a b : UnitRead) (units others : List UnitRead) → a ≡ b → units ≡ others → a ∷ units ≡ b ∷ others
   one_more a b units others one more = λ i. one i ∷ more i
 
-  pub sources_once : (number left : ℕ) (sources : List (List ℕ × List ℕ)) (units others : List UnitRead) → SourcesParse lattices number left sources units
-      → SourcesParse lattices number left sources others → units ≡ others
+  pub sources_once : (number left : ℕ) (sources : List (List ℕ × List ℕ)) (units others : List UnitRead) → SourcesParse wide lattices number left sources units
+      → SourcesParse wide lattices number left sources others → units ≡ others
   sources_once _ _ _ _ _ (NoSource number left) (NoSource _ _) = refl
   sources_once _ _ _ _ _ (OneSource number left source more unit units within h rest) (OneSource _ _ _ _ other others fits k also) =
       one_more unit other units others (source_once number source.1 unit other h k)
       (sources_once (number + 1) (left - length source.1) more units others rest also)
 
   pub never_fail : (number left : ℕ) (sources : List (List ℕ × List ℕ)) (units : List UnitRead) (text : List ℕ)
-      → SourcesParse lattices number left sources units → SourcesFail lattices number left sources text → ⊥
+      → SourcesParse wide lattices number left sources units → SourcesFail wide lattices number left sources text → ⊥
   never_fail _ _ _ _ text (NoSource number left) fails = elim fails [ ]
   never_fail _ _ _ _ _ (OneSource number left source more unit units within h rest) (TooLarge _ _ _ _ over) = omega (arith, within, over)
   never_fail _ _ _ _ _ (OneSource number left source more unit units within h rest) (Refused _ _ _ _ text fits refused) =

@@ -1,6 +1,8 @@
 -- Where the skeletons of an op begin, and to whom they belong.
 use Rattle.std.proofs.Common.{◌≡◌, inl, inr, ℕ, Bool, true, false, List, [], ◌∷◌, ◌++◌, Option, None, Some, refl, sym, ◌∙◌, ap, subst, append_assoc}
 use Rattle.std.specs.Prelude.{not, ◌&&◌, if◌then◌else◌}
+use Rattle.c_words.specs.declared.kinds.Punct.{Punct}
+use Rattle.c_words.specs.declared.kinds.Punct.TheVariants as signs
 use Rattle.tape_ops.specs.declared.op.Op.{Op}
 use Rattle.tape_ops.specs.declared.op.Op.TheVariants as ops
 use Rattle.tape_ops.specs.declared.expression.ExprOp.{ExprOp}
@@ -18,13 +20,13 @@ use Rattle.name_rules.specs.Spellings.{Spelling, Place, place}
 use Rattle.name_rules.specs.Scopes.{Role, typedef_role, object_role, function_role, parameter_role, field_role, enumerator_role, Declared, declared_at, Use, means, called, missing, Names, is_place}
 use Rattle.name_rules.specs.Linking.{link_of}
 use Rattle.name_rules.specs.Uses.{use_at, text_type}
-use Rattle.name_rules.specs.Values.{undeclared_function}
+use Rattle.name_rules.specs.Values.{undeclared_function, Shape, address, pick_shape, is_fresh_pick}
 use Rattle.shape_steps.specs.State.{State, value_at, is_zero_at, type_at, shape_at, type_of_operand, first_operand, operands_below}
-use Rattle.shape_steps.specs.Steps.{step, expr_step}
-use Rattle.row_rules.specs.Starting.{Start, Around, fresh, some_fresh, owner_there, named_start, declared_start, some_declared_start, name_start, instance, use_by_role, some_use_start, use_start, some_place, is_some_pointer, is_fresh_binary, is_fresh_prefix, fresh_where, Having, with_skeleton, of_function, without_skeleton, had_name}
+use Rattle.shape_steps.specs.Steps.{chosen, step, expr_step}
+use Rattle.row_rules.specs.Starting.{Start, Around, fresh, some_fresh, owner_there, named_start, declared_start, some_declared_start, name_start, instance, use_by_role, some_use_start, use_start, some_place, is_some_pointer, is_fresh_binary, is_fresh_prefix, prefix_starts, fresh_where, Having, with_skeleton, of_function, without_skeleton, had_name}
 use Rattle.row_rules.specs.Sites.{AreDifferent, has_place}
-use Rattle.row_steps.specs.Rounds.{Naming, a_name, own_param, other_param, Rounds, naming, left, round_step}
-use Rattle.row_steps.specs.Starting.{function_at, around, naming_has, expr_op_starts, form_op_starts, init_op_starts, spec_op_starts, declr_op_starts, op_starts, starts_found}
+use Rattle.row_steps.specs.Rounds.{Naming, a_name, own_param, other_param, identified_param, Rounds, naming, left, round_step}
+use Rattle.row_steps.specs.Starting.{function_at, around, naming_has, selected_among, expr_op_starts, form_op_starts, init_op_starts, spec_op_starts, declr_op_starts, op_starts, starts_found}
 use Rattle.owner_laws.specs.Fitting.{start_at}
 use Rattle.owned_laws.specs.Contexts.{NamingIsOf, BodyIsOf}
 use Rattle.owned_laws.specs.Around.{BeginsIn, IsOwn}
@@ -149,6 +151,10 @@ module _ (a : Around) (token : ℕ) where
   where_is true xs h = h
   where_is false xs h = tt
 
+  pub prefix_is : (sign : Punct) (carries : Bool) (e : Shape) → Fresh (prefix_starts sign carries a token e)
+  prefix_is signs.Ampersand carries e = where_is carries _ (some_fresh_is (address e))
+  prefix_is sign carries e = where_is (is_fresh_prefix sign) _ (fresh_is (base []))
+
   pub instance_is : (p : Place) (t : CType) → Fresh (instance a token p t)
   instance_is p t = by a.is_quiet
     where
@@ -228,8 +234,8 @@ module _ (u : Spelling) (s : Names) (st : State) (r : Rounds) where
       where_is (around u s r) token
       (is_fresh_binary sign (is_some_pointer (value_at 1 st)) (is_some_pointer (value_at 0 st))) _
       (fresh_is (around u s r) token (base []))
-  expr_is (exprs.Prefix sign token last) =
-      where_is (around u s r) token (is_fresh_prefix sign) _ (fresh_is (around u s r) token (base []))
+  expr_is (exprs.Prefix sign token last aims) = prefix_is (around u s r) token sign (aims && r.access) (shape_at 0 st)
+  expr_is (exprs.Label token) = fresh_is (around u s r) token (pointer [] (void []))
   expr_is op = refl
 
   pub form_is : (op : FormOp) → FreshOf (form_key op) (form_op_starts u s st r op)
@@ -243,6 +249,15 @@ module _ (u : Spelling) (s : Names) (st : State) (r : Rounds) where
   form_is (forms.OffsetMember token name) = refl
   form_is (forms.OffsetIndex token) = refl
   form_is (forms.Offset token) = fresh_is (around u s (left r)) token (base [])
+  form_is (forms.Compat token) = fresh_is (around u s (left r)) token (base [])
+  form_is forms.Control = refl
+  form_is forms.NoType = refl
+  form_is (forms.Choose token) =
+      where_is (around u s r) token (is_fresh_pick (chosen st)) _
+      (some_fresh_is (around u s r) token (pick_shape (chosen st)).type)
+  form_is (forms.Generic token count) =
+      where_is (around u s r) token (is_fresh_pick (selected_among count st)) _
+      (some_fresh_is (around u s r) token (pick_shape (selected_among count st)).type)
 
   pub init_is : (op : InitOp) → FreshOf (init_key op) (init_op_starts u s st r op)
   init_is (inits.Literal token) =
@@ -294,10 +309,11 @@ module _ (u : Spelling) (s : Names) (st : State) (r : Rounds) where
     body_own (inl e) = inl (ap (function_at u s) e)
     body_own (inr e) = inr (ap (function_at u s) e)
 
-    naming_own : (token : ℕ) (it : Naming) → naming r ≡ it → IsOwn f (around_name (around u s r) token (naming_has u s it))
+    naming_own : (token : ℕ) (it : Naming) → NamingIsOf t it → IsOwn f (around_name (around u s r) token (naming_has u s it))
     naming_own token a_name e = body_own own_body
-    naming_own token (own_param g n) e = inr (ap (function_at u s) (own_params g n e))
+    naming_own token (own_param g n) e = inr (ap (function_at u s) e)
     naming_own token other_param e = inl refl
+    naming_own token (identified_param g) e = inr (ap (function_at u s) e)
 
     fresh_all : (key : Option ℕ) (xs : List Start) → KeyIsApart u s key → FreshOf key xs → AllPlaced s f xs
     fresh_all None xs apart h = subst (AllPlaced s f) (sym h) tt
@@ -309,7 +325,7 @@ module _ (u : Spelling) (s : Names) (st : State) (r : Rounds) where
     named_all (Some token) g xs own h = named_placed s (place u token) g f xs own h
 
     declared_own : (op : DeclrOp) → IsOwn f (around_declared op)
-    declared_own (declrs.DeclName token name) = naming_own token (naming r) refl
+    declared_own (declrs.DeclName token name) = naming_own token (naming r) own_params
     declared_own op = inl refl
 
     pub op_placed : (op : Op) → KeyIsApart u s (fresh_key op) → AllPlaced s f (op_starts u s st r op)

@@ -1,6 +1,6 @@
 -- Along the tape of an item, own parameters and the body are those of the item's function.
 use Rattle.std.specs.Prelude.{if◌then◌else◌}
-use Rattle.std.proofs.Common.{◌≡◌, ℕ, suc, Bool, true, false, List, [], ◌∷◌, Option, None, Some, refl, sym, ◌∙◌, ap, subst, inl, inr}
+use Rattle.std.proofs.Common.{◌≡◌, ℕ, Bool, true, false, List, [], ◌∷◌, Option, None, Some, refl, sym, ◌∙◌, ap, subst, inl, inr}
 use Rattle.tape_ops.specs.declared.op.Op.{Op}
 use Rattle.tape_ops.specs.declared.op.Op.TheVariants as ops
 use Rattle.tape_ops.specs.declared.form.FormOp.{FormOp}
@@ -14,16 +14,33 @@ use Rattle.tape_ops.specs.declared.statement.StmtOp.TheVariants as stmts
 use Rattle.c_tape.specs.Tape.{item_tape}
 use Rattle.shape_steps.specs.State.{OpenDeclaration, declared_last, with_name, with_declared, without_name, without_innermost, changed}
 use Rattle.row_rules.specs.Worlds.{World}
-use Rattle.row_steps.specs.Rounds.{Naming, a_name, own_param, other_param, Round, Rounds}
+use Rattle.row_steps.specs.Rounds.{Naming, a_name, own_param, other_param, identified_param, Round, Rounds}
 use Rattle.row_steps.specs.Rounds as rounds
 use Rattle.row_steps.specs.State.{State, nothing}
 use Rattle.row_steps.specs.Steps.{step}
-use Rattle.tape_laws.specs.Marks.{Mark, in_declaration, in_params, in_tag, in_scope, in_quiet, in_body, is_open, turn, IsBracketed, function_token, ItemsAreBracketed}
+use Rattle.tape_laws.specs.Marks.{Mark, in_declaration, in_params, in_tag, in_scope, in_quiet, in_part, in_body, is_open, turn, IsBracketed, function_token, ItemsAreBracketed}
 use Rattle.owned_laws.specs.Contexts.{NamingIsOf, BodyIsOf, BeginsIts, ContextsAlong, ContextsAreIts}
 use Rattle.owned_laws.proofs.Opening.{opens, row_opens, form_body, spec_body, declr_body}
-use Rattle.tape_laws.proofs.Turns.{Declaring, quiet_was, tag_was, scope_was, declaration_was, params_were, named_was, begun_was, param_was, declared_was, member_was, body_begins, body_was}
+use Rattle.tape_laws.proofs.Turns.{Declaring, quiet_was, tag_was, scope_was, declaration_was, params_were, named_was, begun_was, param_was, declared_was, member_was, body_begins, body_was, part_was, identified_was, old_was, auto_was}
 
 -- what marks say of the open declarations and of what is around
+
+-- a name of which there may be a skeleton
+abbrev pub HasSome : Naming → Type 0
+HasSome a_name = Unit {0}
+HasSome (own_param g n) = Unit {0}
+HasSome other_param = ⊥
+HasSome (identified_param g) = Unit {0}
+
+-- so are own parameters
+abbrev IsOwnOf : Bool → Naming → Type 0
+IsOwnOf true names = HasSome names
+IsOwnOf false names = Unit {0}
+
+-- where a declaration may declare, or among own parameters
+abbrev pub may_declare : List Mark → Bool
+may_declare (in_params own ∷ m) = own
+may_declare m = is_open m
 
 module _ (t : Option ℕ) where
   -- the marks of declarations have their names; own parameters are those of the function whose name is at `t`
@@ -32,28 +49,43 @@ module _ (t : Option ℕ) where
   Aligned (in_declaration x d o ∷ m) [] rs = ⊥
   Aligned (in_declaration x d o ∷ m) (it ∷ ds) rs = (it.name ≡ x) × (it.declared ≡ d) × Aligned m ds rs
   Aligned (in_params own ∷ m) ds [] = ⊥
-  Aligned (in_params own ∷ m) ds (r ∷ rs) = NamingIsOf t r.naming × Aligned m ds rs
+  Aligned (in_params own ∷ m) ds (r ∷ rs) = (NamingIsOf t r.naming × IsOwnOf own r.naming) × Aligned m ds rs
   Aligned (in_tag ∷ m) ds [] = ⊥
   Aligned (in_tag ∷ m) ds (r ∷ rs) = (r.naming ≡ a_name) × Aligned m ds rs
   Aligned (in_scope ∷ m) ds [] = ⊥
   Aligned (in_scope ∷ m) ds (r ∷ rs) = (r.naming ≡ a_name) × Aligned m ds rs
   Aligned (in_quiet ∷ m) ds [] = ⊥
   Aligned (in_quiet ∷ m) ds (r ∷ rs) = (r.naming ≡ a_name) × Aligned m ds rs
+  Aligned (in_part ∷ m) ds rs = Aligned m ds rs
   Aligned (in_body ∷ m) ds rs = ((rounds.innermost rs).naming ≡ a_name) × Aligned m ds rs
 
   name_is_of : (names : Naming) → names ≡ a_name → NamingIsOf t names
-  name_is_of names e g n is = absurd cc
-
-  other_is_of : NamingIsOf t other_param
-  other_is_of g n is = absurd cc
-
-  own_is_of : (f : Option ℕ) (i : ℕ) → f ≡ t → NamingIsOf t (own_param f i)
-  own_is_of f i e g n is = let same : f ≡ g = cc in sym same ∙ e
+  name_is_of names e = subst (NamingIsOf t) (sym e) tt
 
   next_is_of : (names : Naming) → NamingIsOf t names → NamingIsOf t (rounds.next_naming names)
-  next_is_of a_name h = name_is_of a_name refl
-  next_is_of (own_param f i) h = own_is_of f (suc i) (h f i refl)
-  next_is_of other_param h = other_is_of
+  next_is_of a_name h = tt
+  next_is_of (own_param f i) h = h
+  next_is_of other_param h = tt
+  next_is_of (identified_param f) h = h
+
+  next_is_own : (own : Bool) (names : Naming) → IsOwnOf own names → IsOwnOf own (rounds.next_naming names)
+  next_is_own false names h = tt
+  next_is_own true a_name h = tt
+  next_is_own true (own_param f i) h = tt
+  next_is_own true other_param h = h
+  next_is_own true (identified_param f) h = tt
+
+  identified_is_of : (names : Naming) → NamingIsOf t names → NamingIsOf t (rounds.identified_naming names)
+  identified_is_of a_name h = tt
+  identified_is_of (own_param f i) h = h
+  identified_is_of other_param h = tt
+  identified_is_of (identified_param f) h = h
+
+  identified_is_own : (names : Naming) → HasSome names → HasSome (rounds.identified_naming names)
+  identified_is_own a_name h = tt
+  identified_is_own (own_param f i) h = tt
+  identified_is_own other_param h = h
+  identified_is_own (identified_param f) h = tt
 
   innermost_is_of : (m : List Mark) (ds : List OpenDeclaration) (rs : List Round) → Aligned m ds rs →
       NamingIsOf t (rounds.innermost rs).naming
@@ -61,13 +93,14 @@ module _ (t : Option ℕ) where
   innermost_is_of (in_declaration x d o ∷ m) [] rs h = absurd h
   innermost_is_of (in_declaration x d o ∷ m) (it ∷ ds) rs h = innermost_is_of m ds rs h.2
   innermost_is_of (in_params own ∷ m) ds [] h = absurd h
-  innermost_is_of (in_params own ∷ m) ds (r ∷ rs) h = h.0
+  innermost_is_of (in_params own ∷ m) ds (r ∷ rs) h = h.0.0
   innermost_is_of (in_tag ∷ m) ds [] h = absurd h
   innermost_is_of (in_tag ∷ m) ds (r ∷ rs) h = name_is_of r.naming h.0
   innermost_is_of (in_scope ∷ m) ds [] h = absurd h
   innermost_is_of (in_scope ∷ m) ds (r ∷ rs) h = name_is_of r.naming h.0
   innermost_is_of (in_quiet ∷ m) ds [] h = absurd h
   innermost_is_of (in_quiet ∷ m) ds (r ∷ rs) h = name_is_of r.naming h.0
+  innermost_is_of (in_part ∷ m) ds rs h = innermost_is_of m ds rs h
   innermost_is_of (in_body ∷ m) ds rs h = name_is_of _ h.0
 
   -- where a declaration may declare, what is read is a name
@@ -78,6 +111,23 @@ module _ (t : Option ℕ) where
   open_naming (in_scope ∷ m) ds (r ∷ rs) o h = h.0
   open_naming (in_body ∷ m) ds rs o h = h.0
   open_naming m ds rs o h = absurd cc
+
+  name_has : (names : Naming) → names ≡ a_name → HasSome names
+  name_has names e = subst HasSome (sym e) tt
+
+  -- where a declaration may declare, or among own parameters, there may be a skeleton of what is read
+  pub takes_naming : (m : List Mark) (ds : List OpenDeclaration) (rs : List Round) → may_declare m ≡ true → Aligned m ds rs →
+      HasSome (rounds.innermost rs).naming
+  takes_naming (in_params true ∷ m) ds [] o h = absurd h
+  takes_naming (in_params true ∷ m) ds (r ∷ rs) o h = h.0.1
+  takes_naming (in_params false ∷ m) ds rs o h = absurd cc
+  takes_naming [] ds rs o h = name_has _ (open_naming [] ds rs o h)
+  takes_naming (in_scope ∷ m) ds rs o h = name_has _ (open_naming (in_scope ∷ m) ds rs o h)
+  takes_naming (in_body ∷ m) ds rs o h = name_has _ (open_naming (in_body ∷ m) ds rs o h)
+  takes_naming (in_declaration x d c ∷ m) ds rs o h = absurd cc
+  takes_naming (in_tag ∷ m) ds rs o h = absurd cc
+  takes_naming (in_quiet ∷ m) ds rs o h = absurd cc
+  takes_naming (in_part ∷ m) ds rs o h = absurd cc
 
   -- steps
 
@@ -141,12 +191,18 @@ module _ (t : Option ℕ) where
   next_round_is : (own : Bool) (n : List Mark) (ds : List OpenDeclaration) (rs : List Round) →
       Aligned (in_params own ∷ n) ds rs → Aligned (in_params own ∷ n) ds (changed rounds.next_round rs)
   next_round_is own n ds [] h = h
-  next_round_is own n ds (r ∷ rs) h = (next_is_of r.naming h.0, h.1)
+  next_round_is own n ds (r ∷ rs) h = ((next_is_of r.naming h.0.0, next_is_own own r.naming h.0.1), h.1)
+
+  identified_round_is : (n : List Mark) (ds : List OpenDeclaration) (rs : List Round) → Aligned (in_params true ∷ n) ds rs →
+      Aligned (in_params true ∷ n) ds (changed rounds.identified_round rs)
+  identified_round_is n ds [] h = h
+  identified_round_is n ds (r ∷ rs) h = ((identified_is_of r.naming h.0.0, identified_is_own r.naming h.0.1), h.1)
 
   params_are : (own : Bool) (x d : Option ℕ) (o : Bool) (n : List Mark) (ds : List OpenDeclaration) (rs : List Round) →
-      (own ≡ true → x ≡ t) → Aligned (in_declaration x d o ∷ n) ds rs → NamingIsOf t (rounds.params_naming own ds)
-  params_are false x d o n ds rs e h = other_is_of
-  params_are true x d o n ds rs e h = own_is_of (rounds.name_so_far ds) 0 (name_is x d o n ds rs h ∙ e refl)
+      (own ≡ true → x ≡ t) → Aligned (in_declaration x d o ∷ n) ds rs →
+      NamingIsOf t (rounds.params_naming own ds) × IsOwnOf own (rounds.params_naming own ds)
+  params_are false x d o n ds rs e h = (tt, tt)
+  params_are true x d o n ds rs e h = (name_is x d o n ds rs h ∙ e refl, tt)
 
   module _ (m n : List Mark) (ds : List OpenDeclaration) (r : Rounds) (h : Aligned m ds r.around) where
     abbrev rs : List Round
@@ -163,6 +219,8 @@ module _ (t : Option ℕ) where
     form_aligned : (op : FormOp) → turn t m (ops.Form op) ≡ Some n → Aligned n ds (rounds.form_round r op).around
     form_aligned (forms.Sizeof token) e = left_quiet n ds rs (at m (in_quiet ∷ n) ds rs (quiet_was m n e) h)
     form_aligned (forms.Offset token) e = left_quiet n ds rs (at m (in_quiet ∷ n) ds rs (quiet_was m n e) h)
+    form_aligned (forms.Compat token) e = left_quiet n ds rs (at m (in_quiet ∷ n) ds rs (quiet_was m n e) h)
+    form_aligned forms.Control e = left_quiet n ds rs (at m (in_quiet ∷ n) ds rs (quiet_was m n e) h)
     form_aligned op e = moved m n ds rs e h
 
     spec_aligned : (op : SpecOp) → turn t m (ops.Spec op) ≡ Some n →
@@ -170,6 +228,9 @@ module _ (t : Option ℕ) where
     spec_aligned (specs.TagBody kind token name) e = moved (in_tag ∷ m) n ds (rounds.entered r).around e (refl, h)
     spec_aligned (specs.Untagged kind token) e = moved (in_tag ∷ m) n ds (rounds.entered r).around e (refl, h)
     spec_aligned specs.BodyEnd e = left_tag n ds rs (at m (in_tag ∷ n) ds rs (tag_was m n e) h)
+    spec_aligned specs.PartBegin e = moved (in_part ∷ m) n ds rs e h
+    spec_aligned (specs.TypeofEnd token) e = at m (in_part ∷ n) ds rs (part_was m n e) h
+    spec_aligned specs.TypeEnd e = at m (in_part ∷ n) ds rs (part_was m n e) h
     spec_aligned specs.SpecsEnd e =
         moved (in_declaration None None false ∷ m) n (record { name = None; declared = None } ∷ ds) rs e (refl, refl, h)
     spec_aligned op e = moved m n ds rs e h
@@ -228,6 +289,20 @@ module _ (t : Option ℕ) where
         (left_params it.params inner ds rs (at m (in_params it.params ∷ inner) ds rs it.was h)))
     declr_aligned declrs.Declare e =
         let was = declared_was m n e in named_now was.0 None was.0.name with_declared was.1 (λ it x d. (refl, x))
+    declr_aligned declrs.AutoBegin e = moved (in_part ∷ m) n ds rs e h
+    declr_aligned (declrs.AutoEnd token) e =
+        let it = auto_was m n e in
+        let d = it.declaring in
+        at (in_declaration None d.name d.own ∷ d.outer) n (changed with_declared ds) rs (sym it.is)
+        (renamed d.name d.last None d.name d.own d.own d.outer with_declared ds rs (λ it x d. (refl, x))
+        (at it.inner (in_declaration d.name d.last d.own ∷ d.outer) ds rs d.is
+        (at m (in_part ∷ it.inner) ds rs it.was h)))
+    declr_aligned (declrs.Identifier token name) e =
+        let was = identified_was m n e in
+        at (in_params true ∷ was.0) n ds (changed rounds.identified_round rs) (sym (was.2 ∙ was.1))
+        (identified_round_is was.0 ds rs (at m (in_params true ∷ was.0) ds rs was.1 h))
+    declr_aligned declrs.OldParam e =
+        let was = old_was m n e in named_now was.0 None was.0.name with_declared was.3 (λ it x d. (refl, x))
     declr_aligned declrs.Member e =
         let was = member_was m n e in named_now was.0 None was.0.last without_name was.1 (λ it x d. (refl, d))
     declr_aligned (declrs.TypeName first) e = closed_now e

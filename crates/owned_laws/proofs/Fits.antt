@@ -27,7 +27,7 @@ use Rattle.shape_steps.specs.State.{OpenDeclaration, declared_last, changed}
 use Rattle.row_rules.specs.Starting.{Start, Around, first_of, instance, is_function_role, is_some_function, owned_there, owner_there, use_by_role, some_use_start, use_start}
 use Rattle.row_rules.specs.Sites.{has_place}
 use Rattle.row_rules.specs.Worlds.{World, at}
-use Rattle.row_steps.specs.Rounds.{Naming, a_name, own_param, other_param, naming, is_quiet, Round, Rounds, innermost, name_so_far, params_naming, next_naming, next_round, form_round, spec_round, declr_round, stmt_round, round_step}
+use Rattle.row_steps.specs.Rounds.{Naming, a_name, own_param, other_param, identified_param, identified_naming, identified_round, naming, is_quiet, Round, Rounds, innermost, name_so_far, params_naming, next_naming, next_round, form_round, spec_round, declr_round, stmt_round, round_step}
 use Rattle.row_steps.specs.State.{State}
 use Rattle.row_steps.specs.Steps.{step}
 use Rattle.row_steps.specs.Starting.{function_at, around, expr_op_starts, form_op_starts, init_op_starts, op_starts}
@@ -36,14 +36,14 @@ use Rattle.scope_laws.specs.Staying.{IsWithin, AreWithin}
 use Rattle.owner_laws.specs.Fitting.{start_at}
 use Rattle.owner_laws.specs.Rows.{IsInstance}
 use Rattle.owned_laws.specs.Around.{IsOwn, BeginsIn, MeantFits, SomeMeantFits, UseFits, DeclaredFits, ParamFits, FunctionFits, NamingFits, InitFits, FirstInitFits, SomeInitFits, InitialisedFits, ExprFits, FormFits, InitOpFits, DeclrFits, StmtFits, OpFits, MembersFit}
-use Rattle.owned_laws.specs.Contexts.{BodyIsOf, OpContext, ContextsAlong}
+use Rattle.owned_laws.specs.Contexts.{NamingIsOf, BodyIsOf, OpContext, ContextsAlong}
 use Rattle.owned_laws.specs.Names.{FunctionsBegin}
 use Rattle.owned_laws.specs.Tapes.{OpsFit}
 use Rattle.meaning_laws.proofs.Lists.{place_itself}
 use Rattle.scope_laws.proofs.Places.{declared_place, has_itself, has_right}
 use Rattle.owner_laws.proofs.Instances.{begins_at}
 use Rattle.owned_laws.proofs.Begin.{FreshAt, fresh_begins, IsPlaced, expr_is, form_is, init_is, IsExact, ExactAlong}
-use Rattle.owned_laws.proofs.Opening.{opens, row_opens, Alike, alike}
+use Rattle.owned_laws.proofs.Opening.{opens, row_opens, Alike, alike, with_access, step_access}
 
 -- what is known of all names and skeletons of a program
 pub record Scene : Type 0 where
@@ -372,16 +372,21 @@ module _ (k : Scene) where
     function_fits (Some token) is keyed =
         function_by token (sym is) keyed (declared_at s.declared (place u token)) refl
 
-    naming_fits : (token : ℕ) (it : Naming) → has_place i.keys (place u token) ≡ true →
-        ((g : Option ℕ) (n : ℕ) → it ≡ own_param g n → g ≡ t) → ((g : Option ℕ) (n : ℕ) → it ≡ own_param g n → IsKeyed g) →
+    abbrev NamingKeyed : Naming → Type 0
+    NamingKeyed a_name = Unit {0}
+    NamingKeyed (own_param g n) = IsKeyed g
+    NamingKeyed other_param = Unit {0}
+    NamingKeyed (identified_param g) = IsKeyed g
+
+    naming_fits : (token : ℕ) (it : Naming) → has_place i.keys (place u token) ≡ true → NamingIsOf t it → NamingKeyed it →
         NamingFits w k.starts f token it
     naming_fits token a_name keyed its known =
         declared_fits (at w token) (declared_at s.declared (at w token)) keyed refl
-    naming_fits token (own_param g n) keyed its known = (
-      function_fits g (its g n refl) (known g n refl),
-      param_fits (at w token) (declared_at s.declared (at w token)) keyed refl,
-    )
+    naming_fits token (own_param g n) keyed its known =
+        (function_fits g its known, param_fits (at w token) (declared_at s.declared (at w token)) keyed refl)
     naming_fits token other_param keyed its known = tt
+    naming_fits token (identified_param g) keyed its known =
+        (function_fits g its known, param_fits (at w token) (declared_at s.declared (at w token)) keyed refl)
 
     -- initialisers
 
@@ -415,24 +420,26 @@ module _ (k : Scene) where
     abbrev BodyOwn : Rounds → Type 0
     BodyOwn r = IsOwn f (function_at u s r.body)
 
-    expr_fits : (sst : shapes.State) (st : State) (op : ExprOp) → BodyOwn st.rounds → IsKeyed (expr_key op) →
-        IsExact u s k.starts (expr_key op) (expr_op_starts u s sst st.rounds op) → ExprFits w k.starts f st op
-    expr_fits sst st (exprs.Name is_called token name) body own e =
-        use_fits token st.rounds (use_at s.uses (place u token)) own refl
-        (fresh_fits token st.rounds _ body (expr_is u s sst st.rounds (exprs.Name is_called token name)) e) e
-    expr_fits sst st (exprs.Number token) body own e =
-        fresh_fits token st.rounds _ body (expr_is u s sst st.rounds (exprs.Number token)) e
-    expr_fits sst st (exprs.Char token) body own e =
-        fresh_fits token st.rounds _ body (expr_is u s sst st.rounds (exprs.Char token)) e
-    expr_fits sst st (exprs.Text token) body own e =
-        fresh_fits token st.rounds _ body (expr_is u s sst st.rounds (exprs.Text token)) e
-    expr_fits sst st (exprs.Cond has_middle token first last) body own e =
-        fresh_fits token st.rounds _ body (expr_is u s sst st.rounds (exprs.Cond has_middle token first last)) e
-    expr_fits sst st (exprs.Binary sign token first last) body own e =
-        fresh_fits token st.rounds _ body (expr_is u s sst st.rounds (exprs.Binary sign token first last)) e
-    expr_fits sst st (exprs.Prefix sign token last) body own e =
-        fresh_fits token st.rounds _ body (expr_is u s sst st.rounds (exprs.Prefix sign token last)) e
-    expr_fits sst st op body own e = tt
+    expr_fits : (access : Bool) (sst : shapes.State) (st : State) (op : ExprOp) → BodyOwn st.rounds → IsKeyed (expr_key op) →
+        IsExact u s k.starts (expr_key op) (expr_op_starts u s sst (with_access access st.rounds) op) → ExprFits w k.starts f st op
+    expr_fits access sst st (exprs.Name is_called token name) body own e =
+        use_fits token (with_access access st.rounds) (use_at s.uses (place u token)) own refl
+        (fresh_fits token (with_access access st.rounds) _ body (expr_is u s sst (with_access access st.rounds) (exprs.Name is_called token name)) e) e
+    expr_fits access sst st (exprs.Number token) body own e =
+        fresh_fits token (with_access access st.rounds) _ body (expr_is u s sst (with_access access st.rounds) (exprs.Number token)) e
+    expr_fits access sst st (exprs.Char token) body own e =
+        fresh_fits token (with_access access st.rounds) _ body (expr_is u s sst (with_access access st.rounds) (exprs.Char token)) e
+    expr_fits access sst st (exprs.Text token) body own e =
+        fresh_fits token (with_access access st.rounds) _ body (expr_is u s sst (with_access access st.rounds) (exprs.Text token)) e
+    expr_fits access sst st (exprs.Cond has_middle token first last) body own e =
+        fresh_fits token (with_access access st.rounds) _ body (expr_is u s sst (with_access access st.rounds) (exprs.Cond has_middle token first last)) e
+    expr_fits access sst st (exprs.Binary sign token first last) body own e =
+        fresh_fits token (with_access access st.rounds) _ body (expr_is u s sst (with_access access st.rounds) (exprs.Binary sign token first last)) e
+    expr_fits access sst st (exprs.Prefix sign token last aims) body own e =
+        fresh_fits token (with_access access st.rounds) _ body (expr_is u s sst (with_access access st.rounds) (exprs.Prefix sign token last aims)) e
+    expr_fits access sst st (exprs.Label token) body own e =
+        fresh_fits token (with_access access st.rounds) _ body (expr_is u s sst (with_access access st.rounds) (exprs.Label token)) e
+    expr_fits access sst st op body own e = tt
 
     form_fits : (sst : shapes.State) (r : Rounds) (op : FormOp) → BodyOwn r →
         IsExact u s k.starts (form_key op) (form_op_starts u s sst r op) → FormFits w k.starts f op
@@ -450,25 +457,26 @@ module _ (k : Scene) where
     form_fits sst r (forms.OffsetMember token name) body e = tt
     form_fits sst r (forms.OffsetIndex token) body e = tt
     form_fits sst r (forms.Offset token) body e = fresh_fits token r _ body (form_is u s sst r (forms.Offset token)) e
+    form_fits sst r (forms.Compat token) body e = fresh_fits token r _ body (form_is u s sst r (forms.Compat token)) e
+    form_fits sst r forms.Control body e = tt
+    form_fits sst r forms.NoType body e = tt
+    form_fits sst r (forms.Choose token) body e = fresh_fits token r _ body (form_is u s sst r (forms.Choose token)) e
+    form_fits sst r (forms.Generic token count) body e =
+        fresh_fits token r _ body (form_is u s sst r (forms.Generic token count)) e
 
-    init_fits : (sst : shapes.State) (st : State) (op : InitOp) → BodyOwn st.rounds → IsKeyed (declared_last st.declarations) →
-        IsExact u s k.starts (init_key op) (init_op_starts u s sst st.rounds op) → InitOpFits w k.starts f st op
-    init_fits sst st (inits.Value first last) body own e = initialised_fits (declared_last st.declarations) own
-    init_fits sst st inits.Rule body own e = initialised_fits (declared_last st.declarations) own
-    init_fits sst st (inits.Literal token) body own e =
-        fresh_fits token st.rounds _ body (init_is u s sst st.rounds (inits.Literal token)) e
-    init_fits sst st op body own e = tt
+    init_fits : (access : Bool) (sst : shapes.State) (st : State) (op : InitOp) → BodyOwn st.rounds → IsKeyed (declared_last st.declarations) →
+        IsExact u s k.starts (init_key op) (init_op_starts u s sst (with_access access st.rounds) op) → InitOpFits w k.starts f st op
+    init_fits access sst st (inits.Value first last) body own e = initialised_fits (declared_last st.declarations) own
+    init_fits access sst st inits.Rule body own e = initialised_fits (declared_last st.declarations) own
+    init_fits access sst st (inits.Literal token) body own e =
+        fresh_fits token (with_access access st.rounds) _ body (init_is u s sst (with_access access st.rounds) (inits.Literal token)) e
+    init_fits access sst st op body own e = tt
 
     -- what is opens along the tape of the item is of its tokens
 
     abbrev AllDeclared : List OpenDeclaration → Type 0
     AllDeclared [] = Unit {0}
     AllDeclared (it ∷ outer) = (IsKeyed it.name × IsKeyed it.declared) × AllDeclared outer
-
-    abbrev NamingKeyed : Naming → Type 0
-    NamingKeyed a_name = Unit {0}
-    NamingKeyed (own_param g n) = IsKeyed g
-    NamingKeyed other_param = Unit {0}
 
     abbrev AllAround : List Round → Type 0
     AllAround [] = Unit {0}
@@ -486,16 +494,10 @@ module _ (k : Scene) where
     innermost_keyed [] h = tt
     innermost_keyed (it ∷ outer) h = h.0
 
-    own_keyed : (it : Naming) → NamingKeyed it → (g : Option ℕ) (n : ℕ) → it ≡ own_param g n → IsKeyed g
-    own_keyed a_name h g n e = absurd cc
-    own_keyed (own_param c m) h g n e = let same : c ≡ g = cc in subst IsKeyed same h
-    own_keyed other_param h g n e = absurd cc
-
     declr_fits : (st : State) (op : DeclrOp) → OpContext t st (ops.Declr op) → IsKeyed (declr_key op) →
         AllAround st.rounds.around → DeclrFits w k.starts f st op
     declr_fits st (declrs.DeclName token name) its keyed around_ =
-        naming_fits token (naming st.rounds) keyed its.params
-        (own_keyed (naming st.rounds) (innermost_keyed st.rounds.around around_))
+        naming_fits token (naming st.rounds) keyed its.params (innermost_keyed st.rounds.around around_)
     declr_fits st op its keyed around_ = tt
 
     stmt_fits : (st : State) (op : StmtOp) → OpContext t st (ops.Stmt op) → AllDeclared st.declarations →
@@ -508,17 +510,17 @@ module _ (k : Scene) where
     body_own body (inl e) = inl (ap (function_at u s) e)
     body_own body (inr e) = inr (ap (function_at u s) e)
 
-    op_fits : (sst : shapes.State) (st : State) (op : Op) → OpContext t st op → IsKeyed (op_key op) →
+    op_fits : (access : Bool) (sst : shapes.State) (st : State) (op : Op) → OpContext t st op → IsKeyed (op_key op) →
         AllDeclared st.declarations → AllAround st.rounds.around →
-        IsExact u s k.starts (op_key op) (op_starts u s sst st.rounds op) → OpFits w k.starts f st op
-    op_fits sst st (ops.Expr op) its keyed opens around_ e =
-        expr_fits sst st op (body_own st.rounds.body its.body) keyed e
-    op_fits sst st (ops.Form op) its keyed opens around_ e = form_fits sst st.rounds op (body_own st.rounds.body its.body) e
-    op_fits sst st (ops.Init op) its keyed opens around_ e =
-        init_fits sst st op (body_own st.rounds.body its.body) (last_keyed st.declarations opens) e
-    op_fits sst st (ops.Spec op) its keyed opens around_ e = tt
-    op_fits sst st (ops.Declr op) its keyed opens around_ e = declr_fits st op its keyed around_
-    op_fits sst st (ops.Stmt op) its keyed opens around_ e = stmt_fits st op its opens
+        IsExact u s k.starts (op_key op) (op_starts u s sst (with_access access st.rounds) op) → OpFits w k.starts f st op
+    op_fits access sst st (ops.Expr op) its keyed opens around_ e =
+        expr_fits access sst st op (body_own st.rounds.body its.body) keyed e
+    op_fits access sst st (ops.Form op) its keyed opens around_ e = form_fits sst (with_access access st.rounds) op (body_own st.rounds.body its.body) e
+    op_fits access sst st (ops.Init op) its keyed opens around_ e =
+        init_fits access sst st op (body_own st.rounds.body its.body) (last_keyed st.declarations opens) e
+    op_fits access sst st (ops.Spec op) its keyed opens around_ e = tt
+    op_fits access sst st (ops.Declr op) its keyed opens around_ e = declr_fits st op its keyed around_
+    op_fits access sst st (ops.Stmt op) its keyed opens around_ e = stmt_fits st op its opens
 
     -- steps
 
@@ -545,6 +547,8 @@ module _ (k : Scene) where
     opens_keyed ds (ops.Declr (declrs.DeclName token name)) keyed h = named_open token ds keyed h
     opens_keyed ds (ops.Declr declrs.Param) keyed h = outer_open ds h
     opens_keyed ds (ops.Declr declrs.Declare) keyed h = declared_open ds h
+    opens_keyed ds (ops.Declr (declrs.AutoEnd token)) keyed h = declared_open ds h
+    opens_keyed ds (ops.Declr declrs.OldParam) keyed h = declared_open ds h
     opens_keyed ds (ops.Declr declrs.Member) keyed h = unnamed_open ds h
     opens_keyed ds (ops.Declr (declrs.TypeName first)) keyed h = outer_open ds h
     opens_keyed ds (ops.Declr declrs.DeclarationEnd) keyed h = outer_open ds h
@@ -564,6 +568,17 @@ module _ (k : Scene) where
     next_keyed a_name h = tt
     next_keyed (own_param g n) h = h
     next_keyed other_param h = tt
+    next_keyed (identified_param g) h = h
+
+    identified_keyed : (it : Naming) → NamingKeyed it → NamingKeyed (identified_naming it)
+    identified_keyed a_name h = tt
+    identified_keyed (own_param g n) h = h
+    identified_keyed other_param h = tt
+    identified_keyed (identified_param g) h = h
+
+    identified_around : (rs : List Round) → AllAround rs → AllAround (changed identified_round rs)
+    identified_around [] h = tt
+    identified_around (it ∷ outer) h = (identified_keyed it.naming h.0, h.1)
 
     next_around : (rs : List Round) → AllAround rs → AllAround (changed next_round rs)
     next_around [] h = tt
@@ -576,6 +591,8 @@ module _ (k : Scene) where
     form_around : (r : Rounds) (op : FormOp) → AllAround r.around → AllAround (form_round r op).around
     form_around r (forms.Sizeof token) h = left_around r.around h
     form_around r (forms.Offset token) h = left_around r.around h
+    form_around r (forms.Compat token) h = left_around r.around h
+    form_around r forms.Control h = left_around r.around h
     form_around r op h = h
 
     spec_around : (r : Rounds) (op : SpecOp) → AllAround r.around → AllAround (spec_round r op).around
@@ -589,6 +606,7 @@ module _ (k : Scene) where
     declr_around ds r (declrs.ParamsBegin is_own) opens h = (params_keyed is_own ds opens, h)
     declr_around ds r declrs.Param opens h = next_around r.around h
     declr_around ds r declrs.ParamsEnd opens h = left_around r.around h
+    declr_around ds r (declrs.Identifier token name) opens h = identified_around r.around h
     declr_around ds r op opens h = h
 
     stmt_around : (ds : List OpenDeclaration) (r : Rounds) (op : StmtOp) → AllAround r.around →
@@ -618,16 +636,19 @@ module _ (k : Scene) where
     head_keyed None qs h = tt
     head_keyed (Some token) qs h = h (place u token) (has_itself (place u token) qs)
 
-    pub along : (tape : List Op) (sst : shapes.State) (st : State) → Alike w sst st → AreKeyed tape →
+    pub along : (access : Bool) (tape : List Op) (sst : shapes.State) (st : State) → Alike w sst st → AreKeyed tape →
         ContextsAlong w t st tape → AllDeclared st.declarations → AllAround st.rounds.around →
-        ExactAlong u s k.starts sst st.rounds tape → OpsFit w k.starts f st tape
-    along [] sst st same keyed its opens around_ e = tt
-    along (op ∷ tape) sst st same keyed its opens around_ e =
+        ExactAlong u s k.starts sst (with_access access st.rounds) tape → OpsFit w k.starts f st tape
+    along access [] sst st same keyed its opens around_ e = tt
+    along access (op ∷ tape) sst st same keyed its opens around_ e =
         let here = head_keyed (op_key op) (key_places u tape) keyed in (
-          op_fits sst st op its.0 here opens around_ e.0,
-          along tape (shape_steps.step u s sst op) (step w st op) (alike w sst st op same)
+          op_fits access sst st op its.0 here opens around_ e.0,
+          along access tape (shape_steps.step u s sst op) (step w st op) (alike w sst st op same)
               (λ p has. keyed p (has_right (key_place u (op_key op)) (key_places u tape) p has)) its.1
               (step_open st op here opens) (step_around st op opens around_)
+              (subst (λ (r : Rounds). ExactAlong u s k.starts (shape_steps.step u s sst op) r tape)
+              (step_access access st.declarations st.rounds op)
               (subst (λ (ds : List OpenDeclaration).
-              ExactAlong u s k.starts (shape_steps.step u s sst op) (round_step ds st.rounds op) tape) same e.1),
+              ExactAlong u s k.starts (shape_steps.step u s sst op) (round_step ds (with_access access st.rounds) op) tape)
+              same e.1)),
         )

@@ -1,8 +1,9 @@
--- A function that is declared has a skeleton: no declaration stands directly in a list of parameters.
-use Rattle.std.proofs.Common.{◌≡◌, ℕ, Bool, true, false, List, [], ◌∷◌, ◌++◌, map, length, Option, None, Some, refl, sym, ◌∙◌, ap, subst}
+-- A function that is declared has a skeleton: a declaration that stands directly in a list of parameters stands in own ones.
+use Rattle.std.proofs.Common.{◌≡◌, ℕ, Bool, true, false, List, [], ◌∷◌, ◌++◌, map, length, Option, None, Some, refl, sym, ◌∙◌, ap, subst, ◌⊎◌, inl, inr}
 use Rattle.std.proofs.lemmas.List.Elements.{All-head, All-tail}
-use Rattle.std.specs.Prelude.{All, if◌then◌else◌}
+use Rattle.std.specs.Prelude.{All, slice_get, if◌then◌else◌}
 use Rattle.c_words.specs.declared.kinds.Keyword.{Keyword}
+use Rattle.c_words.specs.declared.kinds.Keyword.TheVariants as keywords
 use Rattle.tape_ops.specs.declared.op.Op.{Op}
 use Rattle.tape_ops.specs.declared.op.Op.TheVariants as ops
 use Rattle.tape_ops.specs.declared.form.FormOp.{FormOp}
@@ -13,22 +14,25 @@ use Rattle.tape_ops.specs.declared.declarator.DeclrOp.{DeclrOp}
 use Rattle.tape_ops.specs.declared.declarator.DeclrOp.TheVariants as declrs
 use Rattle.tape_ops.specs.declared.statement.StmtOp.{StmtOp}
 use Rattle.tape_ops.specs.declared.statement.StmtOp.TheVariants as stmts
-use Rattle.tape_laws.specs.Marks.{Mark, in_declaration, in_params, in_tag, in_scope, in_quiet, in_body, is_open, turn, IsBracketed, function_token, ItemsAreBracketed}
-use Rattle.type_table.specs.Types.{CType, pointer}
+use Rattle.tape_laws.specs.Marks.{Mark, in_declaration, in_params, in_tag, in_scope, in_quiet, in_part, in_body, is_open, turn, IsBracketed, function_token, ItemsAreBracketed}
+use Rattle.type_table.specs.Types.{CType, pointer, words_of}
 use Rattle.name_rules.specs.Spellings.{Spelling, Place, place, Named}
-use Rattle.name_rules.specs.Scopes.{function_role, Declared, declared_at, Names, is_place}
-use Rattle.name_rules.specs.Pieces.{decayed}
-use Rattle.name_rules.specs.Declaring.{untagged_number, declared_some, declared_param, declared_member}
+use Rattle.name_rules.specs.Faults.{no_type, defined_twice, fault_where}
+use Rattle.name_rules.specs.Scopes.{function_role, Declared, declared_at, Names, is_place, with_faults}
+use Rattle.name_rules.specs.Values.{value}
+use Rattle.name_rules.specs.Pieces.{decayed, with_words}
+use Rattle.name_rules.specs.Declaring.{untagged_number, declared_some, declared_param, declared_member, has_word}
+use Rattle.name_rules.specs.Identifiers.{Olds, is_typed, is_unknown, number_of_identifier, old_declared, old_declared_some, old_faults}
 use Rattle.name_rules.specs.Units.{no_names, unit_begun}
 use Rattle.name_steps.specs.State.{OpenDeclaration, State, no_declaration, innermost_or, with_innermost, without_innermost, with_names}
-use Rattle.name_steps.specs.Steps.{declaration, body, parameters, is_plain, specifier_step, declarator_step, statement_step, step, run}
+use Rattle.name_steps.specs.Steps.{declaration, body, parameters, shape_of_part, bare_or_base, olds, with_olds, name_ended, name_declared, auto_typed, is_counted, is_plain, specifier_step, declarator_step, statement_step, step, run}
 use Rattle.name_steps.specs.Units.{tapes_named}
 use Rattle.name_laws.specs.NameLaws.{tape_of_source, IsSound}
 use Rattle.std.specs.List.{last_or}
 use Rattle.shape_steps.specs.State as shapes
 use Rattle.shape_steps.specs.Steps as shape_steps
 use Rattle.row_rules.specs.Starting.{Start, owner_there, named_start, declared_start, some_declared_start, had_name}
-use Rattle.row_steps.specs.Rounds.{Naming, a_name, Rounds, file, naming, round_step}
+use Rattle.row_steps.specs.Rounds.{Naming, a_name, own_param, other_param, identified_param, Rounds, file, naming, round_step}
 use Rattle.row_steps.specs.Starting.{around, function_at, naming_has, op_starts, starts_found}
 use Rattle.c_tree.specs.declared.lexeme.Lexeme.{Lexeme}
 use Rattle.c_tree.specs.Unit.{Item, IsItem}
@@ -40,11 +44,11 @@ use Rattle.start_laws.specs.Laws.{StartsAreFound}
 use Rattle.owner_laws.specs.Fitting.{start_at}
 use Rattle.owned_laws.specs.Names.{FunctionsBegin}
 use Rattle.meaning_laws.proofs.Lists.{place_itself}
-use Rattle.meaning_laws.proofs.Growing.{adds_some, names, names_kept, used_same, tag_body_same, untagged_same, keep_same, entered_same, expr_declarations, expr_same}
+use Rattle.meaning_laws.proofs.Growing.{adds_some, names, names_kept, used_same, tag_body_same, untagged_same, keep_same, old_faults_same, entered_same, expr_declarations, expr_same}
 use Rattle.scope_laws.proofs.Places.{declared_place}
 use Rattle.owned_laws.proofs.Opening.{shape_opens}
-use Rattle.owned_laws.proofs.Contexts.{Aligned, aligned, outer_aligned, open_naming}
-use Rattle.tape_laws.proofs.Turns.{declares_its, Declaring, quiet_was, tag_was, scope_was, declaration_was, params_were, named_was, begun_was, param_was, declared_was, member_was, body_begins, body_was}
+use Rattle.owned_laws.proofs.Contexts.{HasSome, may_declare, Aligned, aligned, outer_aligned, takes_naming}
+use Rattle.tape_laws.proofs.Turns.{declares_its, Declaring, quiet_was, tag_was, scope_was, declaration_was, params_were, named_was, begun_was, param_was, declared_was, member_was, body_begins, body_was, part_was, identified_was, old_was, AutoEnding, auto_was}
 
 -- a skeleton begins there
 
@@ -87,9 +91,9 @@ module _ (s : Names) (starts : List Start) where
 
   abbrev NameBegins : Spelling → List Mark → Option Named → Type 0
   NameBegins u m None = Unit {0}
-  NameBegins u m (Some it) = is_open m ≡ true → Begun (place u it.token)
+  NameBegins u m (Some it) = may_declare m ≡ true → Begun (place u it.token)
 
-  -- of each declaration that may declare a function the name has a skeleton; directly in lists of parameters none does
+  -- of each declaration that may declare a function the name has a skeleton
   abbrev NamesBegin : Spelling → List Mark → List (Option Named) → Type 0
   NamesBegin u [] ds = Unit {0}
   NamesBegin u (in_declaration x c own ∷ m) [] = ⊥
@@ -109,7 +113,22 @@ module _ (s : Names) (starts : List Start) where
       by true e none = cc
       by false e none = cc
 
-  name_begins : (u : Spelling) (r : Rounds) (token : ℕ) → naming r ≡ a_name →
+  -- the function around it
+  abbrev around_it : Spelling → Rounds → Naming → Option Place
+  around_it u r a_name = function_at u s r.body
+  around_it u r (own_param g n) = function_at u s g
+  around_it u r other_param = None
+  around_it u r (identified_param g) = function_at u s g
+
+  had_there : (u : Spelling) (r : Rounds) (token : ℕ) (it : Naming) → HasSome it →
+      had_name (naming_has u s it) (around u s r) token
+      ≡ some_declared_start s (around_it u r it) (declared_at s.declared (place u token))
+  had_there u r token a_name h = refl
+  had_there u r token (own_param g n) h = refl
+  had_there u r token other_param h = absurd h
+  had_there u r token (identified_param g) h = refl
+
+  name_begins : (u : Spelling) (r : Rounds) (token : ℕ) → HasSome (naming r) →
       ((p : Place) → Has (had_name (naming_has u s (naming r)) (around u s r) token) p → Has starts p) →
       Begun (place u token)
   name_begins u r token e inside d there role =
@@ -118,12 +137,11 @@ module _ (s : Names) (starts : List Start) where
       (ap (λ (xs : List Start). start_at xs (place u token)) (sym same) ∙ none))
     where
       f : Option Place
-      f = function_at u s r.body
+      f = around_it u r (naming r)
 
       same : had_name (naming_has u s (naming r)) (around u s r) token ≡ named_start s f d
       same =
-          ap (λ (n : Naming). had_name (naming_has u s n) (around u s r) token) e
-          ∙ (ap (some_declared_start s f) there ∙ ap (declared_start s f d) role)
+          had_there u r token (naming r) e ∙ (ap (some_declared_start s f) there ∙ ap (declared_start s f d) role)
 
   -- steps
 
@@ -164,6 +182,8 @@ module _ (s : Names) (starts : List Start) where
     form_names : (op : FormOp) → turn t m (ops.Form op) ≡ Some n → NamesBegin u n (names ds)
     form_names (forms.Sizeof token) e = back u m (in_quiet ∷ n) (names ds) (quiet_was m n e) h
     form_names (forms.Offset token) e = back u m (in_quiet ∷ n) (names ds) (quiet_was m n e) h
+    form_names (forms.Compat token) e = back u m (in_quiet ∷ n) (names ds) (quiet_was m n e) h
+    form_names forms.Control e = back u m (in_quiet ∷ n) (names ds) (quiet_was m n e) h
     form_names op e = moved u m n (names ds) e h
 
     spec_names : (op : SpecOp) → turn t m (ops.Spec op) ≡ Some n →
@@ -171,6 +191,9 @@ module _ (s : Names) (starts : List Start) where
     spec_names (specs.TagBody kind token name) e = moved u (in_tag ∷ m) n (names ds) e h
     spec_names (specs.Untagged kind token) e = moved u (in_tag ∷ m) n (names ds) e h
     spec_names specs.BodyEnd e = back u m (in_tag ∷ n) (names ds) (tag_was m n e) h
+    spec_names specs.PartBegin e = moved u (in_part ∷ m) n (names ds) e h
+    spec_names (specs.TypeofEnd token) e = back u m (in_part ∷ n) (names ds) (part_was m n e) h
+    spec_names specs.TypeEnd e = back u m (in_part ∷ n) (names ds) (part_was m n e) h
     spec_names specs.SpecsEnd e = moved u (in_declaration None None false ∷ m) n (None ∷ names ds) e (tt, h)
     spec_names op e = moved u m n (names ds) e h
 
@@ -195,7 +218,30 @@ module _ (s : Names) (starts : List Start) where
 
     -- behind the name that comes, where its declaration may declare
     abbrev NextBegins : ℕ → Type 0
-    NextBegins token = (d : Declaring m) → is_open d.outer ≡ true → Begun (place u token)
+    NextBegins token = (d : Declaring m) → may_declare d.outer ≡ true → Begun (place u token)
+
+    -- behind a name of the type of its initialiser
+    auto_names : AutoEnding m n → (type : CType) (new : OpenDeclaration) → new.name ≡ None →
+        NamesBegin u n (names (with_innermost new (with_innermost (record (declaration st) { declared = type }) ds)))
+    auto_names it type new unnamed =
+        let d = it.declaring in
+        let open_ = with_innermost (record (declaration st) { declared = type }) ds in
+        let inner = back u it.inner (in_declaration d.name d.last d.own ∷ d.outer) (names ds) d.is
+        (back u m (in_part ∷ it.inner) (names ds) it.was h) in
+        back u (in_declaration None d.name d.own ∷ d.outer) n (names (with_innermost new open_)) (sym it.is)
+        (renamed u d.name d.last None d.name d.own d.own d.outer open_ new
+        (kept_name u (in_declaration d.name d.last d.own ∷ d.outer) ds type inner)
+        (subst (NameBegins u d.outer) (sym unnamed) tt))
+
+    -- behind a declaration behind a list of identifiers
+    old_names : (d : Declaring m) → n ≡ in_declaration None d.name d.own ∷ d.outer → (it : Olds) (b : Bool) →
+        NamesBegin u n (names (if b then name_declared u st else name_ended (with_olds it st)).declarations)
+    old_names d is it true =
+        named_now d None d.name
+        (record (declaration st) { is_untagged = false; name = None; declared = (declaration st).type }) is tt
+    old_names d is it false =
+        named_now d None d.name
+        (record (declaration st) { is_untagged = false; name = None; declared = (declaration st).type }) is tt
 
     declr_names : (op : DeclrOp) → turn t m (ops.Declr op) ≡ Some n →
         ((token name : ℕ) → op ≡ declrs.DeclName token name → NextBegins token) →
@@ -221,6 +267,14 @@ module _ (s : Names) (starts : List Start) where
         let was = declared_was m n e in
         named_now was.0 None was.0.name
         (record (declaration st) { is_untagged = false; name = None; declared = (declaration st).type }) was.1 tt
+    declr_names declrs.AutoBegin e begins = moved u (in_part ∷ m) n (names ds) e h
+    declr_names (declrs.AutoEnd token) e begins = auto_names (auto_was m n e) _ _ refl
+    declr_names (declrs.Identifier token name) e begins =
+        back u m n (names ds) (sym (identified_was m n e).2) h
+    declr_names declrs.OldParam e begins =
+        let was = old_was m n e in
+        old_names was.0 was.3 (old_declared_some u (parameters st).own (declaration st).name
+        (decayed (declaration st).declared) (olds st)) (has_word keywords.Typedef (declaration st).storage)
     declr_names declrs.Member e begins =
         let was = member_was m n e in
         named_now was.0 None was.0.last
@@ -247,7 +301,7 @@ module _ (s : Names) (starts : List Start) where
         op ≡ declrs.DeclName token name → NextBegins token
     name_there sst op same inside token name is d o =
         name_begins u r token
-        (open_naming t d.outer (shapes.without_innermost ods) r.around o (outer_aligned t m n ods r same d))
+        (takes_naming t d.outer (shapes.without_innermost ods) r.around o (outer_aligned t m n ods r same d))
         (subst (λ (it : DeclrOp). (p : Place) → Has (op_starts u s sst r (ops.Declr it)) p → Has starts p) is inside)
 
     names_begin : (sst : shapes.State) (op : Op) → Aligned t m ods r.around → turn t m op ≡ Some n →
@@ -272,19 +326,74 @@ module _ (s : Names) (starts : List Start) where
     top_begins x c own outer [] k = absurd k
     top_begins x c own outer (d ∷ xs) k = k.0
 
-    some_begun : (outer : List Mark) (untagged : Option ℕ) (it : Option Named) (words : List Keyword) (t : CType) →
-        is_open outer ≡ true → NameBegins u outer it → AllBegun st.names.declared →
-        AllBegun (declared_some u untagged it words t st.names).declared
-    some_begun outer untagged None words t o begins k = k
-    some_begun outer untagged (Some it) words t o begins k =
-        let adds = adds_some u untagged (Some it) words t st.names in
+    some_begun : (outer : List Mark) (old : Names) (untagged : Option ℕ) (it : Option Named) (words : List Keyword) (t : CType) →
+        may_declare outer ≡ true → NameBegins u outer it → AllBegun old.declared →
+        AllBegun (declared_some u untagged it words t old).declared
+    some_begun outer old untagged None words t o begins k = k
+    some_begun outer old untagged (Some it) words t o begins k =
+        let adds = adds_some u untagged (Some it) words t old in
         subst AllBegun (sym adds.2)
-        (one_more st.names.declared adds.0 k (λ role. subst Begun (sym adds.1) (begins o)))
+        (one_more old.declared adds.0 k (λ role. subst Begun (sym adds.1) (begins o)))
 
-    param_begun : (it : Option Named) (i : ℕ) (own : Option Place) (t : CType) → AllBegun st.names.declared →
-        AllBegun (declared_param u it i own t st.names).declared
-    param_begun None i own t k = k
-    param_begun (Some it) i own t k = one_more st.names.declared _ k (λ role. absurd cc)
+    param_begun : (old : Names) (it : Option Named) (i : ℕ) (own : Option Place) (t : CType) → AllBegun old.declared →
+        AllBegun (declared_param u it i own t old).declared
+    param_begun old None i own t k = k
+    param_begun old (Some it) i own t k = one_more old.declared _ k (λ role. absurd cc)
+
+    open_may : (outer : List Mark) → is_open outer ≡ true → may_declare outer ≡ true
+    open_may [] o = refl
+    open_may (in_scope ∷ outer) o = refl
+    open_may (in_body ∷ outer) o = refl
+    open_may (in_declaration x c own ∷ outer) o = absurd cc
+    open_may (in_params own ∷ outer) o = absurd cc
+    open_may (in_tag ∷ outer) o = absurd cc
+    open_may (in_quiet ∷ outer) o = absurd cc
+    open_may (in_part ∷ outer) o = absurd cc
+
+    own_may : (d outer : List Mark) → d ≡ in_params true ∷ outer → may_declare d ≡ true
+    own_may d outer is = ap may_declare is
+
+    may : (d : List Mark) → (is_open d ≡ true) ⊎ ((outer : List Mark) × (d ≡ in_params true ∷ outer)) → may_declare d ≡ true
+    may d (inl o) = open_may d o
+    may d (inr own) = own_may d own.0 own.1
+
+    auto_begun : (token : ℕ) (type : Option CType) → AutoEnding m n → AllBegun st.names.declared →
+        AllBegun (auto_typed u token type st).names.declared
+    auto_begun token type it k =
+        let d = it.declaring in
+        let t = with_words (words_of (declaration st).type) (bare_or_base type) in
+        let open_ = with_innermost (record (declaration st) { declared = t }) ds in
+        let inner = back u it.inner (in_declaration d.name d.last d.own ∷ d.outer) (names ds) d.is
+        (back u m (in_part ∷ it.inner) (names ds) it.was h) in
+        some_begun d.outer (with_faults (fault_where (is_unknown type) (place u token) no_type) st.names) _ _ _ _
+        (may d.outer it.takes)
+        (top_begins d.name d.last d.own d.outer open_
+        (kept_name u (in_declaration d.name d.last d.own ∷ d.outer) ds t inner)) k
+
+    old_begun : (own : Option Place) (it : Option Named) (t : CType) (its : Olds) → AllBegun its.names.declared →
+        AllBegun (old_declared_some u own it t its).names.declared
+    old_begun own None t its k = k
+    old_begun own (Some it) t its k = by (number_of_identifier (u.key it.name) its.list)
+      where
+        by : (i : Option ℕ) → AllBegun (old_declared u own it t i its).names.declared
+        by None = k
+        by (Some i) =
+            param_begun (with_faults (fault_where (is_typed (slice_get its.list i)) (place u it.token) defined_twice) its.names)
+            (Some it) i own t k
+
+    name_begun : (d : Declaring m) → may_declare d.outer ≡ true → AllBegun st.names.declared →
+        AllBegun (name_declared u st).names.declared
+    name_begun d o k =
+        some_begun d.outer st.names (untagged_number (declaration st).is_untagged (declaration st).type) (declaration st).name
+        (declaration st).storage (declaration st).declared o
+        (top_begins d.name d.last d.own d.outer ds (here d)) k
+
+    old_param_begun : (d : Declaring m) → may_declare d.outer ≡ true → AllBegun st.names.declared → (b : Bool) →
+        AllBegun (if b then name_declared u st else name_ended (with_olds (old_declared_some u (parameters st).own
+        (declaration st).name (decayed (declaration st).declared) (olds st)) st)).names.declared
+    old_param_begun d o k true = name_begun d o k
+    old_param_begun d o k false =
+        old_begun (parameters st).own (declaration st).name (decayed (declaration st).declared) (olds st) k
 
     member_begun : (it : Option Named) (number : ℕ) (t : CType) → AllBegun st.names.declared →
         AllBegun (declared_member u it number t st.names).declared
@@ -303,21 +412,24 @@ module _ (s : Names) (starts : List Start) where
     declr_begun : (op : DeclrOp) → turn t m (ops.Declr op) ≡ Some n → AllBegun st.names.declared →
         AllBegun (declarator_step u st op).names.declared
     declr_begun declrs.Param e k =
-        param_begun (declaration st).name (length (parameters st).types) (parameters st).own
+        param_begun st.names (declaration st).name (length (parameters st).types) (parameters st).own
         (decayed (declaration st).declared) k
-    declr_begun declrs.ParamsEnd e k = same_begun _ (keep_same (parameters st).own st.names) k
+    declr_begun declrs.ParamsEnd e k =
+        same_begun _ (keep_same (parameters st).own (old_faults u (parameters st).identifiers st.names)
+        ∙ old_faults_same u (parameters st).identifiers st.names) k
     declr_begun declrs.Declare e k =
-        let was = declared_was m n e in
-        some_begun was.0.outer (untagged_number (declaration st).is_untagged (declaration st).type) (declaration st).name
-        (declaration st).storage (declaration st).declared was.2
-        (top_begins was.0.name was.0.last was.0.own was.0.outer ds (here was.0)) k
+        let was = declared_was m n e in name_begun was.0 (open_may was.0.outer was.2) k
+    declr_begun (declrs.AutoEnd token) e k = auto_begun token (value (shape_of_part u st)) (auto_was m n e) k
+    declr_begun declrs.OldParam e k =
+        let was = old_was m n e in
+        old_param_begun was.0 (own_may was.0.outer was.1 was.2) k (has_word keywords.Typedef (declaration st).storage)
     declr_begun declrs.Member e k =
         member_begun (declaration st).name (body st).members_of (declaration st).declared k
     declr_begun op e k = k
 
     stmt_begun : (op : StmtOp) → AllBegun st.names.declared → AllBegun (statement_step u st op).names.declared
     stmt_begun stmts.FunctionBody k =
-        same_begun _ (entered_same (is_plain st) (last_or None st.names.declared) st.names) k
+        same_begun _ (entered_same (is_plain st) (is_counted u st) (last_or None st.names.declared) st.names) k
     stmt_begun op k = k
 
     all_begun : (op : Op) → turn t m op ≡ Some n → AllBegun st.names.declared → AllBegun (step u st op).names.declared
@@ -363,19 +475,19 @@ module _ (s : Names) (starts : List Start) where
         (items_begun u all items (All-tail (IsItem all) item items well)) (item_tape item) [] st sst r
         (bracketed item (declares_its all item (All-head (IsItem all) item items well))) h tt k inside
 
-    sources_begun : (sources : List Source) (old : Names) → All IsSound sources → AllBegun old.declared →
-        ((p : Place) → Has (starts_among s sources) p → Has starts p) →
+    sources_begun : (access : Bool) (sources : List Source) (old : Names) → All IsSound sources → AllBegun old.declared →
+        ((p : Place) → Has (starts_among access s sources) p → Has starts p) →
         AllBegun (tapes_named (map tape_of_source sources) old).declared
-    sources_begun [] old sound k inside = k
-    sources_begun (it ∷ sources) old sound k inside =
+    sources_begun access [] old sound k inside = k
+    sources_begun access (it ∷ sources) old sound k inside =
         let unit = All-head IsSound it sources sound in
-        sources_begun sources _ (All-tail IsSound it sources sound)
+        sources_begun access sources _ (All-tail IsSound it sources sound)
         (items_begun it.spelling unit.0 it.items unit.1.parts (with_names (unit_begun it.spelling.unit old)) shapes.nothing
-        file refl k
+        (file access) refl k
         (subst (λ (xs : List Start). (p : Place) → Has xs p → Has starts p)
-        (sym (begins it.spelling s it.items))
-        (λ p has. inside p (has_left (items_starts it.spelling s it.items) (starts_among s sources) p has))))
-        (λ p has. inside p (has_right (items_starts it.spelling s it.items) (starts_among s sources) p has))
+        (sym (begins access it.spelling s unit.0 it.items unit.1))
+        (λ p has. inside p (has_left (items_starts access it.spelling s it.items) (starts_among access s sources) p has))))
+        (λ p has. inside p (has_right (items_starts access it.spelling s it.items) (starts_among access s sources) p has))
 
   begun_found : (ds : List Declared) (p : Place) (d : Declared) → AllBegun ds → declared_at ds p ≡ Some d →
       d.role ≡ function_role → Begun d.at
@@ -389,13 +501,13 @@ module _ (s : Names) (starts : List Start) where
           subst (λ (it : Declared). it.role ≡ function_role → Begun it.at) same k.0 role
       by false e next = next e role
 
-  pub functions_begin : ItemsAreBracketed → StartsAreFound → (sources : List Source) → All IsSound sources →
-      tapes_named (map tape_of_source sources) no_names ≡ s → starts_among s sources ≡ starts →
+  pub functions_begin : ItemsAreBracketed → StartsAreFound → (access : Bool) (sources : List Source) → All IsSound sources →
+      tapes_named (map tape_of_source sources) no_names ≡ s → starts_among access s sources ≡ starts →
       FunctionsBegin starts s
-  functions_begin bracketed begins sources sound named all p d e role own none =
+  functions_begin bracketed begins access sources sound named all p d e role own none =
       begun_found s.declared p d
       (subst (λ (it : Names). AllBegun it.declared) named
-      (sources_begun bracketed begins sources no_names sound tt
-      (subst (λ (xs : List Start). (q : Place) → Has (starts_among s sources) q → Has xs q) all (λ q has. has))))
+      (sources_begun bracketed begins access sources no_names sound tt
+      (subst (λ (xs : List Start). (q : Place) → Has (starts_among access s sources) q → Has xs q) all (λ q has. has))))
       e role d (subst (λ (q : Place). declared_at s.declared q ≡ Some d) (sym (declared_place s.declared p d e)) e) role
       none

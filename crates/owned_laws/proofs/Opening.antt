@@ -1,5 +1,6 @@
 -- What each op of a tape opens and ends of declarations, by the steps of shapes and by those of skeletons.
-use Rattle.std.proofs.Common.{◌≡◌, true, false, List, ◌∷◌, None, refl, sym, ◌∙◌, ap}
+use Rattle.std.proofs.Common.{◌≡◌, Bool, true, false, List, ◌∷◌, None, refl, sym, ◌∙◌, ap}
+use Rattle.std.specs.Prelude.{◌&&◌, if◌then◌else◌}
 use Rattle.tape_ops.specs.declared.op.Op.{Op}
 use Rattle.tape_ops.specs.declared.op.Op.TheVariants as ops
 use Rattle.tape_ops.specs.declared.expression.ExprOp.TheVariants as exprs
@@ -13,27 +14,42 @@ use Rattle.name_rules.specs.Scopes.{Names}
 use Rattle.shape_steps.specs.State as shapes
 use Rattle.shape_steps.specs.State.{OpenDeclaration, with_name, with_declared, without_name, without_innermost, changed}
 use Rattle.shape_steps.specs.Steps as shape_steps
+use Rattle.name_rules.specs.Checks.{is_star}
+use Rattle.qual_types.specs.Skel.{Skel}
+use Rattle.row_rules.specs.Vals.{is_ref}
 use Rattle.row_rules.specs.Worlds.{World}
-use Rattle.row_steps.specs.State.{State}
+use Rattle.row_steps.specs.State.{State, value_at}
 use Rattle.tape_ops.specs.declared.form.FormOp.{FormOp}
 use Rattle.tape_ops.specs.declared.specifier.SpecOp.{SpecOp}
 use Rattle.tape_ops.specs.declared.declarator.DeclrOp.{DeclrOp}
+use Rattle.tape_ops.specs.declared.statement.StmtOp.{StmtOp}
 use Rattle.row_steps.specs.Rounds.{Rounds}
 use Rattle.row_steps.specs.Rounds as rounds
-use Rattle.row_steps.specs.Steps.{step}
+use Rattle.row_steps.specs.Steps.{carrying, step}
 
 abbrev pub opens : Op → List OpenDeclaration → List OpenDeclaration
 opens (ops.Spec specs.SpecsEnd) ds = record { name = None; declared = None } ∷ ds
 opens (ops.Declr (declrs.DeclName token name)) ds = changed (with_name token) ds
 opens (ops.Declr declrs.Param) ds = without_innermost ds
 opens (ops.Declr declrs.Declare) ds = changed with_declared ds
+opens (ops.Declr (declrs.AutoEnd token)) ds = changed with_declared ds
+opens (ops.Declr declrs.OldParam) ds = changed with_declared ds
 opens (ops.Declr declrs.Member) ds = changed without_name ds
 opens (ops.Declr (declrs.TypeName first)) ds = without_innermost ds
 opens (ops.Declr declrs.DeclarationEnd) ds = without_innermost ds
 opens op ds = ds
 
+-- a pointer that is noted opens none
+carrying_opens : (aims : Bool) (pointer : Skel) (st : State) → (carrying aims pointer st).declarations ≡ st.declarations
+carrying_opens true pointer st = refl
+carrying_opens false pointer st = refl
+
 pub row_opens : (w : World) (st : State) (op : Op) → (step w st op).declarations ≡ opens op st.declarations
 row_opens w st (ops.Expr (exprs.Comma token)) = refl
+row_opens w st (ops.Expr (exprs.Prefix sign token last aims)) = carrying_opens (aims && is_star sign) (value_at 0 st) st
+row_opens w st (ops.Expr (exprs.Index token first last aims)) =
+    carrying_opens aims (if is_ref (value_at 1 st) then value_at 1 st else value_at 0 st) st
+row_opens w st (ops.Expr (exprs.Arrow token first last aims)) = carrying_opens aims (value_at 0 st) st
 row_opens w st (ops.Expr op) = refl
 row_opens w st (ops.Form (forms.StmtExpr true token)) = refl
 row_opens w st (ops.Form (forms.StmtExpr false token)) = refl
@@ -85,3 +101,37 @@ pub declr_body : (declarations : List OpenDeclaration) (r : Rounds) (op : DeclrO
     (rounds.declr_round declarations r op).body ≡ r.body
 declr_body declarations r declrs.Param = refl
 declr_body declarations r op = refl
+
+-- rows say nothing of whether some lattice bounds accesses
+
+abbrev pub with_access : Bool → Rounds → Rounds
+with_access access r = record r { access = access }
+
+form_access : (access : Bool) (r : Rounds) (op : FormOp) →
+    rounds.form_round (with_access access r) op ≡ with_access access (rounds.form_round r op)
+form_access access r (forms.Sizeof token) = refl
+form_access access r op = refl
+
+spec_access : (access : Bool) (r : Rounds) (op : SpecOp) →
+    rounds.spec_round (with_access access r) op ≡ with_access access (rounds.spec_round r op)
+spec_access access r specs.BodyEnd = refl
+spec_access access r op = refl
+
+declr_access : (access : Bool) (ds : List OpenDeclaration) (r : Rounds) (op : DeclrOp) →
+    rounds.declr_round ds (with_access access r) op ≡ with_access access (rounds.declr_round ds r op)
+declr_access access ds r declrs.Param = refl
+declr_access access ds r op = refl
+
+stmt_access : (access : Bool) (ds : List OpenDeclaration) (r : Rounds) (op : StmtOp) →
+    rounds.stmt_round ds (with_access access r) op ≡ with_access access (rounds.stmt_round ds r op)
+stmt_access access ds r stmts.Quiet = refl
+stmt_access access ds r op = refl
+
+pub step_access : (access : Bool) (ds : List OpenDeclaration) (r : Rounds) (op : Op) →
+    rounds.round_step ds (with_access access r) op ≡ with_access access (rounds.round_step ds r op)
+step_access access ds r (ops.Expr op) = refl
+step_access access ds r (ops.Form op) = form_access access r op
+step_access access ds r (ops.Init op) = refl
+step_access access ds r (ops.Spec op) = spec_access access r op
+step_access access ds r (ops.Declr op) = declr_access access ds r op
+step_access access ds r (ops.Stmt op) = stmt_access access ds r op

@@ -1,6 +1,6 @@
 -- The skeletons on the stacks of a tape belong to the function around, or to nobody.
 use Rattle.std.proofs.Common.{◌≡◌, inl, inr, ℕ, zero, suc, Bool, true, false, List, [], ◌∷◌, ◌++◌, drop, take, reverse, slice_get, Option, None, Some, refl, sym, subst}
-use Rattle.std.specs.Prelude.{if◌then◌else◌}
+use Rattle.std.specs.Prelude.{◌&&◌, if◌then◌else◌}
 use Rattle.std.proofs.lemmas.List.{reverse-append}
 use Rattle.c_words.specs.declared.kinds.Punct.{Punct}
 use Rattle.c_words.specs.declared.kinds.Punct.TheVariants as signs
@@ -11,14 +11,14 @@ use Rattle.flow_rules.specs.Owners.{AllIn}
 use Rattle.name_rules.specs.Scopes.{Role, typedef_role, object_role, function_role, parameter_role, field_role, enumerator_role, Declared, declared_at, Use, means, called, missing, Own, Known, body_of}
 use Rattle.name_rules.specs.Values.{is_additive, member_in, own_of, own_number}
 use Rattle.row_rules.specs.Worlds.{at, skeleton}
-use Rattle.row_rules.specs.Annotations.{further}
-use Rattle.row_rules.specs.Vals.{Val, contents, read, value, is_ref, result, member_of, known_skeleton, member_skel, sum_of, binary_of, prefix_of, used_by_role, used_some, used, own, branch}
+use Rattle.row_rules.specs.Annotations.{further, has_access}
+use Rattle.row_rules.specs.Vals.{Val, a_value, a_place, Candidate, no_zeros, or_all, left_of, value_of_left, pick_of, is_vector_index, index_of, contents, read, value, is_ref, result, member_of, known_skeleton, member_skel, sum_of, binary_of, prefix_of, used_by_role, used_some, used, own, branch}
 use Rattle.row_rules.specs.Rows.{own_skel, next_of_struct, first_alone, by_role, by_first, initialised_at}
 use Rattle.row_steps.specs.State.{Operand, expression, named_type, Braces, whole, untargeted, listed, first_operand, val_of_operand, first_braces}
 use Rattle.row_steps.specs.Steps.{item_target, target_in, list_of, with_member, with_index, with_item, initialised_by}
 use Rattle.row_steps.specs.OpRows.{function_skeleton}
 use Rattle.shape_steps.specs.State.{changed, without_innermost}
-use Rattle.owner_laws.specs.Rows.{SomeInside, SomeIn}
+use Rattle.owner_laws.specs.Rows.{SomeInside, SomeIn, AllInside}
 use Rattle.owned_laws.specs.Around.{MeantFits, SomeMeantFits, UseFits, FunctionFits, InitFits, FirstInitFits, SomeInitFits, InitialisedFits}
 use Rattle.owned_laws.proofs.Found.{Setting, sys, owner, In, Begins, none_in, skeleton_in, nobodys_in}
 
@@ -79,13 +79,59 @@ module _ (k : Setting) where
   binary_in p a b t h l m =
       either_in (is_additive p) (sum_of (is_ref a) (is_ref b) a b t) t (sum_in (is_ref a) (is_ref b) a b t h l m) m
 
-  pub prefix_in : (token : ℕ) (p : Punct) (e : Val) → In k e.skel → Begins k (at k.world token) →
-      In k (prefix_of k.world token p e).skel
-  prefix_in token signs.Ampersand e h m = h
-  prefix_in token signs.Star e h m = value_in e h
-  prefix_in token signs.PlusPlus e h m = value_in e h
-  prefix_in token signs.MinusMinus e h m = value_in e h
-  prefix_in token p e h m = own_in token m
+  pub prefix_in : (token : ℕ) (p : Punct) (e : Val) (aims : Bool) → In k e.skel → Begins k (at k.world token) →
+      In k (prefix_of k.world token p e aims).skel
+  prefix_in token signs.Ampersand e aims h m = by (aims && has_access k.world.lattices)
+    where
+      by : (b : Bool) → In k (if b then a_value (skeleton k.world (at k.world token)) else a_value e.skel).skel
+      by true = own_in token m
+      by false = h
+  prefix_in token signs.Star e aims h m = value_in e h
+  prefix_in token signs.PlusPlus e aims h m = value_in e h
+  prefix_in token signs.MinusMinus e aims h m = value_in e h
+  prefix_in token p e aims h m = own_in token m
+
+  pub index_in : (wide : Bool) (e e2 : Val) → In k e.skel → In k e2.skel → In k (index_of wide e e2).skel
+  index_in wide e e2 h l = by (is_vector_index wide (value e) (value e2))
+    where
+      by : (b : Bool) → In k (if b then e else a_place (if is_ref (value e) then value e else value e2)).skel
+      by true = h
+      by false = either_in (is_ref (value e)) (value e) (value e2) (value_in e h) (value_in e2 l)
+
+  -- picks
+
+  abbrev pub AllValsIn : List Candidate → Type 0
+  AllValsIn its = AllInside (sys k) (owner k) its
+
+  pub vals_joined : (xs ys : List Candidate) → AllValsIn xs → AllValsIn ys → AllValsIn (xs ++ ys)
+  vals_joined [] ys h l = l
+  vals_joined (x ∷ xs) ys h l = (h.0, vals_joined xs ys h.1 l)
+
+  no_zeros_in : (its : List Candidate) → AllValsIn its → AllValsIn (no_zeros its)
+  no_zeros_in [] h = tt
+  no_zeros_in (it ∷ others) h = by it.is_zero (no_zeros_in others h.1)
+    where
+      by : (b : Bool) → AllValsIn (no_zeros others) → AllValsIn (if b then no_zeros others else it ∷ no_zeros others)
+      by true rest = rest
+      by false rest = (h.0, rest)
+
+  or_all_in : (some others : List Candidate) → AllValsIn some → AllValsIn others → AllValsIn (or_all some others)
+  or_all_in [] others h l = l
+  or_all_in (it ∷ some) others h l = h
+
+  pub left_in : (its : List Candidate) → AllValsIn its → AllValsIn (left_of its)
+  left_in its h = or_all_in (no_zeros its) its (no_zeros_in its h) h
+
+  one_left_in : (t : Skel) (its : List Candidate) → In k t → AllValsIn its → In k (value_of_left t its)
+  one_left_in t [] h l = h
+  one_left_in t (it ∷ []) h l = value_in it.val l.0
+  one_left_in t (it ∷ other ∷ others) h l = h
+
+  pub pick_in : (t : Skel) (its : List Candidate) → In k t → AllValsIn its → In k (pick_of t its).skel
+  pick_in t [] h l = h
+  pick_in t (it ∷ []) h l = l.0
+  pick_in t (it ∷ other ∷ others) h l =
+      one_left_in t (left_of (it ∷ other ∷ others)) h (left_in (it ∷ other ∷ others) l)
 
   -- names
 

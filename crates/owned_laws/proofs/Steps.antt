@@ -1,6 +1,6 @@
 -- Each op of a tape whose look-ups stay in the function around keeps its stacks in it, and its constraints fit.
-use Rattle.std.proofs.Common.{◌≡◌, inl, inr, ℕ, suc, ◌+◌, Bool, true, false, List, [], ◌∷◌, drop, Option, None, Some, refl, subst, sym, ap, ◌∙◌}
-use Rattle.std.specs.Prelude.{take, if◌then◌else◌}
+use Rattle.std.proofs.Common.{◌≡◌, inl, inr, ℕ, zero, suc, ◌+◌, Bool, true, false, List, [], ◌∷◌, drop, Option, None, Some, refl, subst, sym, ap, ◌∙◌}
+use Rattle.std.specs.Prelude.{◌&&◌, take, if◌then◌else◌}
 use Rattle.qual_base.specs.declared.places.Span.{Span}
 use Rattle.tape_ops.specs.declared.op.Op.{Op}
 use Rattle.tape_ops.specs.declared.op.Op.TheVariants as ops
@@ -22,17 +22,20 @@ use Rattle.name_rules.specs.Spellings.{Place}
 use Rattle.name_rules.specs.Scopes.{Role, typedef_role, object_role, function_role, parameter_role, field_role, enumerator_role, Declared, declared_at, Use, means, called, missing, is_place}
 use Rattle.name_rules.specs.Linking.{link_of}
 use Rattle.name_rules.specs.Uses.{use_at}
+use Rattle.flow_graph.specs.declared.constraint.Constraint.{Constraint}
+use Rattle.name_rules.specs.Checks.{is_star}
+use Rattle.shape_steps.specs.Steps.{twice}
 use Rattle.shape_steps.specs.State.{declared_last, without_innermost}
 use Rattle.row_rules.specs.Starting.{Start}
 use Rattle.row_rules.specs.Worlds.{World, at, all_lattices, skeleton, span, word_span}
 use Rattle.row_rules.specs.Forming.{formed}
 use Rattle.row_rules.specs.Annotations.{parameters, further}
-use Rattle.row_rules.specs.Vals.{contents, is_ref, own}
+use Rattle.row_rules.specs.Vals.{contents, is_ref, is_carrying, left_of, own}
 use Rattle.row_rules.specs.Vals as vals
-use Rattle.row_rules.specs.Rows.{crossed, formed_here, instance, some_instance, use_demand, annotating_some, annotating_place, equal_to, name_row, declared_row, some_declared_row, param_row, row_at}
-use Rattle.row_steps.specs.Rounds.{Naming, a_name, own_param, other_param, naming, is_quiet, Rounds, round_step, stmt_round}
+use Rattle.row_rules.specs.Rows.{carried, prefixed, some_param_kind, numbered_row, identified_by, crossed, formed_here, instance, some_instance, use_demand, annotating_some, annotating_place, equal_to, name_row, declared_row, some_declared_row, param_row, row_at}
+use Rattle.row_steps.specs.Rounds.{Naming, a_name, own_param, other_param, identified_param, naming, is_quiet, Rounds, round_step, stmt_round}
 use Rattle.row_steps.specs.State.{Operand, Braces, State, nothing, first_operand, val_of_operand, is_zero_operand, type_of_operand, val_at, value_at, is_zero_at, type_at, operand_put, dropped, depth_below, operands_below, operands_within, first_braces}
-use Rattle.row_steps.specs.Steps.{target_in, with_member, with_index, with_item, initialised_by, expr_step, form_step, init_step, spec_step, declr_step, stmt_step, step}
+use Rattle.row_steps.specs.Steps.{carrying, candidate_at, chosen, selected, target_in, with_member, with_index, with_item, initialised_by, expr_step, form_step, init_step, spec_step, declr_step, stmt_step, step}
 use Rattle.row_steps.specs.OpRows.{function_skeleton, some_param_row, naming_row, into_target, called_at, expr_row, form_row, init_row, spec_row, declr_row, stmt_row, loud_row, op_row}
 use Rattle.row_steps.specs.Found.{rows_found}
 use Rattle.owner_laws.specs.Fitting.{AllFit, start_at}
@@ -42,17 +45,18 @@ use Rattle.owned_laws.specs.Tapes.{OpsFit}
 use Rattle.meaning_laws.proofs.Lists.{place_is}
 use Rattle.owned_laws.proofs.Opening.{form_body, spec_body, declr_body}
 use Rattle.owned_laws.proofs.Found.{Setting, sys, owner, In, none_in, skeleton_in}
-use Rattle.owned_laws.proofs.Stacks.{SomeSkelIn, contents_in, result_in, value_in, further_in, own_in, either_in, branch_in, binary_in, prefix_in, used_in, member_skel_in, initialised_in, function_in, OperandIn, OperandsIn, drop_in, take_in, reverse_in, first_val_in, first_value_in, AllBracesIn, first_braces_in, others_in, changed_in, target_in_in, list_of_in, with_member_in, with_index_in, with_item_in}
+use Rattle.owned_laws.proofs.Stacks.{SomeSkelIn, contents_in, result_in, value_in, further_in, own_in, either_in, branch_in, binary_in, prefix_in, index_in, AllValsIn, vals_joined, left_in, pick_in, used_in, member_skel_in, initialised_in, function_in, OperandIn, OperandsIn, drop_in, take_in, reverse_in, first_val_in, first_value_in, AllBracesIn, first_braces_in, others_in, changed_in, target_in_in, list_of_in, with_member_in, with_index_in, with_item_in}
 
 -- all skeletons that are kept
-pub record SkelsIn (k : Setting) (os ls : List Operand) (bs : List Braces) (it : Skel) : Type 0 where
+pub record SkelsIn (k : Setting) (os ls : List Operand) (bs : List Braces) (it by : Skel) : Type 0 where
   pub operands : OperandsIn k os
   pub leaves : OperandsIn k ls
   pub braces : AllBracesIn k bs
   pub literal : In k it
+  pub carried : In k by
 
 abbrev pub StacksIn : Setting → State → Type 0
-StacksIn k st = SkelsIn k st.operands st.leaves st.braces st.literal
+StacksIn k st = SkelsIn k st.operands st.leaves st.braces st.literal st.carried
 
 module _ (k : Setting) where
   abbrev w : World
@@ -70,6 +74,7 @@ module _ (k : Setting) where
     leaves = h.leaves;
     braces = h.braces;
     literal = h.literal;
+    carried = h.carried;
   }
 
   dropped_in : (n : ℕ) (st : State) → StacksIn k st → StacksIn k (dropped n st)
@@ -78,7 +83,18 @@ module _ (k : Setting) where
     leaves = h.leaves;
     braces = h.braces;
     literal = h.literal;
+    carried = h.carried;
   }
+
+  carrying_in : (aims : Bool) (by : Skel) (st : State) → In k by → StacksIn k st → StacksIn k (carrying aims by st)
+  carrying_in true by st i h = record {
+    operands = h.operands;
+    leaves = h.leaves;
+    braces = h.braces;
+    literal = h.literal;
+    carried = i;
+  }
+  carrying_in false by st i h = h
 
   expr_in : (st : State) (op : ExprOp) → StacksIn k st → ExprFits w k.starts k.function st op →
       StacksIn k (expr_step w st op)
@@ -98,19 +114,39 @@ module _ (k : Setting) where
   expr_in st (exprs.Binary sign token first last) h fit =
       put_in 2 _ st (binary_in k sign (value_at 1 st) (value_at 0 st) (own w token) (value_at_in 1 st h)
       (value_at_in 0 st h) (own_in k token fit)) h
-  expr_in st (exprs.Prefix sign token last) h fit =
-      put_in 1 _ st (prefix_in k token sign (val_at 0 st) (val_in 0 st h) fit) h
+  expr_in st (exprs.Prefix sign token last aims) h fit =
+      put_in 1 _ (carrying (aims && is_star sign) (value_at 0 st) st) (prefix_in k token sign (val_at 0 st) aims (val_in 0 st h) fit)
+      (carrying_in (aims && is_star sign) (value_at 0 st) st (value_at_in 0 st h) h)
   expr_in st (exprs.Post sign token first) h fit = put_in 1 _ st (value_at_in 0 st h) h
-  expr_in st (exprs.Index token first last) h fit =
-      put_in 2 _ st (either_in k (is_ref (value_at 1 st)) (value_at 1 st) (value_at 0 st) (value_at_in 1 st h)
-      (value_at_in 0 st h)) h
+  expr_in st (exprs.Index token first last aims) h fit =
+      put_in 2 _ (carrying aims (if is_ref (value_at 1 st) then value_at 1 st else value_at 0 st) st)
+      (index_in k w.spelling.wide (val_at 1 st) (val_at 0 st) (val_in 1 st h) (val_in 0 st h))
+      (carrying_in aims (if is_ref (value_at 1 st) then value_at 1 st else value_at 0 st) st
+      (either_in k (is_ref (value_at 1 st)) (value_at 1 st) (value_at 0 st) (value_at_in 1 st h) (value_at_in 0 st h)) h)
   expr_in st (exprs.Arg behind first last) h fit = h
   expr_in st (exprs.Call token count) h fit =
       put_in (suc count) _ (record st { passed = 0 }) (result_in k (contents (value_at count st))
       (contents_in k (value_at count st) (value_at_in count st h))) h
-  expr_in st (exprs.Arrow token first last) h fit =
-      put_in 1 _ st (contents_in k (value_at 0 st) (value_at_in 0 st h)) h
+  expr_in st (exprs.Arrow token first last aims) h fit =
+      put_in 1 _ (carrying aims (value_at 0 st) st) (contents_in k (value_at 0 st) (value_at_in 0 st h))
+      (carrying_in aims (value_at 0 st) st (value_at_in 0 st h) h)
   expr_in st (exprs.Dot token member name) h fit = put_in 1 _ st (member_skel_in k (value_at 0 st) name) h
+  expr_in st (exprs.Label token) h fit = put_in 0 _ st (own_in k token fit) h
+
+  -- picks
+
+  chosen_in : (st : State) → StacksIn k st → AllValsIn k (chosen st)
+  chosen_in st h = (val_in 1 st h, (val_in 0 st h, tt))
+
+  selected_in : (token i n : ℕ) (st : State) → StacksIn k st → AllValsIn k (selected w token i n st)
+  selected_in token i zero st h = tt
+  selected_in token i (suc n) st h =
+      vals_joined k (if w.candidate (at w token) i then candidate_at (twice n) st ∷ [] else [])
+      (selected w token (suc i) n st) (one (w.candidate (at w token) i)) (selected_in token (suc i) n st h)
+    where
+      one : (b : Bool) → AllValsIn k (if b then candidate_at (twice n) st ∷ [] else [])
+      one true = (val_in (twice n) st h, tt)
+      one false = tt
 
   form_in : (st : State) (op : FormOp) → StacksIn k st → FormFits w k.starts k.function op →
       StacksIn k (form_step w st op)
@@ -127,6 +163,14 @@ module _ (k : Setting) where
   form_in st (forms.OffsetMember token name) h fit = h
   form_in st (forms.OffsetIndex token) h fit = dropped_in 1 st h
   form_in st (forms.Offset token) h fit = put_in 1 _ st (own_in k token fit) h
+  form_in st (forms.Compat token) h fit = put_in 2 _ st (own_in k token fit) h
+  form_in st forms.Control h fit = h
+  form_in st forms.NoType h fit = put_in 0 _ st tt h
+  form_in st (forms.Choose token) h fit =
+      put_in 2 _ st (pick_in k (own w token) (chosen st) (own_in k token fit) (chosen_in st h)) h
+  form_in st (forms.Generic token count) h fit =
+      put_in (suc (twice count)) _ st (pick_in k (own w token) (selected w token 0 count st) (own_in k token fit)
+      (selected_in token 0 count st h)) h
 
   below_in : (st : State) → StacksIn k st → OperandsIn k (operands_below st)
   below_in st h = drop_in k (depth_below st) st.operands h.operands
@@ -144,12 +188,14 @@ module _ (k : Setting) where
     leaves = within_in st h;
     braces = (initialised_in k (declared_last st.declarations) fit, h.braces);
     literal = h.literal;
+    carried = h.carried;
   }
   init_in st (inits.Literal token) h fit = record {
     operands = h.operands;
     leaves = within_in st h;
     braces = (contents_in k (own w token) (own_in k token fit), h.braces);
     literal = own_in k token fit;
+    carried = h.carried;
   }
   init_in st inits.ListBegin h fit = record {
     operands = h.operands;
@@ -160,51 +206,59 @@ module _ (k : Setting) where
       h.braces,
     );
     literal = h.literal;
+    carried = h.carried;
   }
   init_in st (inits.Member token name) h fit = record {
     operands = h.operands;
     leaves = h.leaves;
     braces = changed_in k (with_member w name) (with_member_in k name) st.braces h.braces;
     literal = h.literal;
+    carried = h.carried;
   }
   init_in st (inits.Index token) h fit = record {
     operands = h.operands;
     leaves = h.leaves;
     braces = changed_in k with_index (with_index_in k) st.braces h.braces;
     literal = h.literal;
+    carried = h.carried;
   }
   init_in st (inits.Leaf first last) h fit = record {
     operands = h.operands;
     leaves = drop_in k 1 st.leaves h.leaves;
     braces = changed_in k with_item (with_item_in k) st.braces h.braces;
     literal = h.literal;
+    carried = h.carried;
   }
   init_in st inits.ListEnd h fit = record {
     operands = h.operands;
     leaves = h.leaves;
     braces = changed_in k with_item (with_item_in k) (without_innermost st.braces) (others_in k st.braces h.braces);
     literal = h.literal;
+    carried = h.carried;
   }
   init_in st inits.End h fit = record {
     operands = below_in st h;
     leaves = tt;
     braces = others_in k st.braces h.braces;
     literal = h.literal;
+    carried = h.carried;
   }
   init_in st inits.LiteralEnd h fit = record {
     operands = (h.literal, drop_in k 1 (operands_below st) (below_in st h));
     leaves = tt;
     braces = others_in k st.braces h.braces;
     literal = h.literal;
+    carried = h.carried;
   }
 
   spec_in : (st : State) (op : SpecOp) → StacksIn k st → StacksIn k (spec_step st op)
   spec_in st specs.SpecsEnd h = h
+  spec_in st specs.TypeEnd h = dropped_in 1 st h
   spec_in st op h = h
 
   declr_in : (st : State) (op : DeclrOp) → StacksIn k st → StacksIn k (declr_step w st op)
   declr_in st (declrs.TypeName first) h =
-      record { operands = (tt, h.operands); leaves = h.leaves; braces = h.braces; literal = h.literal }
+      record { operands = (tt, h.operands); leaves = h.leaves; braces = h.braces; literal = h.literal; carried = h.carried }
   declr_in st op h = h
 
   stmt_in : (st : State) (op : StmtOp) → StacksIn k st → StacksIn k (stmt_step st op)
@@ -307,6 +361,11 @@ module _ (k : Setting) where
   arg_in f n h None e = tt
   arg_in f n h (Some t) e = (k.law.parts (sys k) (owner k) f h).param_in n t e
 
+  either_fit : (b : Bool) (cs ds : List Constraint) → AllFit (sys k) cs → AllFit (sys k) ds →
+      AllFit (sys k) (if b then cs else ds)
+  either_fit true cs ds h l = h
+  either_fit false cs ds h l = l
+
   expr_fits : (st : State) (op : ExprOp) → is_quiet st.rounds ≡ false → StacksIn k st →
       ExprFits w k.starts k.function st op → AllFit (sys k) (expr_row w st op)
   expr_fits st (exprs.Name is_called token name) loud h fit =
@@ -322,21 +381,27 @@ module _ (k : Setting) where
   expr_fits st (exprs.Binary sign token first last) loud h fit =
       rows.operator sign (is_zero_at 1 st) (is_zero_at 0 st) (value_at 1 st) (value_at 0 st) (own w token)
       (span w first last) (value_at_in 1 st h) (value_at_in 0 st h) (own_in k token fit)
-  expr_fits st (exprs.Prefix sign token last) loud h fit =
-      rows.prefix sign (is_zero_at 0 st) (val_at 0 st) (own w token) (span w token last) (val_in 0 st h)
-      (own_in k token fit)
+  expr_fits st (exprs.Prefix sign token last aims) loud h fit =
+      either_fit (is_carrying w sign aims)
+      (carried w (val_at 0 st).skel st.carried (own w token) (span w token token))
+      (prefixed w sign (is_zero_at 0 st) (val_at 0 st) (own w token) aims (span w token last))
+      (rows.carry (val_at 0 st).skel st.carried (own w token) (span w token token) (val_in 0 st h) h.carried
+      (own_in k token fit) (form_here token))
+      (rows.prefix sign (is_zero_at 0 st) (val_at 0 st) (own w token) aims (span w token last) (val_in 0 st h)
+      (own_in k token fit))
   expr_fits st (exprs.Post sign token first) loud h fit =
       rows.writes (root (val_at 0 st).skel) (span w first token)
-  expr_fits st (exprs.Index token first last) loud h fit =
-      rows.dereference (if is_ref (value_at 1 st) then value_at 1 st else value_at 0 st) (span w first last)
+  expr_fits st (exprs.Index token first last aims) loud h fit =
+      rows.index (value_at 1 st) (value_at 0 st) aims (span w first last)
   expr_fits st (exprs.Arg behind first last) loud h fit =
       let f = called_at behind st in
       let inside = contents_in k (value_at (suc (behind + st.passed)) st) (value_at_in (suc (behind + st.passed)) st h) in
       rows.argument (is_zero_at behind st) (value_at behind st) (param_at (parameters f) st.passed) (further f)
       (span w first last) (value_at_in behind st h)
       (arg_in f st.passed inside (param_at (parameters f) st.passed) refl) (further_in k f inside)
-  expr_fits st (exprs.Arrow token first last) loud h fit = rows.dereference (value_at 0 st) (span w first last)
+  expr_fits st (exprs.Arrow token first last aims) loud h fit = rows.dereference (value_at 0 st) aims (span w first last)
   expr_fits st (exprs.Text token) loud h fit = form_here token
+  expr_fits st (exprs.Label token) loud h fit = form_here token
   expr_fits st op loud h fit = tt
 
   form_fits : (st : State) (op : FormOp) → StacksIn k st → BodyFits st.rounds →
@@ -355,6 +420,12 @@ module _ (k : Setting) where
   form_fits st (forms.VaCopy token last) h b fit =
       rows.flow_into (is_zero_at 0 st) (value_at 0 st) (value_at 1 st) (all_lattices w) (span w token last)
       (value_at_in 0 st h) (value_at_in 1 st h)
+  form_fits st (forms.Choose token) h b fit =
+      rows.pick (left_of (chosen st)) (own w token) (span w token token) (left_in k (chosen st) (chosen_in st h))
+      (own_in k token fit) (form_here token)
+  form_fits st (forms.Generic token count) h b fit =
+      rows.pick (left_of (selected w token 0 count st)) (own w token) (span w token token)
+      (left_in k (selected w token 0 count st) (selected_in token 0 count st h)) (own_in k token fit) (form_here token)
   form_fits st op h b fit = tt
 
   target_fits : (t : Option Skel) (it : Operand) (where_ : Span) → SomeSkelIn k t →
@@ -420,12 +491,37 @@ module _ (k : Setting) where
   some_param_fits None n token h l = tt
   some_param_fits (Some f) n token h l = param_fits f n (declared_at w.names.declared (at w token)) h l
 
+  -- a parameter by its identifier, with the number of its declaration
+  kind_fits : (f : Option Skel) (i token : ℕ) → SomeSkelIn k f →
+      ParamFits w k.starts k.function (declared_at w.names.declared (at w token)) →
+      AllFit (sys k) (row_at w (some_param_kind f i) token)
+  kind_fits None i token h l = tt
+  kind_fits (Some f) i token h l = param_fits f i (declared_at w.names.declared (at w token)) h l
+
+  numbered_fits : (f : Option Skel) (token : ℕ) (role : Role) → SomeSkelIn k f →
+      ParamFits w k.starts k.function (declared_at w.names.declared (at w token)) →
+      AllFit (sys k) (row_at w (numbered_row f role) token)
+  numbered_fits f token typedef_role h l = tt
+  numbered_fits f token object_role h l = tt
+  numbered_fits f token function_role h l = tt
+  numbered_fits f token (parameter_role i) h l = kind_fits f i token h l
+  numbered_fits f token (field_role n i) h l = tt
+  numbered_fits f token enumerator_role h l = tt
+
+  identified_fits : (f : Option Skel) (token : ℕ) (d : Option Declared) → SomeSkelIn k f →
+      ParamFits w k.starts k.function (declared_at w.names.declared (at w token)) →
+      AllFit (sys k) (row_at w (identified_by f d) token)
+  identified_fits f token None h l = tt
+  identified_fits f token (Some d) h l = numbered_fits f token d.role h l
+
   naming_fits : (token : ℕ) (it : Naming) → NamingFits w k.starts k.function token it →
-      AllFit (sys k) (row_at w (naming_row w it) token)
+      AllFit (sys k) (row_at w (naming_row w it token) token)
   naming_fits token a_name h = some_declared_fits (declared_at w.names.declared (at w token)) h
   naming_fits token (own_param g n) h =
       some_param_fits (function_skeleton w g) n token (function_in k g h.0) h.1
   naming_fits token other_param h = tt
+  naming_fits token (identified_param g) h =
+      identified_fits (function_skeleton w g) token (declared_at w.names.declared (at w token)) (function_in k g h.0) h.1
 
   spec_fits : (op : SpecOp) → AllFit (sys k) (spec_row w op)
   spec_fits (specs.UnnamedMember token) = form_here token
@@ -467,4 +563,4 @@ module _ (k : Setting) where
       (tape_fits tape (step w st op) (step_in st op h fit.0) (step_body st op b fit.0) fit.1)
 
   pub nothing_in : StacksIn k nothing
-  nothing_in = record { operands = tt; leaves = tt; braces = tt; literal = none_in k }
+  nothing_in = record { operands = tt; leaves = tt; braces = tt; literal = none_in k; carried = none_in k }

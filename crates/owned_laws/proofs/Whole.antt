@@ -2,13 +2,13 @@
 use Rattle.std.proofs.Common.{◌≡◌, ℕ, zero, suc, All, map, true, false, Bool, List, [], ◌∷◌, ◌++◌, Option, None, Some, refl, sym, ◌∙◌, ap, subst, append_assoc, append-nil, arith}
 use Rattle.std.specs.List.{Contains}
 use Rattle.std.proofs.lemmas.List.Elements.{All-nil, All-cons, All-head, All-tail}
-use Rattle.std.specs.Prelude.{if◌then◌else◌}
+use Rattle.std.specs.Prelude.{◌+◌, ◌≤◌, max, if◌then◌else◌}
 use Rattle.flow_graph.specs.System.{IsWellOwned}
 use Rattle.qual_types.specs.Skel.{nodes}
 use Rattle.flow_rules.specs.Owners.{AllOwned}
 use Rattle.tape_ops.specs.declared.op.Op.{Op}
 use Rattle.c_tree.specs.declared.lexeme.Lexeme.{Lexeme}
-use Rattle.c_tree.specs.Unit.{Item, IsItem}
+use Rattle.c_tree.specs.Unit.{Item, IsItem, IsUnit, item_height, unit_height}
 use Rattle.c_tape.specs.Tape.{item_tape, tape_of}
 use Rattle.name_rules.specs.Spellings.{Spelling, Place}
 use Rattle.name_rules.specs.Scopes.{Role, function_role, Declared, declared_at, Names, is_place}
@@ -16,6 +16,7 @@ use Rattle.name_rules.specs.Linking.{link_of}
 use Rattle.type_rules.specs.Program.{Source, names_of}
 use Rattle.shape_steps.specs.State as shapes
 use Rattle.row_rules.specs.Starting.{Start, is_function_role}
+use Rattle.row_rules.specs.Annotations.{has_access}
 use Rattle.row_rules.specs.Worlds.{World, numbered_from, skeleton_among}
 use Rattle.row_rules.specs.Sites.{AreDifferent, first_place, functions_among, functions_of, has_place, is_first_function, owner_by}
 use Rattle.row_steps.specs.Rounds.{file}
@@ -147,40 +148,73 @@ some_at s (x ∷ xs) p it h is = by (is_place x.at p) is (some_at s xs p it h.1)
         let same : x ≡ it = cc in (h.0.0, subst (λ (y : Start). IsPlaced s h.0.0 y) same h.0.1)
     by false is more = more is
 
+-- units of one item, and of the items behind the first
+
+one_low : (h k : ℕ) → max h k ≤ 500 → max h 1 ≤ 500
+one_low h k low = omega (arith, low)
+
+others_low : (h k : ℕ) → max h k ≤ 500 → k ≤ 500
+others_low h k low = omega (arith, low)
+
+one_unit : (all : List Lexeme) (item : Item) (items : List Item) → IsUnit all (item ∷ items) → IsUnit all (item ∷ [])
+one_unit all item items h = record {
+  parts = All-cons (IsItem all) item [] (All-head (IsItem all) item items h.parts) (All-nil (IsItem all));
+  low = one_low (item_height item + 1) (unit_height items) h.low;
+}
+
+other_units : (all : List Lexeme) (item : Item) (items : List Item) → IsUnit all (item ∷ items) → IsUnit all items
+other_units all item items h = record {
+  parts = All-tail (IsItem all) item items h.parts;
+  low = others_low (item_height item + 1) (unit_height items) h.low;
+}
+
+first_item : (all : List Lexeme) (item : Item) (items : List Item) → IsUnit all (item ∷ items) → IsItem all item
+first_item all item items h = All-head (IsItem all) item items h.parts
+
 module _ (law : Laws) where
-  item_begins : (u : Spelling) (s : Names) (item : Item) → unit_starts u s (item_tape item) ≡ item_starts u s item
-  item_begins u s item =
-      ap (unit_starts u s) (sym (append-nil (item_tape item)))
-      ∙ (law.begins u s (item ∷ []) ∙ append-nil (item_starts u s item))
+  item_begins : (access : Bool) (u : Spelling) (s : Names) (all : List Lexeme) (item : Item) → IsUnit all (item ∷ []) →
+      unit_starts access u s (item_tape item) ≡ item_starts access u s item
+  item_begins access u s all item one =
+      ap (unit_starts access u s) (sym (append-nil (item_tape item)))
+      ∙ (law.begins access u s all (item ∷ []) one ∙ append-nil (item_starts access u s item))
 
-  item_rows : (w : World) (item : Item) → w.own ≡ None → unit_rows w (item_tape item) ≡ item_demand w item
-  item_rows w item outside =
+  item_rows : (w : World) (all : List Lexeme) (item : Item) → IsUnit all (item ∷ []) → w.own ≡ None →
+      unit_rows w (item_tape item) ≡ item_demand w item
+  item_rows w all item one outside =
       ap (unit_rows w) (sym (append-nil (item_tape item)))
-      ∙ (law.rows w (item ∷ []) outside ∙ append-nil (item_demand w item))
+      ∙ (law.rows w all (item ∷ []) one outside ∙ append-nil (item_demand w item))
 
-  unit_kept : (u : Spelling) (s : Names) (items : List Item) →
-      Kept (key_places u (tape_of items)) (items_starts u s items)
-  unit_kept u s items =
-      subst (Kept (key_places u (tape_of items))) (law.begins u s items)
-      (tape_kept u s (tape_of items) shapes.nothing file)
+  unit_kept : (access : Bool) (u : Spelling) (s : Names) (all : List Lexeme) (items : List Item) → IsUnit all items →
+      Kept (key_places u (tape_of items)) (items_starts access u s items)
+  unit_kept access u s all items unit =
+      subst (Kept (key_places u (tape_of items))) (law.begins access u s all items unit)
+      (tape_kept u s (tape_of items) shapes.nothing (file access))
 
-  item_kept : (u : Spelling) (s : Names) (item : Item) → Kept (key_places u (item_tape item)) (item_starts u s item)
-  item_kept u s item =
-      subst (Kept (key_places u (item_tape item))) (item_begins u s item)
-      (tape_kept u s (item_tape item) shapes.nothing file)
+  item_kept : (access : Bool) (u : Spelling) (s : Names) (all : List Lexeme) (item : Item) → IsUnit all (item ∷ []) →
+      Kept (key_places u (item_tape item)) (item_starts access u s item)
+  item_kept access u s all item one =
+      subst (Kept (key_places u (item_tape item))) (item_begins access u s all item one)
+      (tape_kept u s (item_tape item) shapes.nothing (file access))
 
-  sources_kept : (s : Names) (sources : List Source) → Kept (keys_among sources) (starts_among s sources)
-  sources_kept s [] = none_kept
-  sources_kept s (it ∷ sources) =
-      joined_kept (key_places it.spelling (tape_of it.items)) (keys_among sources) (items_starts it.spelling s it.items)
-      (starts_among s sources) (unit_kept it.spelling s it.items) (sources_kept s sources)
+  sources_kept : (access : Bool) (s : Names) (sources : List Source) → All IsRead sources →
+      Kept (keys_among sources) (starts_among access s sources)
+  sources_kept access s [] read = none_kept
+  sources_kept access s (it ∷ sources) read =
+      let unit = All-head IsRead it sources read in
+      joined_kept (key_places it.spelling (tape_of it.items)) (keys_among sources) (items_starts access it.spelling s it.items)
+      (starts_among access s sources) (unit_kept access it.spelling s unit.all it.items unit.rules)
+      (sources_kept access s sources (All-tail IsRead it sources read))
 
   module _ (p : Program) (read : All IsRead p.sources) (units : UnitsDiffer p.sources) where
     abbrev s : Names
     s = names_of p.sources
 
+    -- whether some lattice bounds accesses
+    abbrev access : Bool
+    access = has_access p.lattices
+
     abbrev starts : List Start
-    starts = starts_of p.sources
+    starts = starts_of access p.sources
 
     abbrev functions : List Place
     functions = functions_of s
@@ -202,29 +236,30 @@ module _ (law : Laws) where
     abbrev function_of : Source → Item → Option Place
     function_of it item = function_at it.spelling s (function_token item)
 
-    item_placed : (it : Source) (item : Item) → DeclaresIts item → KeysAreApart it.spelling s (item_tape item) →
-        AllPlaced s (function_of it item) (item_starts it.spelling s item)
-    item_placed it item declares apart =
-        subst (AllPlaced s (function_of it item)) (item_begins it.spelling s item)
-        (tape_placed (world_of p it) (function_token item) (item_tape item) shapes.nothing nothing refl
+    item_placed : (it : Source) (lexemes : List Lexeme) (item : Item) → IsUnit lexemes (item ∷ []) → DeclaresIts item →
+        KeysAreApart it.spelling s (item_tape item) → AllPlaced s (function_of it item) (item_starts access it.spelling s item)
+    item_placed it lexemes item one declares apart =
+        subst (AllPlaced s (function_of it item)) (item_begins access it.spelling s lexemes item one)
+        (tape_placed access (world_of p it) (function_token item) (item_tape item) shapes.nothing nothing refl
         (contexts_along law.bracketed (world_of p it) item declares) apart)
 
-    items_some : (it : Source) (all : List Lexeme) (items : List Item) → All (IsItem all) items →
-        KeysAreApart it.spelling s (tape_of items) → AllSome s (items_starts it.spelling s items)
+    items_some : (it : Source) (all : List Lexeme) (items : List Item) → IsUnit all items →
+        KeysAreApart it.spelling s (tape_of items) → AllSome s (items_starts access it.spelling s items)
     items_some it all [] rules apart = tt
     items_some it all (item ∷ items) rules apart =
-        some_joined s (item_starts it.spelling s item) (items_starts it.spelling s items)
-        (some_of s (function_of it item) (item_starts it.spelling s item)
-        (item_placed it item (declares_its all item (All-head (IsItem all) item items rules))
+        some_joined s (item_starts access it.spelling s item) (items_starts access it.spelling s items)
+        (some_of s (function_of it item) (item_starts access it.spelling s item)
+        (item_placed it all item (one_unit all item items rules) (declares_its all item (first_item all item items rules))
         (apart_left it.spelling s (item_tape item) (tape_of items) apart)))
-        (items_some it all items (All-tail (IsItem all) item items rules)
+        (items_some it all items (other_units all item items rules)
         (apart_right it.spelling s (item_tape item) (tape_of items) apart))
 
-    sources_some : (sources : List Source) → All IsRead sources → AllApart s sources → AllSome s (starts_among s sources)
+    sources_some : (sources : List Source) → All IsRead sources → AllApart s sources →
+        AllSome s (starts_among access s sources)
     sources_some [] h apart = tt
     sources_some (it ∷ sources) h apart =
-        some_joined s (items_starts it.spelling s it.items) (starts_among s sources)
-        (items_some it (All-head IsRead it sources h).all it.items (All-head IsRead it sources h).rules.parts apart.0)
+        some_joined s (items_starts access it.spelling s it.items) (starts_among access s sources)
+        (items_some it (All-head IsRead it sources h).all it.items (All-head IsRead it sources h).rules apart.0)
         (sources_some sources (All-tail IsRead it sources h) apart.1)
 
     apart_all : AllApart s p.sources
@@ -236,32 +271,32 @@ module _ (law : Laws) where
       starts = starts;
       placed = λ q x is. some_at s starts q x (sources_some p.sources read apart_all) is;
       first = first;
-      functions = functions_begin s starts law.bracketed law.begins p.sources sound (law.names p.sources sound) refl;
+      functions = functions_begin s starts law.bracketed law.begins access p.sources sound (law.names p.sources sound) refl;
     }
 
     settled : (it : Source) → Settled starts (world_of p it)
     settled it = record {
       knows = record { skeletons_are = refl; sites_are = refl };
-      sites_differ = (sources_kept s p.sources).differ differ;
+      sites_differ = (sources_kept access s p.sources read).differ differ;
       members = members (scene it);
     }
 
     -- an item, with the skeletons before and behind it
-    module _ (it : Source) (item : Item) (xs zs : List Start) (ps rs : List Place) (before : Kept ps xs)
-        (behind : Kept rs zs) (all : xs ++ (item_starts it.spelling s item ++ zs) ≡ starts)
+    module _ (it : Source) (lexemes : List Lexeme) (item : Item) (one : IsUnit lexemes (item ∷ [])) (xs zs : List Start) (ps rs : List Place) (before : Kept ps xs)
+        (behind : Kept rs zs) (all : xs ++ (item_starts access it.spelling s item ++ zs) ≡ starts)
         (apart : AreDifferent (ps ++ (key_places it.spelling (item_tape item) ++ rs))) where
       keys : List Place
       keys = key_places it.spelling (item_tape item)
 
       -- at its places its skeletons alone
       here : (q : Place) → has_place (key_places it.spelling (item_tape item)) q ≡ true →
-          start_at starts q ≡ start_at (item_starts it.spelling s item) q
+          start_at starts q ≡ start_at (item_starts access it.spelling s item) q
       here q has =
           ap (λ (ys : List Start). start_at ys q) (sym all)
-          ∙ (none_before xs (item_starts it.spelling s item ++ zs) q
+          ∙ (none_before xs (item_starts access it.spelling s item ++ zs) q
           (before.begins q (differ_before ps (key_places it.spelling (item_tape item) ++ rs) q apart
           (has_left (key_places it.spelling (item_tape item)) rs q has)))
-          ∙ none_behind (item_starts it.spelling s item) zs q
+          ∙ none_behind (item_starts access it.spelling s item) zs q
           (behind.begins q (differ_apart (key_places it.spelling (item_tape item)) rs q
           (differ_right ps (key_places it.spelling (item_tape item) ++ rs) apart) has)))
 
@@ -270,8 +305,8 @@ module _ (law : Laws) where
       item_scene declares keys_apart stays = record {
         token = function_token item;
         keys = key_places it.spelling (item_tape item);
-        placed = λ q x has is. placed_at s (function_of it item) (item_starts it.spelling s item) q x
-            (item_placed it item declares keys_apart) (sym (here q has) ∙ is);
+        placed = λ q x has is. placed_at s (function_of it item) (item_starts access it.spelling s item) q x
+            (item_placed it lexemes item one declares keys_apart) (sym (here q has) ∙ is);
         stays = stays;
       }
 
@@ -281,29 +316,30 @@ module _ (law : Laws) where
       item_fits declares keys_apart stays =
           law.tapes functions starts (demands_among p p.sources) (world_of p it) (function_of it item) (item_tape item)
           (settled it)
-          (along (scene it) (item_scene declares keys_apart stays) (item_tape item) shapes.nothing nothing refl
+          (along (scene it) (item_scene declares keys_apart stays) access (item_tape item) shapes.nothing nothing refl
           (λ q has. has) (contexts_along law.bracketed (world_of p it) item declares) tt tt
-          (subst (λ (ys : List Start). ExactAlong it.spelling s ys shapes.nothing file (item_tape item))
-          (ap (λ (ys : List Start). xs ++ (ys ++ zs)) (item_begins it.spelling s item) ∙ all)
-          (exact it.spelling s (item_tape item) shapes.nothing file xs zs ps rs before behind apart)))
+          (subst (λ (ys : List Start). ExactAlong it.spelling s ys shapes.nothing (file access) (item_tape item))
+          (ap (λ (ys : List Start). xs ++ (ys ++ zs)) (item_begins access it.spelling s lexemes item one) ∙ all)
+          (exact it.spelling s (item_tape item) shapes.nothing (file access) xs zs ps rs before behind apart)))
 
     items_fit : (it : Source) (lexemes : List Lexeme) (items : List Item) (xs zs : List Start) (ps rs : List Place) →
-        Kept ps xs → Kept rs zs → xs ++ (items_starts it.spelling s items ++ zs) ≡ starts →
-        AreDifferent (ps ++ (key_places it.spelling (tape_of items) ++ rs)) → All (IsItem lexemes) items →
+        Kept ps xs → Kept rs zs → xs ++ (items_starts access it.spelling s items ++ zs) ≡ starts →
+        AreDifferent (ps ++ (key_places it.spelling (tape_of items) ++ rs)) → IsUnit lexemes items →
         KeysAreApart it.spelling s (tape_of items) → ItemsStay it.spelling s items →
         AllFit (system_of p) (items_demand (world_of p it) items)
     items_fit it lexemes [] xs zs ps rs h l e d rules keys_apart stay = tt
     items_fit it lexemes (item ∷ items) xs zs ps rs h l e d rules keys_apart stay =
         law.lists (system_of p) (item_demand w item) (items_demand w items)
-        (subst (AllFit (system_of p)) (item_rows w item refl)
-        (item_fits it item xs (more ++ zs) ps (others ++ rs) h (joined_kept others rs more zs (unit_kept u s items) l)
+        (subst (AllFit (system_of p)) (item_rows w lexemes item one refl)
+        (item_fits it lexemes item one xs (more ++ zs) ps (others ++ rs) h
+        (joined_kept others rs more zs (unit_kept access u s lexemes items (other_units lexemes item items rules)) l)
         (ap (λ (ys : List Start). xs ++ ys) (sym (append_assoc here_ more zs)) ∙ e)
         (subst AreDifferent (ap (λ (qs : List Place). ps ++ qs) (append_assoc keys_ others rs)) apart)
-        (declares_its lexemes item (All-head (IsItem lexemes) item items rules))
+        (declares_its lexemes item (first_item lexemes item items rules))
         (apart_left u s (item_tape item) (tape_of items) keys_apart) stay.0))
         (items_fit it lexemes items (xs ++ here_) zs (ps ++ keys_) rs
-        (joined_kept ps keys_ xs here_ h (item_kept u s item)) l (regroup xs here_ more zs ∙ e)
-        (subst AreDifferent (sym (regroup ps keys_ others rs)) apart) (All-tail (IsItem lexemes) item items rules)
+        (joined_kept ps keys_ xs here_ h (item_kept access u s lexemes item one)) l (regroup xs here_ more zs ∙ e)
+        (subst AreDifferent (sym (regroup ps keys_ others rs)) apart) (other_units lexemes item items rules)
         (apart_right u s (item_tape item) (tape_of items) keys_apart) stay.1)
       where
         w : World
@@ -313,10 +349,13 @@ module _ (law : Laws) where
         u = it.spelling
 
         here_ : List Start
-        here_ = item_starts it.spelling s item
+        here_ = item_starts access it.spelling s item
 
         more : List Start
-        more = items_starts it.spelling s items
+        more = items_starts access it.spelling s items
+
+        one : IsUnit lexemes (item ∷ [])
+        one = one_unit lexemes item items rules
 
         keys_ : List Place
         keys_ = key_places it.spelling (item_tape item)
@@ -329,18 +368,18 @@ module _ (law : Laws) where
             (keys_joined it.spelling (item_tape item) (tape_of items)) d
 
     sources_fit : (sources : List Source) (xs : List Start) (ps : List Place) → Kept ps xs →
-        xs ++ starts_among s sources ≡ starts → AreDifferent (ps ++ keys_among sources) → All IsRead sources →
+        xs ++ starts_among access s sources ≡ starts → AreDifferent (ps ++ keys_among sources) → All IsRead sources →
         AllApart s sources → SourcesStay s sources → AllFit (system_of p) (demands_among p sources)
     sources_fit [] xs ps h e d rules keys_apart stay = tt
     sources_fit (it ∷ sources) xs ps h e d rules keys_apart stay =
         law.lists (system_of p) (items_demand (world_of p it) it.items) (demands_among p sources)
-        (items_fit it (All-head IsRead it sources rules).all it.items xs (starts_among s sources) ps (keys_among sources) h
-        (sources_kept s sources) e d (All-head IsRead it sources rules).rules.parts keys_apart.0 stay.0)
-        (sources_fit sources (xs ++ items_starts it.spelling s it.items)
+        (items_fit it (All-head IsRead it sources rules).all it.items xs (starts_among access s sources) ps (keys_among sources) h
+        (sources_kept access s sources (All-tail IsRead it sources rules)) e d (All-head IsRead it sources rules).rules keys_apart.0 stay.0)
+        (sources_fit sources (xs ++ items_starts access it.spelling s it.items)
         (ps ++ key_places it.spelling (tape_of it.items))
-        (joined_kept ps (key_places it.spelling (tape_of it.items)) xs (items_starts it.spelling s it.items) h
-        (unit_kept it.spelling s it.items))
-        (append_assoc xs (items_starts it.spelling s it.items) (starts_among s sources) ∙ e)
+        (joined_kept ps (key_places it.spelling (tape_of it.items)) xs (items_starts access it.spelling s it.items) h
+        (unit_kept access it.spelling s (All-head IsRead it sources rules).all it.items (All-head IsRead it sources rules).rules))
+        (append_assoc xs (items_starts access it.spelling s it.items) (starts_among access s sources) ∙ e)
         (subst AreDifferent
         (sym (append_assoc ps (key_places it.spelling (tape_of it.items)) (keys_among sources))) d)
         (All-tail IsRead it sources rules) keys_apart.1 stay.1)

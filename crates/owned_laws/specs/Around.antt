@@ -22,7 +22,7 @@ use Rattle.shape_steps.specs.State.{declared_last}
 use Rattle.row_rules.specs.Starting.{Start, is_some_function}
 use Rattle.row_rules.specs.Worlds.{World, at}
 use Rattle.row_rules.specs.Sites.{AreDifferent, site_places}
-use Rattle.row_steps.specs.Rounds.{Naming, a_name, own_param, other_param, naming, is_quiet}
+use Rattle.row_steps.specs.Rounds.{Naming, a_name, own_param, other_param, identified_param, naming, is_quiet}
 use Rattle.row_steps.specs.State.{State}
 use Rattle.owner_laws.specs.Fitting.{start_at}
 use Rattle.owner_laws.specs.Rows.{KnowsStarts, IsInstance}
@@ -78,6 +78,8 @@ NamingFits w starts f token a_name = DeclaredFits w starts (declared_at w.names.
 NamingFits w starts f token (own_param g n) =
     FunctionFits w starts f g × ParamFits w starts f (declared_at w.names.declared (at w token))
 NamingFits w starts f token other_param = Unit {0}
+NamingFits w starts f token (identified_param g) =
+    FunctionFits w starts f g × ParamFits w starts f (declared_at w.names.declared (at w token))
 
 -- what an initialiser initialises, by what was declared first of it
 abbrev pub InitFits : List Start → Option Place → Declared → Role → Type 0
@@ -112,13 +114,14 @@ ExprFits w starts f st (exprs.Comma token) = Unit {0}
 ExprFits w starts f st (exprs.Assign sign token first last) = Unit {0}
 ExprFits w starts f st (exprs.Cond has_middle token first last) = BeginsIn starts f (at w token)
 ExprFits w starts f st (exprs.Binary sign token first last) = BeginsIn starts f (at w token)
-ExprFits w starts f st (exprs.Prefix sign token last) = BeginsIn starts f (at w token)
+ExprFits w starts f st (exprs.Prefix sign token last aims) = BeginsIn starts f (at w token)
 ExprFits w starts f st (exprs.Post sign token first) = Unit {0}
-ExprFits w starts f st (exprs.Index token first last) = Unit {0}
+ExprFits w starts f st (exprs.Index token first last aims) = Unit {0}
 ExprFits w starts f st (exprs.Arg behind first last) = Unit {0}
 ExprFits w starts f st (exprs.Call token count) = Unit {0}
-ExprFits w starts f st (exprs.Arrow token first last) = Unit {0}
+ExprFits w starts f st (exprs.Arrow token first last aims) = Unit {0}
 ExprFits w starts f st (exprs.Dot token member name) = Unit {0}
+ExprFits w starts f st (exprs.Label token) = BeginsIn starts f (at w token)
 
 abbrev pub FormFits : World → List Start → Option Place → FormOp → Type 0
 FormFits w starts f (forms.Cast token last) = BeginsIn starts f (at w token)
@@ -130,6 +133,11 @@ FormFits w starts f (forms.VaCopy token last) = BeginsIn starts f (at w token)
 FormFits w starts f (forms.OffsetMember token name) = Unit {0}
 FormFits w starts f (forms.OffsetIndex token) = Unit {0}
 FormFits w starts f (forms.Offset token) = BeginsIn starts f (at w token)
+FormFits w starts f (forms.Compat token) = BeginsIn starts f (at w token)
+FormFits w starts f forms.Control = Unit {0}
+FormFits w starts f forms.NoType = Unit {0}
+FormFits w starts f (forms.Choose token) = BeginsIn starts f (at w token)
+FormFits w starts f (forms.Generic token count) = BeginsIn starts f (at w token)
 
 abbrev pub InitOpFits : World → List Start → Option Place → State → InitOp → Type 0
 InitOpFits w starts f st (inits.Value first last) = InitialisedFits w starts f (declared_last st.declarations)
@@ -153,6 +161,10 @@ DeclrFits w starts f st declrs.Pointer = Unit {0}
 DeclrFits w starts f st declrs.Array = Unit {0}
 DeclrFits w starts f st (declrs.Function has_ellipsis) = Unit {0}
 DeclrFits w starts f st declrs.Declare = Unit {0}
+DeclrFits w starts f st declrs.AutoBegin = Unit {0}
+DeclrFits w starts f st (declrs.AutoEnd token) = Unit {0}
+DeclrFits w starts f st (declrs.Identifier token name) = Unit {0}
+DeclrFits w starts f st declrs.OldParam = Unit {0}
 DeclrFits w starts f st declrs.Member = Unit {0}
 DeclrFits w starts f st (declrs.TypeName first) = Unit {0}
 DeclrFits w starts f st declrs.DeclarationEnd = Unit {0}

@@ -8,14 +8,17 @@ use Rattle.c_tree.specs.Unit.{Item}
 use Rattle.c_tape.specs.Tape.{item_tape}
 use Rattle.shape_steps.specs.State.{declared_last}
 use Rattle.row_rules.specs.Worlds.{World}
-use Rattle.row_steps.specs.Rounds.{Naming, own_param, naming}
+use Rattle.row_steps.specs.Rounds.{Naming, a_name, own_param, other_param, identified_param, naming}
 use Rattle.row_steps.specs.State.{State, nothing}
 use Rattle.row_steps.specs.Steps.{step}
 use Rattle.tape_laws.specs.Marks.{function_token, DeclaresIts}
 
 -- own parameters are those of the function whose name is at the token
 abbrev pub NamingIsOf : Option ℕ → Naming → Type 0
-NamingIsOf t names = (g : Option ℕ) (n : ℕ) → names ≡ own_param g n → g ≡ t
+NamingIsOf t a_name = Unit {0}
+NamingIsOf t (own_param g n) = g ≡ t
+NamingIsOf t other_param = Unit {0}
+NamingIsOf t (identified_param g) = g ≡ t
 
 -- a body is that of the function whose name is at the token
 abbrev pub BodyIsOf : Option ℕ → Option ℕ → Type 0

@@ -9,6 +9,7 @@ use Rattle.name_rules.specs.Spellings.{Place}
 use Rattle.name_rules.specs.Scopes.{function_role, Declared, declared_at}
 use Rattle.name_rules.specs.Linking.{link_of}
 use Rattle.type_rules.specs.Program.{names_of}
+use Rattle.row_rules.specs.Annotations.{has_access}
 use Rattle.row_rules.specs.Sites.{functions_of, has_place, owner_by}
 use Rattle.row_rules.specs.Worlds.{numbered_from, skeleton_among}
 use Rattle.constraint_rules.specs.Systems.{Program, starts_of, system_of}
@@ -18,7 +19,7 @@ use Rattle.key_laws.specs.Differing.{IsRead, UnitsDiffer}
 pub record OwnsIts (p : Program) (q : Place) : Type 0 where
   pub numbered : has_place (functions_of (names_of p.sources)) (link_of (names_of p.sources) q) ≡ true
   pub owned : AllOwned (owner_of (system_of p)) (owner_by (functions_of (names_of p.sources)) (Some (link_of (names_of p.sources) q)))
-      (nodes (skeleton_among (numbered_from 0 (starts_of p.sources)) q))
+      (nodes (skeleton_among (numbered_from 0 (starts_of (has_access p.lattices) p.sources)) q))
 
 -- of units that were read, no two with one number
 abbrev pub FunctionsOwnTheirs : Type 0

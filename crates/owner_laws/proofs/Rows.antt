@@ -24,14 +24,14 @@ use Rattle.name_rules.specs.Values.{own_of}
 use Rattle.row_rules.specs.Starting.{is_some_function}
 use Rattle.row_rules.specs.Forming.{Ways, ways_in, in_some, pointing, into_member, into_members, formed_in, all_formed_in, formed}
 use Rattle.row_rules.specs.Worlds.{World, all_lattices, constraint, constraints, word_span, skeleton}
-use Rattle.row_rules.specs.Annotations.{Annotation, entry_at, signed, links_of_entry, alone, marked, annotation_constraints, annotated, annotating, bounds_of, bounds_from, write_bounds, deref_bounds, uncut, parameters}
-use Rattle.row_rules.specs.Vals.{Val, contents, is_empty, is_fun, is_nothing, is_ref, result, value, read}
-use Rattle.row_rules.specs.Rows.{flowing, dereferenced, is_plus_or_minus, assigned, is_logical, prefixed, passed, cast_demand, returned, annotating_name, branched, casting, formed_name, plain_name_row, plain_param_row, name_row, into_param, param_row, started, taken, equal_to, tied_to}
+use Rattle.row_rules.specs.Annotations.{Annotation, entry_at, signed, links_of_entry, alone, marked, annotation_constraints, annotated, annotating, bounds_of, bounds_from, write_bounds, deref_bounds, derefs_where, access_lattices, uncut, parameters}
+use Rattle.row_rules.specs.Vals.{Val, Candidate, is_vector_index, contents, is_empty, is_fun, is_nothing, is_ref, result, value, read}
+use Rattle.row_rules.specs.Rows.{flowing, dereferenced, index_demand, carrying, carried, picking, picked, is_plus_or_minus, assigned, is_logical, prefixed, passed, cast_demand, returned, annotating_name, branched, casting, formed_name, plain_name_row, plain_param_row, name_row, into_param, param_row, started, taken, equal_to, tied_to}
 use Rattle.row_rules.specs.Indexing.{indexing}
 use Rattle.name_rules.specs.Values.{is_additive}
 use Rattle.name_rules.specs.Scopes.{Declared, Own, declared_at, is_place}
 use Rattle.owner_laws.specs.Fitting.{AllFit}
-use Rattle.owner_laws.specs.Rows.{Inside, SomeInside, SomeIn, PartsInside, AllPartsInside, MembersInside, RowsFit}
+use Rattle.owner_laws.specs.Rows.{Inside, SomeInside, AllInside, SomeIn, PartsInside, AllPartsInside, MembersInside, RowsFit}
 use Rattle.owner_laws.proofs.Fitting.{lists_fit, staying_fits, parts_stay, front, back}
 use Rattle.owner_laws.proofs.Indexing.{indexing_fits, root_in}
 
@@ -122,10 +122,15 @@ module _ (sys : System) where
   writes_fit : (w : World) (v : ℕ) (where_ : Span) → AllFit sys (write_bounds w v where_)
   writes_fit w v where_ = views_fit (λ entry. entry.write) v where_ 0 w.lattices
 
-  dereferenced_fit : (w : World) (s : Skel) (where_ : Span) → AllFit sys (dereferenced w s where_)
-  dereferenced_fit w s where_ =
-      none_where (is_fun (contents s)) (deref_bounds w (root s) where_)
-      (views_fit (λ entry. entry.deref) (root s) where_ 0 w.lattices)
+  dereferenced_fit : (w : World) (s : Skel) (aims : Bool) (where_ : Span) → AllFit sys (dereferenced w s aims where_)
+  dereferenced_fit w s aims where_ =
+      none_where (is_fun (contents s)) (deref_bounds w (root s) aims where_)
+      (views_fit (λ entry. derefs_where aims entry.deref) (root s) where_ 0 w.lattices)
+
+  index_fits : (w : World) (a b : Skel) (aims : Bool) (where_ : Span) → AllFit sys (index_demand w a b aims where_)
+  index_fits w a b aims where_ =
+      none_where (is_vector_index w.spelling.wide a b) (dereferenced w (if is_ref a then a else b) aims where_)
+      (dereferenced_fit w (if is_ref a then a else b) aims where_)
 
   -- constants and bounds of annotation words
 
@@ -248,18 +253,65 @@ module _ (law : Flows) (sys : System) (owner : Owner) (w : World) where
       lists_fit sys (flowing first a t (all_lattices w) where_) (flowing last b t (all_lattices w) where_)
       (flowing_fits first a t (all_lattices w) where_ h l) (flowing_fits last b t (all_lattices w) where_ k l)
 
-  prefixed_fits : (p : Punct) (zero : Bool) (e : Val) (t : Skel) (where_ : Span) → Inside sys owner e.skel →
-      Inside sys owner t → AllFit sys (prefixed w p zero e t where_)
-  prefixed_fits signs.PlusPlus zero e t where_ h k = writes_fit sys w (root e.skel) where_
-  prefixed_fits signs.MinusMinus zero e t where_ h k = writes_fit sys w (root e.skel) where_
-  prefixed_fits signs.Star zero e t where_ h k = dereferenced_fit sys w (value e) where_
-  prefixed_fits signs.Plus zero e t where_ h k =
+  -- a pointer that carries another one
+
+  carrying_fits : (point t : Skel) (where_ : Span) → Inside sys owner point → Inside sys owner t →
+      AllFit sys (carrying w point t where_)
+  carrying_fits point t where_ h k =
+      none_or sys (is_nothing point || is_nothing t)
+      (constraint (access_lattices w.lattices) where_ (Le (root point) (root t)) ∷ []) (by h k)
+    where
+      by : Inside sys owner point → Inside sys owner t → ((is_nothing point || is_nothing t) ≡ true)
+          ⊎ AllFit sys (constraint (access_lattices w.lattices) where_ (Le (root point) (root t)) ∷ [])
+      by (inl e) k = inl (first_true (is_nothing point) (is_nothing t) e)
+      by (inr h) (inl e) = inl (last_true (is_nothing point) (is_nothing t) e)
+      by (inr h) (inr k) =
+          inr (
+            record {
+              owner = owner;
+              from = root_in (owner_of sys) owner point h;
+              to = root_in (owner_of sys) owner t k;
+            },
+            tt,
+          )
+
+  carried_fits : (place point t : Skel) (where_ : Span) → Inside sys owner place → Inside sys owner point →
+      Inside sys owner t → AllFit sys (formed w where_ t) → AllFit sys (carried w place point t where_)
+  carried_fits place point t where_ h k l f =
+      lists_fit sys (formed w where_ t) (flowing false place t (all_lattices w) where_ ++ carrying w point t where_) f
+      (lists_fit sys (flowing false place t (all_lattices w) where_) (carrying w point t where_)
+      (flowing_fits false place t (all_lattices w) where_ h l) (carrying_fits point t where_ k l))
+
+  -- picks
+
+  picking_fits : (left : List Candidate) (t : Skel) (where_ : Span) → AllInside sys owner left → Inside sys owner t →
+      AllFit sys (picking w left t where_)
+  picking_fits [] t where_ h k = tt
+  picking_fits (it ∷ others) t where_ h k =
+      lists_fit sys (flowing it.is_zero (value it.val) t (all_lattices w) where_) (picking w others t where_)
+      (flowing_fits it.is_zero (value it.val) t (all_lattices w) where_ (value_inside it.val h.0) k)
+      (picking_fits others t where_ h.1 k)
+
+  picked_fits : (left : List Candidate) (t : Skel) (where_ : Span) → AllInside sys owner left → Inside sys owner t →
+      AllFit sys (formed w where_ t) → AllFit sys (picked w left t where_)
+  picked_fits [] t where_ h k f = tt
+  picked_fits (it ∷ []) t where_ h k f = tt
+  picked_fits (it ∷ other ∷ others) t where_ h k f =
+      lists_fit sys (formed w where_ t) (picking w (it ∷ other ∷ others) t where_) f
+      (picking_fits (it ∷ other ∷ others) t where_ h k)
+
+  prefixed_fits : (p : Punct) (zero : Bool) (e : Val) (t : Skel) (aims : Bool) (where_ : Span) → Inside sys owner e.skel →
+      Inside sys owner t → AllFit sys (prefixed w p zero e t aims where_)
+  prefixed_fits signs.PlusPlus zero e t aims where_ h k = writes_fit sys w (root e.skel) where_
+  prefixed_fits signs.MinusMinus zero e t aims where_ h k = writes_fit sys w (root e.skel) where_
+  prefixed_fits signs.Star zero e t aims where_ h k = dereferenced_fit sys w (value e) aims where_
+  prefixed_fits signs.Plus zero e t aims where_ h k =
       flowing_fits zero (value e) t (all_lattices w) where_ (value_inside e h) k
-  prefixed_fits signs.Minus zero e t where_ h k =
+  prefixed_fits signs.Minus zero e t aims where_ h k =
       flowing_fits zero (value e) t (all_lattices w) where_ (value_inside e h) k
-  prefixed_fits signs.Tilde zero e t where_ h k =
+  prefixed_fits signs.Tilde zero e t aims where_ h k =
       flowing_fits zero (value e) t (all_lattices w) where_ (value_inside e h) k
-  prefixed_fits p zero e t where_ h k = tt
+  prefixed_fits p zero e t aims where_ h k = tt
 
   passed_fits : (zero : Bool) (a : Skel) (t : Option Skel) (e : Option ℕ) (where_ : Span) → Inside sys owner a →
       SomeInside sys owner t → SomeIn sys owner e → AllFit sys (passed w zero a t e where_)
@@ -410,6 +462,7 @@ rows_fit law sys owner w = record {
   annotations = λ t s. annotations_fit sys w (annotated w t s);
   writes = writes_fit sys w;
   dereference = dereferenced_fit sys w;
+  index = index_fits sys w;
   assignment = assigned_fits law sys owner w;
   operator = λ p first last a b t where_ h k l.
       none_where sys (is_logical p || (is_additive p && (is_ref a || is_ref b))) _
@@ -419,6 +472,8 @@ rows_fit law sys owner w = record {
       (lists_fit sys (formed w where_ t) (branched w a b t where_) f
       (both_flow law sys owner w false false a b t where_ h k l));
   prefix = prefixed_fits law sys owner w;
+  carry = carried_fits law sys owner w;
+  pick = picked_fits law sys owner w;
   argument = passed_fits law sys owner w;
   cast = cast_fits law sys owner w;
   returning = returned_fits law sys owner w;

@@ -1,5 +1,5 @@
 -- The constraints of each form fit where the skeletons of its parts belong to one owner or to nobody.
-use Rattle.std.specs.Prelude.{◌≡◌, ◌⊎◌, ℕ, Bool, true, List, slice_get, Option, None, Some}
+use Rattle.std.specs.Prelude.{◌≡◌, ◌⊎◌, ℕ, Bool, true, List, [], ◌∷◌, slice_get, Option, None, Some}
 use Rattle.c_words.specs.declared.kinds.Punct.{Punct}
 use Rattle.qual_base.specs.declared.places.Owner.{Owner}
 use Rattle.qual_base.specs.declared.places.Owner.TheVariants.{Nobody}
@@ -16,9 +16,9 @@ use Rattle.row_rules.specs.Starting.{Start, is_some_function}
 use Rattle.row_rules.specs.Worlds.{World, at, numbered_from, skeleton}
 use Rattle.row_rules.specs.Sites.{AreDifferent, owners_among, site_places, sites_among}
 use Rattle.row_rules.specs.Annotations.{annotating, parameters, write_bounds}
-use Rattle.row_rules.specs.Vals.{Val, contents, is_nothing, read, result}
+use Rattle.row_rules.specs.Vals.{Val, Candidate, contents, is_nothing, read, result}
 use Rattle.row_rules.specs.Forming.{formed}
-use Rattle.row_rules.specs.Rows.{dereferenced, assigned, computed, chosen, prefixed, passed, crossed, cast_demand, returned, flowing, equal_to, formed_name, name_row, param_row, started, taken}
+use Rattle.row_rules.specs.Rows.{dereferenced, index_demand, carried, picked, assigned, computed, chosen, prefixed, passed, crossed, cast_demand, returned, flowing, equal_to, formed_name, name_row, param_row, started, taken}
 use Rattle.owner_laws.specs.Fitting.{AllFit, start_at}
 
 -- it is no skeleton, or all of its variables belong to the owner or to nobody
@@ -39,6 +39,10 @@ abbrev pub SomeInside : System → Owner → Option Skel → Type 0
 SomeInside sys owner None = Unit {0}
 SomeInside sys owner (Some s) = Inside sys owner s
 
+abbrev pub AllInside : System → Owner → List Candidate → Type 0
+AllInside sys owner [] = Unit {0}
+AllInside sys owner (it ∷ others) = Inside sys owner it.val.skel × AllInside sys owner others
+
 abbrev pub SomeIn : System → Owner → Option ℕ → Type 0
 SomeIn sys owner None = Unit {0}
 SomeIn sys owner (Some v) = IsIn (owner_of sys) owner v
@@ -51,15 +55,20 @@ MembersInside sys w =
 pub record RowsOf (sys : System) (owner : Owner) (w : World) : Type 0 where
   pub annotations : (t : CType) (s : Skel) → AllFit sys (annotating w t s)
   pub writes : (v : ℕ) (where_ : Span) → AllFit sys (write_bounds w v where_)
-  pub dereference : (s : Skel) (where_ : Span) → AllFit sys (dereferenced w s where_)
+  pub dereference : (s : Skel) (aims : Bool) (where_ : Span) → AllFit sys (dereferenced w s aims where_)
+  pub index : (a b : Skel) (aims : Bool) (where_ : Span) → AllFit sys (index_demand w a b aims where_)
   pub assignment : (p : Punct) (zero : Bool) (a b : Skel) (where_ : Span) → Inside sys owner a →
       Inside sys owner b → AllFit sys (assigned w p zero a b where_)
   pub operator : (p : Punct) (first last : Bool) (a b t : Skel) (where_ : Span) → Inside sys owner a →
       Inside sys owner b → Inside sys owner t → AllFit sys (computed w p first last a b t where_)
   pub condition : (first last : Bool) (a b t : Skel) (where_ : Span) → Inside sys owner a → Inside sys owner b →
       Inside sys owner t → AllFit sys (formed w where_ t) → AllFit sys (chosen w first last a b t where_)
-  pub prefix : (p : Punct) (zero : Bool) (e : Val) (t : Skel) (where_ : Span) → Inside sys owner e.skel →
-      Inside sys owner t → AllFit sys (prefixed w p zero e t where_)
+  pub prefix : (p : Punct) (zero : Bool) (e : Val) (t : Skel) (aims : Bool) (where_ : Span) → Inside sys owner e.skel →
+      Inside sys owner t → AllFit sys (prefixed w p zero e t aims where_)
+  pub carry : (place by t : Skel) (where_ : Span) → Inside sys owner place → Inside sys owner by →
+      Inside sys owner t → AllFit sys (formed w where_ t) → AllFit sys (carried w place by t where_)
+  pub pick : (left : List Candidate) (t : Skel) (where_ : Span) → AllInside sys owner left → Inside sys owner t →
+      AllFit sys (formed w where_ t) → AllFit sys (picked w left t where_)
   pub argument : (zero : Bool) (a : Skel) (t : Option Skel) (e : Option ℕ) (where_ : Span) → Inside sys owner a →
       SomeInside sys owner t → SomeIn sys owner e → AllFit sys (passed w zero a t e where_)
   pub cast : (t : Option CType) (zero : Bool) (a s : Skel) (where_ : Span) → Inside sys owner a →

@@ -26,7 +26,15 @@ pub(crate) fn tokens_of<'a>(
     let bytes = source.as_bytes();
     assert!(rt; bytes.len() < 100000);
     let words = dollar_words(rt, alloc);
-    lex(alloc, UnitNo::new(unit), bytes, &words).expect(rt, "tokens")
+    lex(alloc, UnitNo::new(unit), false, bytes, &words).expect(rt, "tokens")
+}
+
+/// The tokens of a source of wider C.
+pub(crate) fn wide_tokens_of<'a>(rt: &impl Abort, alloc: Global, source: &'a str) -> Tokens<'a> {
+    let bytes = source.as_bytes();
+    assert!(rt; bytes.len() < 100000);
+    let words = dollar_words(rt, alloc);
+    lex(alloc, UnitNo::new(1), true, bytes, &words).expect(rt, "tokens")
 }
 
 /// The place of a token, and a code.

@@ -40,4 +40,6 @@ mod text;
 #[cfg(test)]
 mod trees;
 #[cfg(test)]
+mod wide;
+#[cfg(test)]
 mod words;

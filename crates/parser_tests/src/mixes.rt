@@ -72,7 +72,7 @@ fn has_tag(keyword: Keyword) -> bool {
 fn words_of(rt: &impl Abort, alloc: Global, source: &[u8]) -> Result<Vec<SpecWord>, AllocError> {
     assert!(rt; source.len() < 1000);
     let known = dollar_words(rt, alloc);
-    let tokens = lex(alloc, UnitNo::new(0), source, &known).expect(rt, "tokens");
+    let tokens = lex(alloc, UnitNo::new(0), false, source, &known).expect(rt, "tokens");
     let mut words = Vec::new(alloc);
     let mut is_tag = false;
     for at in 0..tokens.len() {

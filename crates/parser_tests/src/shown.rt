@@ -12,8 +12,8 @@ use crate::text::{
 };
 use c_lexer::Tokens;
 use c_syntax::{
-    ArraySize, Declr, Enum, Enumerator, Expr, Listed, Marked, MemDeclr, Param, SpecWord, Struct,
-    StructItem, TypeName,
+    ArraySize, Assoc, Declr, Enum, Enumerator, Expr, Identifier, Listed, Marked, MemDeclr, Param,
+    SpecWord, Struct, StructItem, TypeName,
 };
 
 #[cycle(shown)]
@@ -152,7 +152,58 @@ pub(crate) fn put_expr(text: &mut Text, tokens: &Tokens, e: &Expr) {
             put_designators(text, tokens, steps.as_slice());
             text.put(")");
         }
+        Expr::Part { keyword, operand } => {
+            text.put_token(tokens, *keyword);
+            put_between(text, tokens, "(", operand, ")");
+        }
+        Expr::LabelUse { label, .. } => {
+            text.put("&&");
+            text.put_token(tokens, label.token);
+        }
+        Expr::Compat { left, right, .. } => {
+            put_type_name(text, tokens, "compat(", left, "; ");
+            put_type_name(text, tokens, "", right, ")");
+        }
+        Expr::Choose {
+            condition,
+            first,
+            second,
+            ..
+        } => {
+            put_between(text, tokens, "choose(", condition, "; ");
+            put_between(text, tokens, "", first, "; ");
+            put_between(text, tokens, "", second, ")");
+        }
+        Expr::Generic {
+            control,
+            associations,
+            ..
+        } => {
+            put_between(text, tokens, "generic(", control, "");
+            put_associations(text, tokens, associations.as_slice());
+        }
     }
+}
+
+#[cycle(shown)]
+fn put_associations(text: &mut Text, tokens: &Tokens, associations: &[Assoc]) {
+    let mut is_first = true;
+    for it in associations {
+        text.put_before(is_first, "; ", ", ");
+        match it {
+            Assoc::Typed {
+                type_name,
+                value,
+                ..
+            } => {
+                put_type_name(text, tokens, "", type_name, ": ");
+                put_expr(text, tokens, value);
+            }
+            Assoc::Default { value, .. } => put_between(text, tokens, "default: ", value, ""),
+        }
+        is_first = false;
+    }
+    text.put(")");
 }
 
 /// The name of a type with what stands before and behind it.
@@ -213,7 +264,17 @@ fn put_word(text: &mut Text, tokens: &Tokens, word: &SpecWord) {
             text.put_token(tokens, name.token);
             text.put(">");
         }
-        SpecWord::Attr(attr) => put_attr(text, tokens, *attr),
+        SpecWord::Attr(attr) | SpecWord::Align(attr) => put_attr(text, tokens, *attr),
+        SpecWord::Typeof { operand, .. } => put_between(text, tokens, "typeof(", operand, ")"),
+        SpecWord::TypeofType {
+            keyword,
+            type_name,
+            ..
+        } => {
+            text.put_token(tokens, keyword.token);
+            put_type_name(text, tokens, "type(", type_name, ")");
+        }
+        SpecWord::Auto { token } => text.put_token(tokens, *token),
     }
 }
 
@@ -323,6 +384,12 @@ fn put_value(text: &mut Text, tokens: &Tokens, before: &str, value: &Option<Mark
 pub(crate) fn put_declr(text: &mut Text, tokens: &Tokens, declr: &Declr) {
     match declr {
         Declr::DeclName { token, .. } => text.put_token(tokens, *token),
+        Declr::BaseName { token } => text.put_token(tokens, *token),
+        Declr::Identifiers { inner, names, .. } => {
+            text.put("old(");
+            put_declr(text, tokens, inner);
+            put_identifiers(text, tokens, names.as_slice());
+        }
         Declr::DeclParen { attrs, inner, .. } | Declr::AbsParen { attrs, inner, .. } => {
             text.put("paren(");
             put_attrs(text, tokens, "", attrs.as_slice(), " ");
@@ -388,6 +455,16 @@ pub(crate) fn put_declr(text: &mut Text, tokens: &Tokens, declr: &Declr) {
             put_ellipsis(text, tokens, ellipsis);
         }
     }
+}
+
+pub(crate) fn put_identifiers(text: &mut Text, tokens: &Tokens, names: &[Identifier]) {
+    let mut is_first = true;
+    for name in names {
+        text.put_before(is_first, "; ", ", ");
+        text.put_token(tokens, name.token);
+        is_first = false;
+    }
+    text.put(")");
 }
 
 /// A declarator with what stands before it, or what stands where there is none.

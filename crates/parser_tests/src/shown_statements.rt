@@ -4,7 +4,7 @@
 //! `for(int i = 0; (i < n); (i)++; a;)`. A block is `{a; b;}`, a list of initialisers `{1, .a[2] = 3}`, a function
 //! `int fun(f; void) {}`. A row of tokens that says nothing here is written with nothing between them.
 
-use crate::shown::{put_between, put_declr, put_expr, put_words};
+use crate::shown::{put_between, put_declr, put_expr, put_identifiers, put_words};
 use crate::text::{Text, put_assert, put_attrs, put_extensions, put_group, put_label};
 use c_lexer::Tokens;
 use c_syntax::{
@@ -52,6 +52,14 @@ pub(crate) fn put_designators(text: &mut Text, tokens: &Tokens, designators: &[D
                 text.put_token(tokens, name.token);
             }
             Desig::Index { index, .. } => put_between(text, tokens, "[", index, "]"),
+            Desig::Range { first, last, .. } => {
+                put_between(text, tokens, "[", first, " ... ");
+                put_between(text, tokens, "", last, "]");
+            }
+            Desig::Old { name, .. } => {
+                text.put_token(tokens, name.token);
+                text.put(": ");
+            }
         }
     }
 }
@@ -74,6 +82,10 @@ pub(crate) fn put_block(text: &mut Text, tokens: &Tokens, block: &Block) {
         match item {
             BlockItem::Decl(decl) => put_decl(text, tokens, decl),
             BlockItem::Stmt(stmt) => put_stmt(text, tokens, stmt),
+            BlockItem::Labels { names, .. } => {
+                text.put("labels(");
+                put_identifiers(text, tokens, names.as_slice());
+            }
         }
         is_first = false;
     }
@@ -164,6 +176,17 @@ fn put_stmt(text: &mut Text, tokens: &Tokens, stmt: &Stmt) {
             put_some_expr(text, tokens, " ", value);
             text.put(";");
         }
+        Stmt::CaseRange {
+            first,
+            last,
+            body,
+            ..
+        } => {
+            put_between(text, tokens, "case(", first, " ... ");
+            put_between(text, tokens, "", last, "");
+            put_part(text, tokens, "; ", body, ")");
+        }
+        Stmt::GotoValue { value, .. } => put_between(text, tokens, "goto *", value, ";"),
         Stmt::Asm { words, group, .. } => {
             text.put("asm");
             for word in words.as_slice() {
@@ -247,6 +270,13 @@ fn put_decl(text: &mut Text, tokens: &Tokens, decl: &Decl) {
     }
 }
 
+fn put_declarations(text: &mut Text, tokens: &Tokens, declarations: &[Declaration]) {
+    for it in declarations {
+        put_declaration(text, tokens, it);
+        text.put(" ");
+    }
+}
+
 fn put_item(text: &mut Text, tokens: &Tokens, item: &Item) {
     match item {
         Item::Function {
@@ -262,6 +292,23 @@ fn put_item(text: &mut Text, tokens: &Tokens, item: &Item) {
             put_declr(text, tokens, declr);
             put_attrs(text, tokens, " ", attrs.as_slice(), "");
             text.put(" ");
+            put_block(text, tokens, body);
+        }
+        Item::OldFunction {
+            extensions,
+            specs,
+            declr,
+            attrs,
+            declarations,
+            body,
+        } => {
+            put_extensions(text, extensions.as_slice());
+            put_words(text, tokens, specs.words.as_slice());
+            text.put(" ");
+            put_declr(text, tokens, declr);
+            put_attrs(text, tokens, " ", attrs.as_slice(), "");
+            text.put(" ");
+            put_declarations(text, tokens, declarations.as_slice());
             put_block(text, tokens, body);
         }
         Item::Decl(it) => put_decl(text, tokens, it),

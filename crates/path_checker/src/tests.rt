@@ -18,7 +18,7 @@ use self::cases::{
 use crate::checking::{check, check_walk};
 use crate::report::read_report;
 use flow_graph::{Constraint, FlowGraph, Link, PathStep, Site, SubPath, Walk};
-use lattice_core::{Entry, Lattice, Lattices, Level, Name, Pair, Sign};
+use lattice_core::{Deref, Entry, Lattice, Lattices, Level, Name, Pair, Sign};
 use qual_base::{
     EdgeId, Elem, FuncId, LatticeNo, Numbered, Owner, SiteId, Span, TokenId, UnitNo, VarId,
 };
@@ -136,7 +136,7 @@ fn entry(alloc: Global, text: &[u8]) -> Result<Entry, Fail> {
         level: Level::Value,
         sign: Sign::Eq,
         write: false,
-        deref: false,
+        deref: Deref::No,
     })
 }
 

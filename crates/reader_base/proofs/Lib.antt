@@ -1,3 +1,5 @@
 pub mod Looping
 pub mod RowLoops
 pub mod BracketLoop
+mod NameLoop
+mod WordQuals

@@ -5,7 +5,7 @@ use Rattle.c_tree.specs.declared.lexeme.Lexeme.{Lexeme}
 use Rattle.c_syntax.specs.declared.parts.Attr.{Attr}
 use Rattle.c_units.specs.HeldScopes.{HeldScopes}
 use Rattle.c_reading.specs.Reading.{Found, Reader, fits, take_one, repeated_turn}
-use Rattle.c_reading.specs.Tokens.{is_extension, is_text, is_attribute, qual_of, array_word_of, asm_word_of, is_made, made_at, attr_at, begins_pointer_word, pointer_word_at}
+use Rattle.c_reading.specs.Tokens.{is_extension, is_text, is_attribute, word_qual_of, array_word_of, asm_word_of, is_made, made_at, attr_at, begins_pointer_word, pointer_word_at}
 use Rattle.c_reading.proofs.Binding.{ok_is, bind_ok, fits_ok, take_falls, token_falls}
 use Rattle.c_reading.proofs.Forms.{Shrinks}
 use Rattle.c_reading.proofs.Rows.{row_turn_shrinks}
@@ -41,7 +41,7 @@ pub text_loop : IsLoop text_turn
 text_loop = repeated_loop is_text take_one take_shrinks
 
 pub qual_loop : IsLoop qual_turn
-qual_loop = repeated_loop (λ kind. is_made (qual_of kind)) (made_at qual_of) (made_shrinks qual_of)
+qual_loop = repeated_loop (λ kind. is_made (word_qual_of kind)) (made_at word_qual_of) (made_shrinks word_qual_of)
 
 pub array_word_loop : IsLoop array_word_turn
 array_word_loop = repeated_loop (λ kind. is_made (array_word_of kind)) (made_at array_word_of) (made_shrinks array_word_of)

@@ -4,3 +4,4 @@ pub mod Looping
 pub mod Fitting
 pub mod Rows
 pub mod Groups
+pub mod Lists

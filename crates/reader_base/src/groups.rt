@@ -136,6 +136,16 @@ pub fn attr(place: &mut Place) -> Result<Attr, ReadError>
     Ok(Attr { keyword, group })
 }
 
+/// Takes `_Alignas` with its group, where it stands first.
+#[tactic(auto, unfolding(c_reading::specs::Tokens::align_at, c_reading::specs::Reading::and_then))]
+pub fn alignment(place: &mut Place) -> Result<Attr, ReadError>
+    ensures { Takes place.old place.new result tokens.align_at }
+{
+    let keyword = take_one(place)?;
+    let group = group(place)?;
+    Ok(Attr { keyword, group })
+}
+
 /// Takes a static assertion, which must stand first.
 #[tactic(auto, unfolding(c_reading::specs::Tokens::assert_at, c_reading::specs::Reading::and_then))]
 pub fn static_assert(place: &mut Place) -> Result<Assert, ReadError>

@@ -214,3 +214,33 @@ pub fn is_static(kind: TokenKind) -> bool
         _ => false,
     }
 }
+
+/// Whether a token of a kind is `__label__`.
+pub fn is_label_word(kind: TokenKind) -> bool
+    ensures { result ≡ tokens.is_label_word kind }
+{
+    match kind {
+        TokenKind::Keyword(Keyword::LabelWord) => true,
+        _ => false,
+    }
+}
+
+/// Whether a token of a kind is `default`.
+pub fn is_default(kind: TokenKind) -> bool
+    ensures { result ≡ tokens.is_default kind }
+{
+    match kind {
+        TokenKind::Keyword(Keyword::Default) => true,
+        _ => false,
+    }
+}
+
+/// Whether a token of a kind is a type word that stands alone, as `_Float64`.
+pub fn is_base_word(kind: TokenKind) -> bool
+    ensures { result ≡ tokens.is_base_word kind }
+{
+    match kind {
+        TokenKind::Keyword(Keyword::BaseWord) => true,
+        _ => false,
+    }
+}

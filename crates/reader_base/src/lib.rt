@@ -6,6 +6,7 @@ mod fault;
 mod groups;
 mod inside;
 mod kinds;
+mod lists;
 mod openings;
 mod parts;
 mod place;
@@ -16,16 +17,18 @@ mod tokens;
 
 pub use asking::{Answer, Ask, Begun, Declared};
 pub use fault::{ReadError, number_at, refused};
-pub use groups::{attr, attrs, group, label, static_assert};
+pub use groups::{alignment, attr, attrs, group, label, static_assert};
 pub use inside::{
     block_inside, declr_inside, expr_inside, init_list_inside, specs_inside, stmt_inside,
     type_name_inside,
 };
 pub use kinds::{
-    is_asm, is_attribute, is_close_brace, is_close_bracket, is_close_paren, is_colon, is_comma,
-    is_dots, is_else, is_end, is_equal, is_extension, is_open_brace, is_open_bracket,
-    is_open_paren, is_semicolon, is_star, is_static, is_static_assert, is_text, is_while,
+    is_asm, is_attribute, is_base_word, is_close_brace, is_close_bracket, is_close_paren, is_colon,
+    is_comma, is_default, is_dots, is_else, is_end, is_equal, is_extension, is_label_word,
+    is_open_brace, is_open_bracket, is_open_paren, is_semicolon, is_star, is_static,
+    is_static_assert, is_text, is_while,
 };
+pub use lists::{begins_identifiers, identifiers, names};
 pub use openings::{
     begins_desig, begins_expr, form_of, infix_of, is_dot, is_opening, opening_of, takes_assign,
     takes_comma,
@@ -34,7 +37,9 @@ pub use parts::{known_declr, named_declr, specs_here};
 pub use place::{Place, room_above, room_for};
 pub use qualifiers::{array_words, pointer_words, quals};
 pub use rows::{asm_words, extensions, texts};
-pub use starts::{begins_init, begins_specs, is_start, start_at, stmt_start};
+pub use starts::{
+    begins_init, begins_role, begins_specs, is_start, may_stand, start_at, stmt_start,
+};
 pub use tokens::{
     asm_word, assert_word, attribute_word, behind_first, close_brace, close_bracket, close_paren,
     colon, comma, end, equal, kind_at, name, open_brace, open_bracket, open_paren, semicolon,

@@ -80,6 +80,7 @@ fn punct_opening(sign: Punct) -> Opening
         Punct::Minus => Opening::Prefix(Punct::Minus, Reach::Castable),
         Punct::Tilde => Opening::Prefix(Punct::Tilde, Reach::Castable),
         Punct::Bang => Opening::Prefix(Punct::Bang, Reach::Castable),
+        Punct::AmpersandAmpersand => Opening::Label,
         _ => Opening::Nothing,
     }
 }
@@ -96,6 +97,10 @@ fn keyword_opening(keyword: Keyword) -> Opening
         Keyword::VaStart => Opening::VaStart,
         Keyword::VaCopy => Opening::VaCopy,
         Keyword::Offsetof => Opening::Offset,
+        Keyword::Part => Opening::Part,
+        Keyword::Compatible => Opening::Compat,
+        Keyword::Choose => Opening::Choose,
+        Keyword::Generic => Opening::Generic,
         _ => Opening::Nothing,
     }
 }
@@ -122,6 +127,7 @@ pub fn is_opening(scopes: &Scopes, opening: Opening) -> bool
     match opening {
         Opening::Nothing => false,
         Opening::Name(name) => !scopes.names_type(name),
+        Opening::Label => scopes.is_wide(),
         _ => true,
     }
 }

@@ -9,16 +9,17 @@ use crate::asking::{Answer, Ask};
 use crate::fault::{ReadError, refused};
 use crate::inside::{declr_inside, specs_inside};
 use crate::place::{Place, room_for};
-use crate::starts::begins_specs;
+use crate::starts::begins_role;
 use crate::tokens::kind_at;
 use c_nodes::{PresentDeclr, SizedDeclr, SizedSpecs, present};
 use c_reading::{Fault, Mode, Role};
 use typedef_scope::Kind;
 
-/// Specifiers.
+/// Specifiers of a role.
 #[tactic(auto, unfolding(c_reading::specs::Specifying::specs_here, c_reading::specs::Reading::fits))]
 pub fn specs_here<'a, F>(
     lent: &F,
+    role: Role,
     room: u16,
     place: &mut Place<'a>,
     depth: u32,
@@ -26,15 +27,15 @@ pub fn specs_here<'a, F>(
 where
     F: Fn(Ask, &mut Place<'a>) -> Result<Answer, ReadError>,
     requires { Lends F.Fn lent.now depth }
-    ensures { ReadsSpecs place.old place.new result (specs_here (knot depth) room) }
+    ensures { ReadsSpecs place.old place.new result (specs_here (knot depth) role room) }
 {
-    if !begins_specs(&place.scopes, kind_at(place.rest)) {
+    if !begins_role(role, &place.scopes, kind_at(place.rest)) {
         return Err(refused(Fault::Unexpected, place.rest));
     }
     room_for(2, room, place)?;
     let known = SizedSpecs::new(place.alloc);
     let room = room.saturating_sub(1);
-    specs_inside(lent, Role::Declaring, known, room, place, depth)
+    specs_inside(lent, role, known, room, place, depth)
 }
 
 /// A declarator, which must be there.

@@ -13,6 +13,7 @@ use crate::place::{Place, room_for};
 use crate::tokens::kind_at;
 use c_reading::Fault;
 use c_syntax::{ArrayWord, PointerWord, Qual, Word};
+use c_tree::Lexeme;
 use c_words::{Keyword, TokenKind};
 use qual_base::TokenId;
 
@@ -33,6 +34,18 @@ fn qual_of(kind: TokenKind, token: TokenId) -> Option<Qual>
             token,
             keyword: Keyword::Restrict,
         })),
+        TokenKind::Keyword(Keyword::Atomic) => Some(Qual::Word(Word {
+            token,
+            keyword: Keyword::Atomic,
+        })),
+        TokenKind::Keyword(Keyword::AtomicType) => Some(Qual::Word(Word {
+            token,
+            keyword: Keyword::AtomicType,
+        })),
+        TokenKind::Keyword(Keyword::Seg) => Some(Qual::Word(Word {
+            token,
+            keyword: Keyword::Seg,
+        })),
         TokenKind::Qual(_, _) => Some(Qual::Element { token }),
         TokenKind::Index => Some(Qual::Index { token }),
         _ => None,
@@ -45,8 +58,31 @@ fn is_qual(kind: TokenKind) -> bool
 {
     match kind {
         TokenKind::Keyword(Keyword::Const | Keyword::Volatile | Keyword::Restrict) => true,
+        TokenKind::Keyword(Keyword::Atomic | Keyword::AtomicType | Keyword::Seg) => true,
         TokenKind::Qual(_, _) | TokenKind::Index => true,
         _ => false,
+    }
+}
+
+/// Whether a token of a kind is `_Atomic` before a parenthesis.
+fn is_atomic_type(kind: TokenKind) -> bool
+    ensures { result ≡ rows.is_atomic_type kind }
+{
+    match kind {
+        TokenKind::Keyword(Keyword::AtomicType) => true,
+        _ => false,
+    }
+}
+
+/// The qualifier among specifiers that a token is: `_Atomic` before a parenthesis begins a type there.
+#[tactic(auto, using(crate::proofs::WordQuals::word_qual_is))]
+fn word_qual_of(token: &Lexeme) -> Option<Qual>
+    ensures { result ≡ rows.made_of (tokens.word_qual_of token.now.kind) token.now.at }
+{
+    if is_atomic_type(token.kind) {
+        None
+    } else {
+        qual_of(token.kind, token.at)
     }
 }
 
@@ -63,7 +99,7 @@ fn qual_turn(known: &mut Vec<Qual>, place: &mut Place) -> Result<bool, ReadError
     let [first, rest @ ..] = place.rest else {
         return Ok(false);
     };
-    let Some(qual) = qual_of(first.kind, first.at) else {
+    let Some(qual) = word_qual_of(first) else {
         return Ok(false);
     };
     known.push(qual)?;

@@ -6,7 +6,7 @@ ghost use Rattle.c_reading.specs.Specifying as specs;
 ghost use Rattle.c_reading.specs.Stating as stmts;
 
 use crate::openings::begins_expr;
-use c_reading::{SpecStart, StmtStart};
+use c_reading::{Role, SpecStart, StmtStart};
 use c_words::{Keyword, Punct, TokenKind};
 use held_scopes::Scopes;
 
@@ -26,6 +26,13 @@ fn keyword_start(keyword: Keyword) -> SpecStart
         Keyword::Const => SpecStart::Word(Keyword::Const),
         Keyword::Volatile => SpecStart::Word(Keyword::Volatile),
         Keyword::Restrict => SpecStart::Word(Keyword::Restrict),
+        Keyword::Atomic => SpecStart::Word(Keyword::Atomic),
+        Keyword::Seg => SpecStart::Word(Keyword::Seg),
+        Keyword::AtomicType => SpecStart::Atomic,
+        Keyword::Typeof => SpecStart::Typeof,
+        Keyword::Alignas => SpecStart::Align,
+        Keyword::AutoType => SpecStart::Auto,
+        Keyword::AnyComplex => SpecStart::Basic(Keyword::AnyComplex),
         Keyword::Void => SpecStart::Basic(Keyword::Void),
         Keyword::Char => SpecStart::Basic(Keyword::Char),
         Keyword::Short => SpecStart::Basic(Keyword::Short),
@@ -98,6 +105,47 @@ pub fn begins_specs(scopes: &Scopes, kind: TokenKind) -> bool
     ensures { result ≡ specs.begins_specs scopes.now kind }
 {
     is_start(start_at(scopes, false, kind))
+}
+
+/// Whether the name of a type cannot have a word that begins so.
+fn is_declaring(start: &SpecStart) -> bool
+    ensures { result ≡ specs.is_declaring start.now }
+{
+    match start {
+        SpecStart::Storage(_) | SpecStart::Thread => true,
+        SpecStart::Inline | SpecStart::Noreturn => true,
+        SpecStart::Align | SpecStart::Auto => true,
+        _ => false,
+    }
+}
+
+/// Whether a word that begins so is `__auto_type`.
+fn is_auto_start(start: &SpecStart) -> bool
+    ensures { result ≡ specs.is_auto_start start.now }
+{
+    match start {
+        SpecStart::Auto => true,
+        _ => false,
+    }
+}
+
+/// Whether a word that begins so may stand in a role.
+pub fn may_stand(role: Role, start: &SpecStart) -> bool
+    ensures { result ≡ specs.may_stand role start.now }
+{
+    match role {
+        Role::Declaring => true,
+        Role::Typed => !is_auto_start(start),
+        Role::Naming => !is_declaring(start),
+    }
+}
+
+/// Whether specifiers of a role begin with a token of a kind.
+pub fn begins_role(role: Role, scopes: &Scopes, kind: TokenKind) -> bool
+    ensures { result ≡ specs.begins_role role scopes.now kind }
+{
+    let start = start_at(scopes, false, kind);
+    is_start(start) && may_stand(role, &start)
 }
 
 /// What a statement begins with, of which the first token is a keyword (C99, 6.8).

@@ -241,12 +241,40 @@ module _ (keep : Bool) where
       q : Ready keep (f r.tree) middle stops r.scopes at2
       q = next r.tree r.scopes (record { keeps = r.keeps; reads = λ k h. (numbered_from at r.more ++ k, r.reads k h) }) at2
 
+  -- What an answer before a token of one test says of an answer before a token of another test, which may go by the answer.
+  abbrev pub Widens : {A : Type 0} → Reader A → (TokenKind → Bool) → (A → TokenKind → Bool) → HeldScopes → Type 0
+  Widens {A} a middle front s =
+      (tree : A) (scopes : HeldScopes) (b : List Lexeme) → ((k : List Lexeme) → middle (kind_at k) ≡ true → a s (b ++ k) ≡ ends tree scopes k) → (k : List Lexeme) → front tree (kind_at k) ≡ true →
+      a s (b ++ k) ≡ ends tree scopes k
+
+  -- from nothing, where the second begins as the first one's answer says
+  pub ready_bind_by : {A B : Type 0} (a : Reader A) (f : A → Reader B) (begin middle stops : TokenKind → Bool) (front : A → TokenKind → Bool) (s : HeldScopes) (at : ℕ) → Widens a middle front s →
+      (r : Ready keep a begin middle s at) → ((k : List Lexeme) → front r.tree (kind_at k) ≡ true → begin (kind_at (numbered_from at r.more ++ k)) ≡ true) →
+      ((tree : A) (scopes : HeldScopes) → Ends keep a middle s tree scopes → (at : ℕ) → Ready keep (f tree) (front tree) stops scopes at) → Ready keep (behind a f) begin stops s at
+  unfolding and_then
+  ready_bind_by {A} {B} a f begin middle stops front s at widens r begins next = record {
+    more = r.more ++ q.more;
+    tree = q.tree;
+    scopes = q.scopes;
+    keeps = kept_trans keep s r.scopes q.scopes r.keeps q.keeps;
+    begins = λ k h. rw (numbered_append at r.more q.more, append_assoc (numbered_from at r.more) (numbered_from at2 q.more) k) (begins (numbered_from at2 q.more ++ k) (q.begins k h));
+    reads = λ k h.
+        rw (numbered_append at r.more q.more, append_assoc (numbered_from at r.more) (numbered_from at2 q.more) k, widens r.tree r.scopes (numbered_from at r.more) r.reads (numbered_from at2 q.more ++ k) (q.begins k h))
+        (q.reads k h);
+  }
+    where
+      at2 : ℕ
+      at2 = at + length r.more
+
+      q : Ready keep (f r.tree) (front r.tree) stops r.scopes at2
+      q = next r.tree r.scopes (record { keeps = r.keeps; reads = λ k h. (numbered_from at r.more ++ k, r.reads k h) }) at2
+
   opened_at : {A : Type 0} (read : Reader A) (stops : TokenKind → Bool) (s : HeldScopes) (b : List Lexeme) → ((at : ℕ) → Completes keep read stops s b at) → Opened keep read stops s b
   opened_at read stops s [] c = tt
   opened_at read stops s (t ∷ b) c = c
 
-  module _ {A B : Type 0} (a : Reader A) (f : A → Reader B) (middle stops : TokenKind → Bool) (s : HeldScopes) (ts : List Lexeme)
-      (ready : (tree : A) (scopes : HeldScopes) → Gives keep a middle s tree scopes → (at : ℕ) → Ready keep (f tree) middle stops scopes at) where
+  module _ {A B : Type 0} (a : Reader A) (f : A → Reader B) (middle stops : TokenKind → Bool) (front : A → TokenKind → Bool) (s : HeldScopes) (ts : List Lexeme) (widens : Widens a middle front s)
+      (ready : (tree : A) (scopes : HeldScopes) → Gives keep a middle s tree scopes → (at : ℕ) → Ready keep (f tree) (front tree) stops scopes at) where
     -- where the first is refused
     first_opened : (b : List Lexeme) → Opened keep a middle s b → Opened keep (behind a f) stops s b
     unfolding and_then
@@ -255,13 +283,20 @@ module _ (keep : Bool) where
         let c = o at in
         let at2 : ℕ = at + length c.more in
         let r = ready c.tree c.scopes (record { keeps = c.keeps; reads = λ k h. ((t ∷ b) ++ (numbered_from at c.more ++ k), c.reads k h, longer_behind t b (numbered_from at c.more) k) }) at2 in
+        let taken : List Lexeme = (t ∷ b) ++ numbered_from at c.more in
+        let reads : (k : List Lexeme) → middle (kind_at k) ≡ true → a s (taken ++ k) ≡ ends c.tree c.scopes k = λ k h. rw (append_assoc (t ∷ b) (numbered_from at c.more) k) (c.reads k h) in
         record {
           more = c.more ++ r.more;
           tree = r.tree;
           scopes = r.scopes;
           keeps = kept_trans keep s c.scopes r.scopes c.keeps r.keeps;
           reads = λ k h.
-              rw (numbered_append at c.more r.more, append_assoc (numbered_from at c.more) (numbered_from at2 r.more) k, c.reads (numbered_from at2 r.more ++ k) (r.begins k h)) (r.reads k h);
+              rw (
+                numbered_append at c.more r.more,
+                append_assoc (numbered_from at c.more) (numbered_from at2 r.more) k,
+                sym (append_assoc (t ∷ b) (numbered_from at c.more) (numbered_from at2 r.more ++ k)),
+                widens c.tree c.scopes taken reads (numbered_from at2 r.more ++ k) (r.begins k h),
+              ) (r.reads k h);
         }
 
     -- where the second is, at its first token: nothing is owed where the first took nothing
@@ -275,7 +310,7 @@ module _ (keep : Bool) where
           tree = r.tree;
           scopes = r.scopes;
           keeps = kept_trans keep s x.scopes r.scopes h r.keeps;
-          reads = λ k h. rw (append_none b, ended (numbered_from at r.more ++ k) (r.begins k h)) (r.reads k h);
+          reads = λ k h. rw (append_none b, widens x.tree x.scopes (t ∷ b) ended (numbered_from at r.more ++ k) (r.begins k h)) (r.reads k h);
         }
 
     -- where the second is
@@ -293,11 +328,11 @@ module _ (keep : Bool) where
               rw (append_assoc o.before (t ∷ b) (numbered_from at c.more ++ k), o.same ((t ∷ b) ++ (numbered_from at c.more ++ k)) (ap first_kind (sym parts))) (c.reads k h);
         })
 
-    pub bind_good : Good keep a middle s ts → ((x : Found A) → a s ts ≡ done x → Good keep (f x.tree) stops x.scopes x.rest) →
+    pub bind_good_by : Good keep a middle s ts → ((x : Found A) → a s ts ≡ done x → Good keep (f x.tree) stops x.scopes x.rest) →
         (((x : Found A) (y : Found B) → a s ts ≡ done x → f x.tree x.scopes x.rest ≡ done y → length y.rest < length x.rest) ⊎ ((kind : TokenKind) → stops kind ≡ true → middle kind ≡ true)) →
         Good keep (behind a f) stops s ts
     unfolding and_then
-    bind_good ga gf passes = by_a (a s ts) refl ga
+    bind_good_by ga gf passes = by_a (a s ts) refl ga
       where
         by_a : (r : Read A) → a s ts ≡ r → Outcome keep a middle s ts r → Good keep (behind a f) stops s ts
         by_a (Err e) is o = subst (Outcome keep (behind a f) stops s ts) (sym now) answer
@@ -356,6 +391,14 @@ module _ (keep : Bool) where
                   same = λ k h. rw (append_assoc o.before p.before k, o.same (p.before ++ k) (first_append p.before k y.rest h ∙ ap first_kind (sym p.parts))) (p.same k h);
                   ended = λ k h. rw (append_assoc o.before p.before k, ended_by p.before k p.parts h) (p.ended k h);
                 }
+
+  -- where the second begins with what ends the first
+  module _ {A B : Type 0} (a : Reader A) (f : A → Reader B) (middle stops : TokenKind → Bool) (s : HeldScopes) (ts : List Lexeme)
+      (ready : (tree : A) (scopes : HeldScopes) → Gives keep a middle s tree scopes → (at : ℕ) → Ready keep (f tree) middle stops scopes at) where
+    pub bind_good : Good keep a middle s ts → ((x : Found A) → a s ts ≡ done x → Good keep (f x.tree) stops x.scopes x.rest) →
+        (((x : Found A) (y : Found B) → a s ts ≡ done x → f x.tree x.scopes x.rest ≡ done y → length y.rest < length x.rest) ⊎ ((kind : TokenKind) → stops kind ≡ true → middle kind ≡ true)) →
+        Good keep (behind a f) stops s ts
+    bind_good = bind_good_by a f middle stops (λ tree. middle) s ts (λ tree scopes b ended k h. ended k h) ready
 
   -- a turn: the first token says whether the loop ends, and if not, the turn is a reader that stops where the loop does
   abbrev pub GoodTurn : {S : Type 0} → Turn S → (TokenKind → Bool) → S → HeldScopes → List Lexeme → Type 0

@@ -1,19 +1,22 @@
 -- What each reader of the parts inside owes: that it answers and refuses as it should, and with what it can be completed.
-use Rattle.std.specs.Prelude.{◌≡◌, ℕ, suc, ◌<◌, ◌≤◌, Bool, true, false, not, List, ◌∷◌, length, Option, is_some, Ok}
+use Rattle.std.specs.Prelude.{◌≡◌, ℕ, suc, ◌<◌, ◌≤◌, Bool, true, false, not, ◌&&◌, List, ◌∷◌, ◌++◌, length, Option, is_some, Ok}
 use Rattle.c_words.specs.declared.kinds.TokenKind.TheVariants as kinds
 use Rattle.c_words.specs.declared.kinds.Punct.TheVariants.{OpenParen, CloseParen}
 use Rattle.c_tree.specs.declared.lexeme.Lexeme.{Lexeme}
 use Rattle.c_tree.specs.Tree.{Expr, SpecWords, no_words, Declr, some_declr, InitList, Stmt}
 use Rattle.c_tree.specs.Height.{specs_height}
+use Rattle.c_tree.specs.Specifiers.{storage_words}
+use Rattle.c_tree.specs.WellFormed.{has_auto}
 use Rattle.c_specs.specs.Mix.{mix_of}
 use Rattle.typedef_scope.specs.declared.kind.Kind.{Kind}
 use Rattle.c_units.specs.HeldScopes.{HeldScopes, names_type}
+use Rattle.c_units.specs.Scoping.{has_typedef_word}
 use Rattle.c_reading.specs.declared.kinds.Reach.{Reach}
 use Rattle.c_reading.specs.declared.kinds.Role.{Role}
 use Rattle.c_reading.specs.declared.kinds.Mode.{Mode}
 use Rattle.c_reading.specs.declared.kinds.Mode.TheVariants.{Named, Abstract, Either}
 use Rattle.c_reading.specs.Reading.{Found, Reader, ends, kind_at}
-use Rattle.c_reading.specs.Tokens.{is_open_brace, is_semicolon, is_star}
+use Rattle.c_reading.specs.Tokens.{is_open_brace, is_semicolon, is_star, is_base_word}
 use Rattle.c_reading.specs.Parts.{Inner, Begun, nothing, TypeName, Declared, Block}
 use Rattle.reading_steps.specs.Steps.{Good, Ready, any}
 use Rattle.reading_steps.specs.Stops.{is_number, is_int, is_name_kind, stops_expr, stops_type, stops_specs, stops_named, stops_declr, stops_stmt, begun_levels}
@@ -35,6 +38,14 @@ pub record TypeNamePlaces (n : ℕ) (type_name : ℕ → Reader TypeName) : Type
   pub good : (room : ℕ) → room < n → 1 ≤ room → (s : HeldScopes) (ts : List Lexeme) → Good true (type_name room) stops_type s ts
   pub ready : (room : ℕ) → room < n → 2 ≤ room → (s : HeldScopes) (at : ℕ) → Ready true (type_name room) is_int stops_type s at
 
+-- behind `__auto_type` a name and its value are to stand: there is room for a declarator
+abbrev pub AutoFits : ℕ → SpecWords → Type 0
+AutoFits room words = has_auto words ≡ true → 2 ≤ room
+
+-- words with `__auto_type` and `typedef`, behind which a base word stands for the name
+abbrev pub takes_base : SpecWords → Bool
+takes_base words = has_auto words && has_typedef_word (storage_words words)
+
 -- Specifiers behind words with which a mix begins: nothing or a word of a type. With a room of one they are one high.
 pub record SpecsPlaces (n : ℕ) (specs : Role → SpecWords → ℕ → Reader SpecWords) : Type 0 where
   pub good : (role : Role) (words : SpecWords) (room : ℕ) → room < n → (s : HeldScopes) (ts : List Lexeme) → Good true (specs role words room) stops_specs s ts
@@ -44,6 +55,11 @@ pub record SpecsPlaces (n : ℕ) (specs : Role → SpecWords → ℕ → Reader 
   -- where a token was taken there was room for what was known
   pub room : (role : Role) (words : SpecWords) (room : ℕ) (s : HeldScopes) (ts : List Lexeme) (x : Found SpecWords) → specs role words room s ts ≡ Ok x → length x.rest < length ts → specs_height words ≤ room
   pub low : (role : Role) (words : SpecWords) (s : HeldScopes) (ts : List Lexeme) (x : Found SpecWords) → specs role words 1 s ts ≡ Ok x → length x.rest < length ts → specs_height x.tree ≤ 1
+  pub auto : (role : Role) (words : SpecWords) (room : ℕ) (s : HeldScopes) (ts : List Lexeme) (x : Found SpecWords) → AutoFits room words → specs role words room s ts ≡ Ok x → AutoFits room x.tree
+  -- what is read before each token that begins no word is read before a base word too, where that stands for the name
+  pub based : (role : Role) (words : SpecWords) (room : ℕ) → room < n → (s : HeldScopes) (b : List Lexeme) (tree : SpecWords) (scopes : HeldScopes) →
+      ((k : List Lexeme) → stops_specs (kind_at k) ≡ true → specs role words room s (b ++ k) ≡ ends tree scopes k) → takes_base tree ≡ true → (k : List Lexeme) → is_base_word (kind_at k) ≡ true →
+      specs role words room s (b ++ k) ≡ ends tree scopes k
 
 -- the room of a declarator that may be a function's counts as one more
 abbrev pub number_of : Bool → ℕ → ℕ

@@ -50,10 +50,11 @@ stops_expr Conditional kind = stops_operand kind
 stops_expr Castable kind = stops_operand kind
 stops_expr Unary kind = stops_operand kind
 
--- the name of a type, and a declarator that may be absent
+-- the name of a type, and a declarator that may be absent: also before the colon of an association
 abbrev pub stops_type : TokenKind → Bool
 stops_type (kinds.Punct puncts.CloseParen) = true
 stops_type (kinds.Punct puncts.Comma) = true
+stops_type (kinds.Punct puncts.Colon) = true
 stops_type kind = false
 
 -- specifiers in which a type stands

@@ -10,19 +10,21 @@ use Rattle.c_words.specs.declared.kinds.Punct.TheVariants as signs
 use Rattle.c_syntax.specs.declared.parts.Attr.{Attr}
 use Rattle.c_syntax.specs.declared.parts.Qual.TheVariants as quals
 use Rattle.c_tree.specs.declared.lexeme.Lexeme.{Lexeme}
-use Rattle.c_tree.specs.Tree.{SpecWords, SpecWord, no_words, more_words, storage, thread, inline_word, noreturn, qualifier, basic, struct_type, enum_type, enum_of, typedef_name, attribute, Declr, pointer, declr_name, declr_paren, array, params, abs_pointer, abs_paren, abs_array, abs_params, InitDeclrs, no_init_declrs, more_init_declrs, declaration, decl_declaration, decl_assert}
+use Rattle.c_tree.specs.Tree.{SpecWords, SpecWord, no_words, more_words, storage, thread, inline_word, noreturn, qualifier, basic, struct_type, enum_type, enum_of, typedef_name, attribute, typeof_value, typeof_type, align, auto_word, identifiers, base_name, Declr, pointer, declr_name, declr_paren, array, params, abs_pointer, abs_paren, abs_array, abs_params, InitDeclrs, no_init_declrs, more_init_declrs, declaration, decl_declaration, decl_assert}
 use Rattle.c_tree.specs.Text.{tokens_between, attrs_text, spec_word_text, spec_words_text, declr_text, init_declrs_text}
-use Rattle.c_tree.specs.WellFormed.{is_storage, is_qual, is_struct, is_named, IsElement, IsElementKind, IsSpecWord, AreSpecWords, IsDeclr, IsInitStart, AreInitDeclrs}
+use Rattle.c_tree.specs.WellFormed.{is_storage, is_qual, is_struct, is_type_former, is_bare_name, is_named, IsElement, IsElementKind, IsSpecWord, AreSpecWords, IsDeclr, IsInitStart, AreInitDeclrs}
 use Rattle.c_tree.specs.Specifiers.{IsMix}
-use Rattle.c_tree.specs.Unit.{Item, function_item, decl_item, asm_item, semi_item, item_text, items_text, IsItem}
+use Rattle.c_tree.specs.Unit.{Item, function_item, old_function_item, decl_item, asm_item, semi_item, item_text, items_text, IsItem}
 use Rattle.c_specs.specs.declared.mix.Class.{Class}
 use Rattle.c_specs.specs.Mix.{is_whole_mix, goes_on, class_of, then_class, no_mix}
 use Rattle.c_specs.specs.Laws.{WholeAreMixes, MixesGoOn}
 use Rattle.c_units.specs.Units.{numbered, numbered_from}
-use Rattle.refusal_rules.proofs.Weaker.{function_is_named}
+use Rattle.refusal_rules.proofs.Weaker.{function_is_named, lister_is_named}
 use Rattle.refusal_rules.specs.Allowed.{BeginsUnitOfAnyHeight}
 
+-- a keyword, but for a base word, which may be the name of a typedef
 is_keyword : TokenKind → Bool
+is_keyword (kinds.Keyword words.BaseWord) = false
 is_keyword (kinds.Keyword word) = true
 is_keyword kind = false
 
@@ -48,14 +50,18 @@ pub record IsBasicWord (word : Keyword) : Type 0 where
   pub no_extension : word ≢ words.Extension
   pub no_asm : word ≢ words.Asm
   pub no_assert : word ≢ words.StaticAssert
+  pub no_typeof : word ≢ words.Typeof
+  pub no_type_former : is_type_former word ≡ false
+  pub no_align : word ≢ words.Alignas
+  pub no_auto : word ≢ words.AutoType
 
 long_is_basic : IsBasicWord words.Long
 long_is_basic =
-    record { no_storage = refl; no_qual = refl; no_struct = refl; no_thread = λ e. absurd cc; no_inline = λ e. absurd cc; no_noreturn = λ e. absurd cc; no_enum = λ e. absurd cc; no_attribute = λ e. absurd cc; no_extension = λ e. absurd cc; no_asm = λ e. absurd cc; no_assert = λ e. absurd cc }
+    record { no_storage = refl; no_qual = refl; no_struct = refl; no_thread = λ e. absurd cc; no_inline = λ e. absurd cc; no_noreturn = λ e. absurd cc; no_enum = λ e. absurd cc; no_attribute = λ e. absurd cc; no_extension = λ e. absurd cc; no_asm = λ e. absurd cc; no_assert = λ e. absurd cc; no_typeof = λ e. absurd cc; no_type_former = refl; no_align = λ e. absurd cc; no_auto = λ e. absurd cc }
 
 float_is_basic : IsBasicWord words.Float
 float_is_basic =
-    record { no_storage = refl; no_qual = refl; no_struct = refl; no_thread = λ e. absurd cc; no_inline = λ e. absurd cc; no_noreturn = λ e. absurd cc; no_enum = λ e. absurd cc; no_attribute = λ e. absurd cc; no_extension = λ e. absurd cc; no_asm = λ e. absurd cc; no_assert = λ e. absurd cc }
+    record { no_storage = refl; no_qual = refl; no_struct = refl; no_thread = λ e. absurd cc; no_inline = λ e. absurd cc; no_noreturn = λ e. absurd cc; no_enum = λ e. absurd cc; no_attribute = λ e. absurd cc; no_extension = λ e. absurd cc; no_asm = λ e. absurd cc; no_assert = λ e. absurd cc; no_typeof = λ e. absurd cc; no_type_former = refl; no_align = λ e. absurd cc; no_auto = λ e. absurd cc }
 
 same_kind : (ts us : List Lexeme) → ts ≡ us → first_kind ts ≡ first_kind us
 same_kind ts us e = ap first_kind e
@@ -91,9 +97,9 @@ module _ (whole_are : WholeAreMixes) (goes : MixesGoOn) (all : List Lexeme) wher
   basic_first (inline_word token) k word is h e = absurd (is.no_inline (sym (keyword_is words.Inline word e)))
   basic_first (noreturn token) k word is h e = absurd (is.no_noreturn (sym (keyword_is words.Noreturn word e)))
   basic_first (qualifier (quals.Word w)) k word is h e =
-      absurd (not_both (is_qual word) (subst (λ (a : Keyword). is_qual a ≡ true) (keyword_is w.keyword word e) h) is.no_qual)
+      absurd (not_both (is_qual word) (subst (λ (a : Keyword). is_qual a ≡ true) (keyword_is w.keyword word e) h.0) is.no_qual)
   basic_first (qualifier (quals.Element token)) k word is h e =
-      absurd (element_first (tokens_between all token token) k word h e)
+      absurd (element_first (tokens_between all token token) k word h.0 e)
   basic_first (qualifier (quals.Index token)) k word is h e = absurd cc
   basic_first (basic w) k word is h e =
       (ap (λ (a : Keyword). class_of (basic (record { token = 0; keyword = a }))) (keyword_is w.keyword word e), refl)
@@ -103,6 +109,24 @@ module _ (whole_are : WholeAreMixes) (goes : MixesGoOn) (all : List Lexeme) wher
       absurd (is.no_enum (sym (keyword_is words.Enum word e)))
   basic_first (typedef_name name) k word is h e = absurd cc
   basic_first (attribute attr) k word is h e = absurd (is.no_attribute (sym (keyword_is words.Attribute word e)))
+  basic_first (typeof_value keyword opening e1 closing) k word is h e = absurd (is.no_typeof (sym (keyword_is words.Typeof word e)))
+  basic_first (typeof_type w opening ws d closing) k word is h e =
+      absurd (not_both (is_type_former word) (subst (λ (a : Keyword). is_type_former a ≡ true) (keyword_is w.keyword word e) h.0) is.no_type_former)
+  basic_first (align attr) k word is h e = absurd (is.no_align (sym (keyword_is words.Alignas word e)))
+  basic_first (auto_word token) k word is h e = absurd (is.no_auto (sym (keyword_is words.AutoType word e)))
+
+  bare_is_named : (d : Declr) → is_bare_name d ≡ true → is_named d ≡ true
+  bare_is_named (declr_name token name) is = refl
+  bare_is_named (declr_paren opening attrs d closing) is = refl
+  bare_is_named (pointer star words d) is = absurd cc
+  bare_is_named (array d opening words size closing) is = absurd cc
+  bare_is_named (params d opening ps dots closing) is = absurd cc
+  bare_is_named (abs_pointer star words d) is = absurd cc
+  bare_is_named (abs_paren opening attrs d closing) is = absurd cc
+  bare_is_named (abs_array d opening words size closing) is = absurd cc
+  bare_is_named (abs_params d opening ps dots closing) is = absurd cc
+  bare_is_named (identifiers d opening names closing) is = absurd cc
+  bare_is_named (base_name token) is = absurd cc
 
   -- no declarator with a name begins with a keyword
   declr_first : (d : Declr) (k : List Lexeme) → is_named d ≡ true → IsDeclr all d
@@ -113,6 +137,8 @@ module _ (whole_are : WholeAreMixes) (goes : MixesGoOn) (all : List Lexeme) wher
   declr_first (declr_paren opening attrs d closing) k named h = refl
   declr_first (array d opening words size closing) k named h = declr_first d _ h.1 h.0
   declr_first (params d opening ps dots closing) k named h = declr_first d _ h.1 h.0
+  declr_first (identifiers d opening names closing) k named h = declr_first d _ (bare_is_named d h.1) h.0
+  declr_first (base_name token) k named h = refl
   declr_first (abs_pointer star words d) k named h = absurd cc
   declr_first (abs_paren opening attrs d closing) k named h = absurd cc
   declr_first (abs_array d opening words size closing) k named h = absurd cc
@@ -168,8 +194,12 @@ module _ (whole_are : WholeAreMixes) (goes : MixesGoOn) (all : List Lexeme) wher
       } ∷ record { kind = kinds.Keyword words.Float; at = b } ∷ rest → ⊥
   unfolding first_kind
   no_item (function_item [] ws d attrs opening items closing) k rest a b h e =
-      words_first ws _ rest a b h.0 h.1 (declr_first d _ (function_is_named d h.4) h.3) e
+      words_first ws _ rest a b h.0 h.1 (declr_first d _ (function_is_named d h.5) h.4) e
   no_item (function_item (t ∷ exts) ws d attrs opening items closing) k rest a b h e =
+      long_is_basic.no_extension (sym (keyword_is words.Extension words.Long (ap first_kind e)))
+  no_item (old_function_item [] ws d attrs ds opening items closing) k rest a b h e =
+      words_first ws _ rest a b h.0 h.1 (declr_first d _ (lister_is_named d h.5) h.4) e
+  no_item (old_function_item (t ∷ exts) ws d attrs ds opening items closing) k rest a b h e =
       long_is_basic.no_extension (sym (keyword_is words.Extension words.Long (ap first_kind e)))
   no_item (decl_item (decl_declaration (declaration [] ws ds semi))) k rest a b h e =
       words_first ws _ rest a b h.0 h.1 (init_declrs_first ds semi k h.2 h.3) e
@@ -195,7 +225,7 @@ module _ (whole_are : WholeAreMixes) (goes : MixesGoOn) where
   no_items all rest end (item ∷ items) a b h free e =
       no_item whole_are goes all item (items_text all items end) rest a b (h 0 item (omega arith)) e
 
-  pub no_unit : ¬ BeginsUnitOfAnyHeight (kinds.Keyword words.Long ∷ kinds.Keyword words.Float ∷ [])
+  pub no_unit : ¬ BeginsUnitOfAnyHeight false (kinds.Keyword words.Long ∷ kinds.Keyword words.Float ∷ [])
   unfolding first_kind is_keyword
   no_unit b =
       no_items (numbered (kinds.Keyword words.Long ∷ kinds.Keyword words.Float ∷ b.behind)) (numbered_from 2 b.behind) _ b.items 0 1 b.formed.parts refl (sym b.formed.tokens.spelled)

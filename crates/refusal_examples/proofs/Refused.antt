@@ -2,7 +2,7 @@
 use Rattle.std.specs.Prelude.{◌++◌, take, None, Some}
 use Rattle.std.proofs.lemmas.Bool.{leb-true}
 use Rattle.std.proofs.lemmas.List.Elements.{All-nil, All-cons}
-use Rattle.std.proofs.Common.{◌≡◌, ◌≤◌, ◌<◌, ℕ, zero, suc, true, List, [], ◌∷◌, arith, refl}
+use Rattle.std.proofs.Common.{◌≡◌, ◌≤◌, ◌<◌, ℕ, zero, suc, true, false, List, [], ◌∷◌, arith, refl}
 use Rattle.c_words.specs.declared.kinds.TokenKind.{TokenKind}
 use Rattle.c_words.specs.declared.kinds.TokenKind.TheVariants as kinds
 use Rattle.c_words.specs.declared.kinds.Keyword.TheVariants as words
@@ -43,9 +43,9 @@ int_item_derives : (all : List Lexeme) (d : Declr) (semi : ℕ) → DerivesDeclr
     DerivesItem all (int_item d semi)
 unfolding int_item
 int_item_derives all d semi h named =
-    ((λ is. absurd cc), (refl, tt), refl, (All-nil _, h, named, tt, All-nil _, tt, tt))
+    ((λ is. absurd cc), (refl, tt), refl, (All-nil _, h, named, tt, All-nil _, tt, tt), tt)
 
-many_pointers_deep : MayBe too_deep many_pointers 500
+many_pointers_deep : MayBe false too_deep many_pointers 500
 unfolding pointers int_item
 many_pointers_deep =
     let d : Declr = params (declr_name 497 0) 498 no_params None 499 in
@@ -67,19 +67,19 @@ some_is : {x y : TokenKind} → Some x ≡ Some y → x ≡ y
 some_is e = cc
 
 module _ (trees : UnitsBeginAsTrees) (none : NoneIsEarlier) where
-  from : (tokens : List TokenKind) (at : ℕ) (code : Code) → BeginsUnit (take at tokens) → MayBe code tokens at
+  from : (tokens : List TokenKind) (at : ℕ) (code : Code) → BeginsUnit false (take at tokens) → MayBe false code tokens at
       → IsRefusedAt tokens at code
   from tokens at code unit may_be = record {
     unit = unit;
-    tree = trees (take at tokens) unit;
+    tree = trees false (take at tokens) unit;
     may_be = may_be;
-    earlier = λ n other allowed. none tokens at n other unit allowed;
+    earlier = λ n other allowed. none false tokens at n other unit allowed;
   }
 
   -- where a unit begins with the tokens up to one, this one is not refused
-  goes_on : (tokens : List TokenKind) (first at : ℕ) (code : Code) → BeginsUnit (take first tokens) → at < first
-      → ¬ IsAllowed tokens at code
-  goes_on tokens first at code unit less allowed = none tokens first at code unit allowed less
+  goes_on : (tokens : List TokenKind) (first at : ℕ) (code : Code) → BeginsUnit false (take first tokens) → at < first
+      → ¬ IsAllowed false tokens at code
+  goes_on tokens first at code unit less allowed = none false tokens first at code unit allowed less
 
 pub refusals_hold : WholeAreMixes → MixesGoOn → UnitsAreTrees → UnitsBeginAsTrees → UnitsBeginAtAnyHeight
     → NoneIsEarlier → RefusalsHold
@@ -126,8 +126,8 @@ refusals_hold whole_are goes are trees heights none = (
   ),
   record {
     there = leb-true 2 5 refl;
-    none = λ begun. no_unit whole_are goes (heights _ begun);
-    before = trees _ (float_behind_long_front whole_are);
+    none = λ begun. no_unit whole_are goes (heights false _ begun);
+    before = trees false _ (float_behind_long_front whole_are);
     height = no_unit whole_are goes;
     may_be = float_behind_long_bad whole_are goes are;
   },

@@ -1,6 +1,6 @@
 -- Small sources that are refused, each with the token that is refused first and why. The trees were made from
 -- the sources by a program outside the repository.
-use Rattle.std.specs.Prelude.{ℕ, ◌<◌, List, [], ◌∷◌, ◌++◌, replicate, take}
+use Rattle.std.specs.Prelude.{ℕ, false, ◌<◌, List, [], ◌∷◌, ◌++◌, replicate, take}
 use Rattle.c_words.specs.declared.kinds.TokenKind.{TokenKind}
 use Rattle.c_words.specs.declared.kinds.TokenKind.TheVariants as kinds
 use Rattle.c_words.specs.declared.kinds.Keyword.TheVariants as words
@@ -12,10 +12,10 @@ use Rattle.refusal_rules.specs.Allowed.{Code, syntax, too_deep, other_kind, no_m
 -- with them too, and the code may be that of this token. That no unit begins with the tokens up to it, of this
 -- height or any, is not said here.
 pub record IsRefusedAt (tokens : List TokenKind) (at : ℕ) (code : Code) : Type 0 where
-  pub unit : BeginsUnit (take at tokens)
+  pub unit : BeginsUnit false (take at tokens)
   pub tree : BeginsTree (take at tokens)
-  pub may_be : MayBe code tokens at
-  pub earlier : (n : ℕ) (other : Code) → IsAllowed tokens n other → ¬ (n < at)
+  pub may_be : MayBe false code tokens at
+  pub earlier : (n : ℕ) (other : Code) → IsAllowed false tokens n other → ¬ (n < at)
 
 -- long float x;
 abbrev pub float_behind_long : List TokenKind
@@ -223,23 +223,23 @@ Syntaxes =
 
 -- what begins so is a tree, and many tokens stand before its semicolon
 abbrev pub TooDeeps : Type 0
-TooDeeps = MayBe too_deep many_pointers 500
+TooDeeps = MayBe false too_deep many_pointers 500
 
 -- A name is no keyword and no assignment operator, and few tokens stand before it; and a unit begins with the name
 -- of an object, with a typedef name that may be a label, and with an operand and the operator behind it.
 abbrev pub WrongRefusals : Type 0
 WrongRefusals =
-    ¬ IsAllowed held_name_enumerated 7 no_mix
-    × ¬ IsAllowed held_name_enumerated 7 no_unary_left
-    × ¬ IsAllowed held_name_enumerated 7 too_deep
-    × ¬ IsAllowed held_name_enumerated 1 other_kind
-    × ¬ IsAllowed declaration_in_if 14 syntax
-    × ¬ IsAllowed sum_assigned 10 no_unary_left
-    × ¬ IsAllowed float_behind_long 1 no_unary_left
+    ¬ IsAllowed false held_name_enumerated 7 no_mix
+    × ¬ IsAllowed false held_name_enumerated 7 no_unary_left
+    × ¬ IsAllowed false held_name_enumerated 7 too_deep
+    × ¬ IsAllowed false held_name_enumerated 1 other_kind
+    × ¬ IsAllowed false declaration_in_if 14 syntax
+    × ¬ IsAllowed false sum_assigned 10 no_unary_left
+    × ¬ IsAllowed false float_behind_long 1 no_unary_left
 
 -- of one source it is said too that no unit begins with the tokens up to the refused one, of whatever height
 abbrev pub WholeRefusal : Type 0
-WholeRefusal = IsAllowed float_behind_long 1 no_mix
+WholeRefusal = IsAllowed false float_behind_long 1 no_mix
 
 abbrev pub RefusalsHold : Type 0
 RefusalsHold = NoMixes × OtherKinds × NoUnaryLefts × Syntaxes × TooDeeps × WrongRefusals × WholeRefusal

@@ -1,7 +1,7 @@
 -- What begins so, and what is allowed there.
 use Rattle.std.specs.Prelude.{slice_index_or, drop}
 use Rattle.std.proofs.Math.Seq.{take-add}
-use Rattle.std.proofs.Common.{append_assoc, ◌-◌, ◌≡◌, ◌+◌, ◌++◌, ℕ, List, take, arith, ap, subst, ◌∙◌}
+use Rattle.std.proofs.Common.{append_assoc, ◌-◌, ◌≡◌, ◌+◌, ◌++◌, ℕ, Bool, List, take, arith, ap, subst, ◌∙◌}
 use Rattle.c_words.specs.declared.kinds.TokenKind.{TokenKind}
 use Rattle.c_specs.specs.Laws.{WholeAreMixes, MixesGoOn}
 use Rattle.c_units.specs.Units.{IsWellFormed, numbered}
@@ -14,11 +14,11 @@ units_are_trees whole_are goes all items unit =
     λ k d below. item_derives whole_are goes all (slice_index_or items k d) (unit.parts k d below)
 
 pub units_begin_as_trees : UnitsAreTrees → UnitsBeginAsTrees
-units_begin_as_trees are before b =
+units_begin_as_trees are wide before b =
     (b.items, record { behind = b.behind; spelled = b.formed.tokens; derived = are _ b.items b.formed.rules })
 
 pub units_begin_at_any_height : UnitsBeginAtAnyHeight
-units_begin_at_any_height before b = record {
+units_begin_at_any_height wide before b = record {
   behind = b.behind;
   items = b.items;
   formed =
@@ -26,27 +26,27 @@ units_begin_at_any_height before b = record {
 }
 
 -- with the first of some tokens a unit begins that begins with all of them
-begins_earlier : (front more : List TokenKind) → BeginsUnit (front ++ more) → BeginsUnit front
-begins_earlier front more b = record {
+begins_earlier : (wide : Bool) (front more : List TokenKind) → BeginsUnit wide (front ++ more) → BeginsUnit wide front
+begins_earlier wide front more b = record {
   behind = more ++ b.behind;
   items = b.items;
   formed =
-      subst (λ (all : List TokenKind). IsWellFormed (numbered all) b.items) (append_assoc front more b.behind) b.formed;
+      subst (λ (all : List TokenKind). IsWellFormed wide (numbered all) b.items) (append_assoc front more b.behind) b.formed;
 }
 
 pub none_is_earlier : NoneIsEarlier
-none_is_earlier tokens first at code begun allowed earlier =
+none_is_earlier wide tokens first at code begun allowed earlier =
     let m : ℕ = first - (at + 1) in
     let whole : first ≡ (at + 1) + m = omega arith in
     let parts : take first tokens ≡ take (at + 1) tokens
     ++ take m (drop (at + 1) tokens) = ap (λ (n : ℕ). take n tokens) whole ∙ take-add (at + 1) m tokens in
-    allowed.none (begins_earlier (take (at + 1) tokens) (take m (drop (at + 1) tokens)) (subst BeginsUnit parts begun))
+    allowed.none (begins_earlier wide (take (at + 1) tokens) (take m (drop (at + 1) tokens)) (subst (BeginsUnit wide) parts begun))
 
 pub first_bad_is_allowed : UnitsBeginAsTrees → UnitsBeginAtAnyHeight → FirstBadIsAllowed
-first_bad_is_allowed trees heights tokens first bad none = record {
+first_bad_is_allowed trees heights wide tokens first bad none = record {
   there = bad.there;
   none = bad.none;
-  before = trees (take first tokens) bad.before;
+  before = trees wide (take first tokens) bad.before;
   height = none;
   may_be = tt;
 }

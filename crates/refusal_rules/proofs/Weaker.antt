@@ -1,14 +1,14 @@
 -- What obeys all rules is a tree of the grammar: the lines of the grammar ask no more than the rules.
-use Rattle.std.specs.Prelude.{Option, None, Some, is_some}
-use Rattle.std.proofs.Common.{arith, ◌≡◌, ◌≢◌, ◌≤◌, ◌⊎◌, ℕ, Bool, true, false, List, inl, inr, refl, sym, ap, subst}
+use Rattle.std.specs.Prelude.{All, Option, None, Some, is_some}
+use Rattle.std.proofs.Common.{arith, ◌≡◌, ◌≢◌, ◌≤◌, ◌⊎◌, ℕ, suc, Bool, true, false, List, [], ◌∷◌, inl, inr, refl, sym, ap, subst}
 use Rattle.c_words.specs.declared.kinds.Keyword.{Keyword}
-use Rattle.c_words.specs.declared.kinds.Keyword.TheVariants.{Void, Char, Short, Int, Long, Float, Double, Signed, Unsigned, Bool as BoolWord, Complex, BaseWord, Int128}
+use Rattle.c_words.specs.declared.kinds.Keyword.TheVariants.{Void, Char, Short, Int, Long, Float, Double, Signed, Unsigned, Bool as BoolWord, Complex, AnyComplex, BaseWord, Int128}
 use Rattle.c_tree.specs.declared.lexeme.Lexeme.{Lexeme}
-use Rattle.c_tree.specs.Tree.{Expr, operation, cast, prefix, sizeof_value, sizeof_type, extension, index, call, dot, arrow, post, compound, name_use, number_use, char_use, text_use, paren, statement_expr, va_arg, va_start, va_copy, offset, Operator, comma, assign, cond, binary, SomeExpr, no_expr, some_expr, Exprs, no_exprs, more_exprs, SpecWords, no_words, more_words, SpecWord, storage, thread, inline_word, noreturn, qualifier, basic, struct_type, enum_type, typedef_name, attribute, SomeBody, no_body, some_body, StructItems, no_struct_items, more_struct_items, StructItem, member, member_semi, member_assert, MemDeclrs, no_mem_declrs, more_mem_declrs, MemDeclr, named, unnamed, SomeValue, no_value, some_value, EnumType, enum_of, SomeEnumBody, no_enum_body, some_enum_body, Enumerators, no_enumerators, more_enumerators, Declr, pointer, declr_name, declr_paren, array, params, abs_pointer, abs_paren, abs_array, abs_params, SomeDeclr, no_declr, some_declr, SomeSize, no_size, some_size, ArraySize, size_value, size_star, Params, no_params, more_params, Init, init_value, init_braced, InitList, init_list, InitItems, no_init_items, more_init_items, Desigs, no_desigs, more_desigs, Desig, member_desig, index_desig, SomeInit, no_init, some_init, InitDeclrs, no_init_declrs, more_init_declrs, Declaration, declaration, Decl, decl_declaration, decl_assert, BlockItems, no_block_items, more_block_items, BlockItem, block_decl, block_stmt, Stmt, block, expr_stmt, attr_stmt, label, case_stmt, default_stmt, if_stmt, switch_stmt, while_stmt, do_stmt, for_stmt, goto_stmt, continue_stmt, break_stmt, return_stmt, asm_stmt, SomeElse, no_else, some_else, ForStart, start_declaration, start_value}
+use Rattle.c_tree.specs.Tree.{Expr, operation, cast, prefix, sizeof_value, sizeof_type, extension, index, call, dot, arrow, post, compound, name_use, number_use, char_use, text_use, paren, statement_expr, va_arg, va_start, va_copy, offset, Operator, comma, assign, cond, binary, SomeExpr, no_expr, some_expr, Exprs, no_exprs, more_exprs, SpecWords, no_words, more_words, SpecWord, storage, thread, inline_word, noreturn, qualifier, basic, struct_type, enum_type, typedef_name, attribute, SomeBody, no_body, some_body, StructItems, no_struct_items, more_struct_items, StructItem, member, member_semi, member_assert, MemDeclrs, no_mem_declrs, more_mem_declrs, MemDeclr, named, unnamed, SomeValue, no_value, some_value, EnumType, enum_of, SomeEnumBody, no_enum_body, some_enum_body, Enumerators, no_enumerators, more_enumerators, Declr, pointer, declr_name, declr_paren, array, params, abs_pointer, abs_paren, abs_array, abs_params, SomeDeclr, no_declr, some_declr, SomeSize, no_size, some_size, ArraySize, size_value, size_star, Params, no_params, more_params, Init, init_value, init_braced, InitList, init_list, InitItems, no_init_items, more_init_items, Desigs, no_desigs, more_desigs, Desig, member_desig, index_desig, SomeInit, no_init, some_init, InitDeclrs, no_init_declrs, more_init_declrs, Declaration, declaration, Decl, decl_declaration, decl_assert, BlockItems, no_block_items, more_block_items, BlockItem, block_decl, block_stmt, Stmt, block, expr_stmt, attr_stmt, label, case_stmt, default_stmt, if_stmt, switch_stmt, while_stmt, do_stmt, for_stmt, goto_stmt, continue_stmt, break_stmt, return_stmt, asm_stmt, SomeElse, no_else, some_else, ForStart, start_declaration, start_value, complex_part, label_use, compat, choose, generic, Assocs, no_assocs, more_assocs, Assoc, typed_assoc, default_assoc, typeof_value, typeof_type, align, auto_word, identifiers, base_name, range_desig, old_desig, block_labels, case_range, goto_value}
 use Rattle.c_tree.specs.Levels.{IsOperator, left_level, right_level}
 use Rattle.c_tree.specs.Specifiers.{IsMix}
-use Rattle.c_tree.specs.WellFormed.{IsExpr, IsMiddle, IsSomeExpr, AreArguments, AreSteps, IsStep, AreDesigs, IsDesig, AreTypeWords, AreSpecWords, IsSpecWord, IsBody, AreStructItems, IsStructItem, AreMemDeclrs, IsMemDeclr, IsSomeValue, IsEnum, IsEnumBody, AreEnumerators, IsDeclr, IsSomeAbstract, IsSomeDirect, IsSize, IsArraySize, AreParams, IsSomeDeclr, IsInit, IsInitList, AreInitItems, IsSomeInit, AreInitDeclrs, IsDeclaration, IsDecl, AreBlockItems, IsBlockItem, is_named, IsStmt, IsOther, IsStart}
-use Rattle.c_tree.specs.Unit.{declares_function, is_round_name, Item, function_item, decl_item, asm_item, semi_item, IsItem}
+use Rattle.c_tree.specs.WellFormed.{lists_identifiers, AreAssocs, IsAssoc, IsExpr, IsMiddle, IsSomeExpr, AreArguments, AreSteps, IsStep, AreDesigs, IsDesig, AreTypeWords, AreSpecWords, IsSpecWord, IsBody, AreStructItems, IsStructItem, AreMemDeclrs, IsMemDeclr, IsSomeValue, IsEnum, IsEnumBody, AreEnumerators, IsDeclr, IsSomeAbstract, IsSomeDirect, IsSize, IsArraySize, AreParams, IsSomeDeclr, IsInit, IsInitList, AreInitItems, IsSomeInit, AreInitDeclrs, IsDeclaration, IsDecl, AreBlockItems, IsBlockItem, is_named, IsStmt, IsOther, IsStart}
+use Rattle.c_tree.specs.Unit.{declares_function, is_round_name, Item, function_item, old_function_item, decl_item, asm_item, semi_item, IsItem}
 use Rattle.c_specs.specs.declared.basic.Part.{Part}
 use Rattle.c_specs.specs.declared.basic.Part.TheVariants as word_parts
 use Rattle.c_specs.specs.declared.mix.Mix.{Mix}
@@ -19,7 +19,7 @@ use Rattle.c_specs.specs.Basic.{part_of}
 use Rattle.c_specs.specs.Mix.{class_of, goes_on, is_whole_mix, mix_of, with_part, with_types, then_class}
 use Rattle.c_specs.specs.Reading.{append_words, pushed}
 use Rattle.c_specs.specs.Laws.{WholeAreMixes, MixesGoOn}
-use Rattle.refusal_rules.specs.Grammar.{is_basic_word, left_line, right_line, DerivesExpr, DerivesMiddle, DerivesSomeExpr, DerivesArguments, DerivesSteps, DerivesStep, DerivesDesigs, DerivesDesig, DerivesTypeWords, DerivesSpecWords, DerivesSpecWord, DerivesBody, DerivesStructItems, DerivesStructItem, DerivesMemDeclrs, DerivesMemDeclr, DerivesSomeValue, DerivesEnum, DerivesEnumBody, DerivesEnumerators, DerivesDeclr, DerivesSomeAbstract, DerivesSomeDirect, DerivesSize, DerivesArraySize, DerivesParams, DerivesSomeDeclr, DerivesInit, DerivesInitList, DerivesInitItems, DerivesSomeInit, DerivesInitDeclrs, DerivesDeclaration, DerivesDecl, DerivesBlockItems, DerivesBlockItem, DerivesStmt, DerivesOther, DerivesStart, DerivesItem}
+use Rattle.refusal_rules.specs.Grammar.{is_basic_word, left_line, right_line, DerivesAssocs, DerivesAssoc, DeriveDeclarations, DerivesExpr, DerivesMiddle, DerivesSomeExpr, DerivesArguments, DerivesSteps, DerivesStep, DerivesDesigs, DerivesDesig, DerivesTypeWords, DerivesSpecWords, DerivesSpecWord, DerivesBody, DerivesStructItems, DerivesStructItem, DerivesMemDeclrs, DerivesMemDeclr, DerivesSomeValue, DerivesEnum, DerivesEnumBody, DerivesEnumerators, DerivesDeclr, DerivesSomeAbstract, DerivesSomeDirect, DerivesSize, DerivesArraySize, DerivesParams, DerivesSomeDeclr, DerivesInit, DerivesInitList, DerivesInitItems, DerivesSomeInit, DerivesInitDeclrs, DerivesDeclaration, DerivesDecl, DerivesBlockItems, DerivesBlockItem, DerivesStmt, DerivesOther, DerivesStart, DerivesItem}
 
 -- of a word that no basic type has, no part of a mix is made
 type_or_other : (k : Keyword) → (is_basic_word k ≡ true) ⊎ (part_of k ≡ word_parts.Other)
@@ -34,6 +34,7 @@ type_or_other Signed = inl refl
 type_or_other Unsigned = inl refl
 type_or_other BoolWord = inl refl
 type_or_other Complex = inl refl
+type_or_other AnyComplex = inl refl
 type_or_other BaseWord = inl refl
 type_or_other Int128 = inl refl
 type_or_other k = inr refl
@@ -79,6 +80,8 @@ round_is_named (declr_paren opening attrs d closing) above is = refl
 round_is_named (params d opening ps dots closing) above is = refl
 round_is_named (pointer star words d) above is = refl
 round_is_named (array d opening words size closing) above is = refl
+round_is_named (identifiers d opening names closing) above is = refl
+round_is_named (base_name token) above is = refl
 round_is_named (abs_pointer star words d) above is = absurd cc
 round_is_named (abs_paren opening attrs d closing) above is = absurd cc
 round_is_named (abs_array d opening words size closing) above is = absurd cc
@@ -86,6 +89,19 @@ round_is_named (abs_params d opening ps dots closing) above is = absurd cc
 
 pub function_is_named : (d : Declr) → declares_function d ≡ true → is_named d ≡ true
 function_is_named d is = round_is_named d false is
+
+pub lister_is_named : (d : Declr) → lists_identifiers d ≡ true → is_named d ≡ true
+lister_is_named (declr_name token name) is = refl
+lister_is_named (declr_paren opening attrs d closing) is = refl
+lister_is_named (params d opening ps dots closing) is = refl
+lister_is_named (pointer star words d) is = refl
+lister_is_named (array d opening words size closing) is = refl
+lister_is_named (identifiers d opening names closing) is = refl
+lister_is_named (base_name token) is = refl
+lister_is_named (abs_pointer star words d) is = absurd cc
+lister_is_named (abs_paren opening attrs d closing) is = absurd cc
+lister_is_named (abs_array d opening words size closing) is = absurd cc
+lister_is_named (abs_params d opening ps dots closing) is = absurd cc
 
 module _ (whole_are : WholeAreMixes) (goes : MixesGoOn) (all : List Lexeme) where
   mix_has_words : (ws : SpecWords) → IsMix ws → ws ≢ no_words
@@ -125,7 +141,7 @@ module _ (whole_are : WholeAreMixes) (goes : MixesGoOn) (all : List Lexeme) wher
     expr_derives (char_use token) h = tt
     expr_derives (text_use texts) h = h
     expr_derives (paren opening e closing) h = expr_derives e h
-    expr_derives (statement_expr opening opening2 items closing closing2) h = block_items_derive items h
+    expr_derives (statement_expr opening opening2 items closing closing2) h = (block_items_derive items h.0, h.1)
     expr_derives (va_arg keyword opening e separator ws d closing) h =
         (expr_derives e h.0, mix_has_words ws h.1, type_words_derive no_words ws h.1 h.2, abstract_derives d h.3, h.4)
     expr_derives (va_start keyword opening e separator e2 closing) h =
@@ -134,6 +150,28 @@ module _ (whole_are : WholeAreMixes) (goes : MixesGoOn) (all : List Lexeme) wher
         (expr_derives e h.0, expr_derives e2 h.1, h.2, h.3)
     expr_derives (offset keyword opening ws d separator name steps closing) h =
         (mix_has_words ws h.0, type_words_derive no_words ws h.0 h.1, abstract_derives d h.2, steps_derive steps h.3)
+    expr_derives (complex_part keyword e) h = (expr_derives e h.0, h.1)
+    expr_derives (label_use token name) h = tt
+    expr_derives (compat keyword opening ws d separator ws2 d2 closing) h = (
+      mix_has_words ws h.0,
+      type_words_derive no_words ws h.0 h.1,
+      abstract_derives d h.2,
+      mix_has_words ws2 h.3,
+      type_words_derive no_words ws2 h.3 h.4,
+      abstract_derives d2 h.5,
+    )
+    expr_derives (choose keyword opening e separator e2 separator2 e3 closing) h =
+        (expr_derives e h.0, expr_derives e2 h.1, expr_derives e3 h.2, h.3, h.4, h.5)
+    expr_derives (generic keyword opening e xs closing) h = (expr_derives e h.0, h.1, h.2, assocs_derive xs h.3)
+
+    assocs_derive : (xs : Assocs) → AreAssocs all xs → DerivesAssocs all xs
+    assocs_derive no_assocs h = tt
+    assocs_derive (more_assocs x xs) h = (assoc_derives x h.0, assocs_derive xs h.1)
+
+    assoc_derives : (x : Assoc) → IsAssoc all x → DerivesAssoc all x
+    assoc_derives (typed_assoc ws d colon e) h =
+        (mix_has_words ws h.0, type_words_derive no_words ws h.0 h.1, abstract_derives d h.2, expr_derives e h.3, h.4)
+    assoc_derives (default_assoc keyword colon e) h = (expr_derives e h.0, h.1)
 
     middle_derives : (op : Operator) → IsMiddle all op → DerivesMiddle all op
     middle_derives comma h = tt
@@ -156,6 +194,8 @@ module _ (whole_are : WholeAreMixes) (goes : MixesGoOn) (all : List Lexeme) wher
     step_derives : (d : Desig) → IsStep all d → DerivesStep all d
     step_derives (member_desig token name) h = tt
     step_derives (index_desig opening e closing) h = expr_derives e h
+    step_derives (range_desig opening e dots e2 closing) h = absurd h
+    step_derives (old_desig name colon) h = absurd h
 
     desigs_derive : (ds : Desigs) → AreDesigs all ds → DerivesDesigs all ds
     desigs_derive no_desigs h = tt
@@ -164,6 +204,8 @@ module _ (whole_are : WholeAreMixes) (goes : MixesGoOn) (all : List Lexeme) wher
     desig_derives : (d : Desig) → IsDesig all d → DerivesDesig all d
     desig_derives (member_desig token name) h = tt
     desig_derives (index_desig opening e closing) h = (expr_derives e h.0, h.1)
+    desig_derives (range_desig opening e dots e2 closing) h = (expr_derives e h.0, h.1, expr_derives e2 h.2, h.3)
+    desig_derives (old_desig name colon) h = tt
 
     type_words_derive : (front ws : SpecWords) → IsMix (append_words front ws) → AreTypeWords all ws
         → DerivesTypeWords all ws
@@ -194,6 +236,11 @@ module _ (whole_are : WholeAreMixes) (goes : MixesGoOn) (all : List Lexeme) wher
     word_derives front (enum_type enum) on h = enum_derives enum h
     word_derives front (typedef_name name) on h = tt
     word_derives front (attribute attr) on h = h
+    word_derives front (typeof_value keyword opening e closing) on h = expr_derives e h
+    word_derives front (typeof_type word opening ws d closing) on h =
+        (h.0, mix_has_words ws h.1, type_words_derive no_words ws h.1 h.2, abstract_derives d h.3)
+    word_derives front (align attr) on h = h
+    word_derives front (auto_word token) on h = tt
 
     body_derives : (body : SomeBody) → IsBody all body → DerivesBody all body
     body_derives no_body h = tt
@@ -205,7 +252,7 @@ module _ (whole_are : WholeAreMixes) (goes : MixesGoOn) (all : List Lexeme) wher
 
     struct_item_derives : (item : StructItem) → IsStructItem all item → DerivesStructItem all item
     struct_item_derives (member exts ws ds semi) h =
-        (mix_has_words ws h.0, words_derive no_words ws h.0 h.1, h.2, mem_declrs_derive ds h.3)
+        (mix_has_words ws h.0, words_derive no_words ws h.0 h.1, h.2, h.3, mem_declrs_derive ds h.4)
     struct_item_derives (member_semi semi) h = tt
     struct_item_derives (member_assert it) h = h
 
@@ -239,6 +286,8 @@ module _ (whole_are : WholeAreMixes) (goes : MixesGoOn) (all : List Lexeme) wher
     declr_derives (declr_paren opening attrs d closing) h = (h.0, declr_derives d h.1, h.2)
     declr_derives (array d opening words size closing) h = (declr_derives d h.0, h.1, h.2, h.3, size_derives size h.4)
     declr_derives (params d opening ps dots closing) h = (declr_derives d h.0, h.1, h.2, params_derive ps h.3, h.4)
+    declr_derives (identifiers d opening names closing) h = (declr_derives d h.0, h.1, h.2)
+    declr_derives (base_name token) h = tt
     declr_derives (abs_pointer star words d) h = (h.0, abstract_derives d h.1)
     declr_derives (abs_paren opening attrs d closing) h = (h.0, declr_derives d h.1, h.2)
     declr_derives (abs_array d opening words size closing) h = (direct_derives d h.0, h.1, size_derives size h.2)
@@ -263,7 +312,7 @@ module _ (whole_are : WholeAreMixes) (goes : MixesGoOn) (all : List Lexeme) wher
     params_derive : (ps : Params) → AreParams all ps → DerivesParams all ps
     params_derive no_params h = tt
     params_derive (more_params ws d attrs ps) h =
-        (mix_has_words ws h.0, words_derive no_words ws h.0 h.1, some_declr_derives d h.2, h.3, params_derive ps h.5)
+        (mix_has_words ws h.0, words_derive no_words ws h.0 h.1, h.2, some_declr_derives d h.3, h.4, params_derive ps h.6)
 
     some_declr_derives : (d : SomeDeclr) → IsSomeDeclr all d → DerivesSomeDeclr all d
     some_declr_derives no_declr h = tt
@@ -292,7 +341,7 @@ module _ (whole_are : WholeAreMixes) (goes : MixesGoOn) (all : List Lexeme) wher
 
     declaration_derives : (d : Declaration) → IsDeclaration all d → DerivesDeclaration all d
     declaration_derives (declaration exts ws ds semi) h =
-        (mix_has_words ws h.0, words_derive no_words ws h.0 h.1, h.2, init_declrs_derive ds h.3)
+        (mix_has_words ws h.0, words_derive no_words ws h.0 h.1, h.2, init_declrs_derive ds h.3, h.4)
 
     decl_derives : (d : Decl) → IsDecl all d → DerivesDecl all d
     decl_derives (decl_declaration d) h = declaration_derives d h
@@ -305,9 +354,10 @@ module _ (whole_are : WholeAreMixes) (goes : MixesGoOn) (all : List Lexeme) wher
     block_item_derives : (item : BlockItem) → IsBlockItem all item → DerivesBlockItem all item
     block_item_derives (block_decl d) h = decl_derives d h
     block_item_derives (block_stmt s) h = stmt_derives s h
+    block_item_derives (block_labels keyword names semi) h = h
 
     stmt_derives : (s : Stmt) → IsStmt all s → DerivesStmt all s
-    stmt_derives (block opening items closing) h = block_items_derive items h
+    stmt_derives (block opening items closing) h = (block_items_derive items h.0, h.1)
     stmt_derives (expr_stmt e semi) h = some_expr_derives e h
     stmt_derives (attr_stmt attrs semi) h = h
     stmt_derives (label name colon attrs s) h = (h.0, stmt_derives s h.1)
@@ -325,6 +375,8 @@ module _ (whole_are : WholeAreMixes) (goes : MixesGoOn) (all : List Lexeme) wher
     stmt_derives (break_stmt keyword semi) h = tt
     stmt_derives (return_stmt keyword e semi) h = some_expr_derives e h
     stmt_derives (asm_stmt keyword words group semi) h = h
+    stmt_derives (case_range keyword e dots e2 colon s) h = (expr_derives e h.0, h.1, expr_derives e2 h.2, h.3, stmt_derives s h.4)
+    stmt_derives (goto_value keyword star e semi) h = expr_derives e h
 
     other_derives : (before : Stmt) (other : SomeElse) → IsOther all before other → DerivesOther all other
     other_derives before no_else h = tt
@@ -334,14 +386,32 @@ module _ (whole_are : WholeAreMixes) (goes : MixesGoOn) (all : List Lexeme) wher
     start_derives (start_declaration d) h = declaration_derives d h
     start_derives (start_value e semi) h = some_expr_derives e h
 
+  declarations_derive : (ds : List Declaration) → All (IsDeclaration all) ds → DeriveDeclarations all ds
+  declarations_derive [] h = tt
+  declarations_derive (d ∷ ds) h =
+      (declaration_derives d (h 0 d (omega arith)), declarations_derive ds (λ k e below. h (suc k) e (omega (arith, below))))
+
   pub item_derives : (item : Item) → IsItem all item → DerivesItem all item
   item_derives (function_item exts ws d attrs opening items closing) h = (
     mix_has_words ws h.0,
     words_derive no_words ws h.0 h.1,
-    declr_derives d h.3,
-    function_is_named d h.4,
-    h.5,
-    block_items_derive items h.6,
+    h.2,
+    declr_derives d h.4,
+    function_is_named d h.5,
+    h.6,
+    block_items_derive items h.7,
+    h.8,
+  )
+  item_derives (old_function_item exts ws d attrs ds opening items closing) h = (
+    mix_has_words ws h.0,
+    words_derive no_words ws h.0 h.1,
+    h.2,
+    declr_derives d h.4,
+    lister_is_named d h.5,
+    h.6,
+    declarations_derive ds h.7,
+    block_items_derive items h.8,
+    h.9,
   )
   item_derives (decl_item d) h = decl_derives d h
   item_derives (asm_item keyword group semi) h = h

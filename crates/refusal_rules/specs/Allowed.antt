@@ -2,7 +2,7 @@
 --
 -- A tree here is any that the lines of the grammar make, whatever other rule it breaks. A refusal that is allowed
 -- need not be at the first token up to which no well-formed unit begins so, but never stands before it.
-use Rattle.std.specs.Prelude.{◌≡◌, ℕ, ◌+◌, ◌≤◌, ◌<◌, All, Contains, true, false, List, ◌++◌, length, take, slice_get, Option, Some}
+use Rattle.std.specs.Prelude.{◌≡◌, ℕ, Bool, ◌+◌, ◌≤◌, ◌<◌, All, Contains, true, false, List, ◌++◌, length, take, slice_get, Option, Some}
 use Rattle.c_words.specs.declared.kinds.TokenKind.{TokenKind}
 use Rattle.c_words.specs.declared.kinds.TokenKind.TheVariants as kinds
 use Rattle.c_words.specs.declared.kinds.Keyword.{Keyword}
@@ -40,92 +40,92 @@ abbrev pub BeginsTree : List TokenKind → Type 0
 BeginsTree before = (items : List Item) × IsTreeFrom before items
 
 -- well formed but for the height
-pub record IsWellFormedAtAnyHeight (all : List Lexeme) (items : List Item) : Type 0 where
+pub record IsWellFormedAtAnyHeight (wide : Bool) (all : List Lexeme) (items : List Item) : Type 0 where
   pub tokens : AreTokensOf all items
   pub parts : All (IsItem all) items
   pub scopes : HeldScopes
-  pub named : items_scopes items file_scope ≡ Some scopes
+  pub named : items_scopes items (file_scope wide) ≡ Some scopes
 
 -- some unit that is well formed but for its height begins with these tokens
-pub record BeginsUnitOfAnyHeight (before : List TokenKind) : Type 0 where
+pub record BeginsUnitOfAnyHeight (wide : Bool) (before : List TokenKind) : Type 0 where
   pub behind : List TokenKind
   pub items : List Item
-  pub formed : IsWellFormedAtAnyHeight (numbered (before ++ behind)) items
+  pub formed : IsWellFormedAtAnyHeight wide (numbered (before ++ behind)) items
 
 -- the parts of a tree, each with the scopes before it
-abbrev pub places : List Item → List Place
-places items = items_inside items (Some file_scope)
+abbrev pub places : Bool → List Item → List Place
+places wide items = items_inside items (Some (file_scope wide))
 
 -- all words of specifiers in which no mix begins with those up to one, whose first token this is
-pub record HasNoMixAt (items : List Item) (at : ℕ) : Type 0 where
+pub record HasNoMixAt (wide : Bool) (items : List Item) (at : ℕ) : Type 0 where
   pub scopes : Option HeldScopes
   pub front : SpecWords
   pub word : SpecWord
   pub more : SpecWords
-  pub there : Contains (places items) (specifiers (append_words front (more_words word more)), scopes)
+  pub there : Contains (places wide items) (specifiers (append_words front (more_words word more)), scopes)
   pub first : word_token word ≡ at
   pub none : ¬ Begins (pushed front word)
 
 -- this token is the name of a declarator or of an enumerator, in a scope that gives the name another kind
-pub record HasOtherKindAt (items : List Item) (at : ℕ) : Type 0 where
+pub record HasOtherKindAt (wide : Bool) (items : List Item) (at : ℕ) : Type 0 where
   pub name : ℕ
   pub kind : Kind
   pub scopes : HeldScopes
-  pub there : Contains (places items) (declared at name kind, Some scopes)
+  pub there : Contains (places wide items) (declared at name kind, Some scopes)
   pub other : may_declare (innermost scopes) name kind ≡ false
 
 -- an expression that is no unary form ends right before this token
-pub record HasNoUnaryBefore (items : List Item) (at : ℕ) : Type 0 where
+pub record HasNoUnaryBefore (wide : Bool) (items : List Item) (at : ℕ) : Type 0 where
   pub scopes : Option HeldScopes
   pub left : Expr
-  pub there : Contains (places items) (expression left, scopes)
+  pub there : Contains (places wide items) (expression left, scopes)
   pub low : expr_level left < 14
   pub ends : last_token left + 1 ≡ at
 
 -- a keyword that begins a word of specifiers with which no mix begins
-pub record MayHaveNoMix (tokens : List TokenKind) (at : ℕ) : Type 0 where
+pub record MayHaveNoMix (wide : Bool) (tokens : List TokenKind) (at : ℕ) : Type 0 where
   pub keyword : Keyword
   pub is : slice_get tokens at ≡ Some (kinds.Keyword keyword)
   pub items : List Item
   pub tree : IsTreeFrom (take (at + 1) tokens) items
-  pub bad : HasNoMixAt items at
+  pub bad : HasNoMixAt wide items at
 
 -- a declared name that its scope gives another kind
-pub record MayHaveOtherKind (tokens : List TokenKind) (at : ℕ) : Type 0 where
+pub record MayHaveOtherKind (wide : Bool) (tokens : List TokenKind) (at : ℕ) : Type 0 where
   pub items : List Item
   pub tree : IsTreeFrom (take (at + 1) tokens) items
-  pub bad : HasOtherKindAt items at
+  pub bad : HasOtherKindAt wide items at
 
 -- an assignment operator behind an expression that is no unary form
-pub record MayHaveNoUnaryLeft (tokens : List TokenKind) (at : ℕ) : Type 0 where
+pub record MayHaveNoUnaryLeft (wide : Bool) (tokens : List TokenKind) (at : ℕ) : Type 0 where
   pub sign : Punct
   pub is : slice_get tokens at ≡ Some (kinds.Punct sign)
   pub assigns : is_assignment sign ≡ true
   pub items : List Item
   pub tree : IsTreeFrom (take at tokens) items
-  pub bad : HasNoUnaryBefore items at
+  pub bad : HasNoUnaryBefore wide items at
 
 -- what a code says of the token that is refused
-abbrev pub MayBe : Code → List TokenKind → ℕ → Type 0
-MayBe syntax tokens at = Unit {0}
-MayBe too_deep tokens at = (50 ≤ at) × BeginsTree (take (at + 1) tokens)
-MayBe other_kind tokens at = MayHaveOtherKind tokens at
-MayBe no_mix tokens at = MayHaveNoMix tokens at
-MayBe no_unary_left tokens at = MayHaveNoUnaryLeft tokens at
+abbrev pub MayBe : Bool → Code → List TokenKind → ℕ → Type 0
+MayBe wide syntax tokens at = Unit {0}
+MayBe wide too_deep tokens at = (50 ≤ at) × BeginsTree (take (at + 1) tokens)
+MayBe wide other_kind tokens at = MayHaveOtherKind wide tokens at
+MayBe wide no_mix tokens at = MayHaveNoMix wide tokens at
+MayBe wide no_unary_left tokens at = MayHaveNoUnaryLeft wide tokens at
 
 -- with another code than too deep, the height is not what is wrong
-abbrev pub IsNotForHeight : Code → List TokenKind → ℕ → Type 0
-IsNotForHeight syntax tokens at = ¬ BeginsUnitOfAnyHeight (take (at + 1) tokens)
-IsNotForHeight too_deep tokens at = Unit {0}
-IsNotForHeight other_kind tokens at = ¬ BeginsUnitOfAnyHeight (take (at + 1) tokens)
-IsNotForHeight no_mix tokens at = ¬ BeginsUnitOfAnyHeight (take (at + 1) tokens)
-IsNotForHeight no_unary_left tokens at = ¬ BeginsUnitOfAnyHeight (take (at + 1) tokens)
+abbrev pub IsNotForHeight : Bool → Code → List TokenKind → ℕ → Type 0
+IsNotForHeight wide syntax tokens at = ¬ BeginsUnitOfAnyHeight wide (take (at + 1) tokens)
+IsNotForHeight wide too_deep tokens at = Unit {0}
+IsNotForHeight wide other_kind tokens at = ¬ BeginsUnitOfAnyHeight wide (take (at + 1) tokens)
+IsNotForHeight wide no_mix tokens at = ¬ BeginsUnitOfAnyHeight wide (take (at + 1) tokens)
+IsNotForHeight wide no_unary_left tokens at = ¬ BeginsUnitOfAnyHeight wide (take (at + 1) tokens)
 
 -- no well-formed unit begins with the tokens up to this one, some tree begins with those before it, and the code may
 -- be its
-pub record IsAllowed (tokens : List TokenKind) (at : ℕ) (code : Code) : Type 0 where
+pub record IsAllowed (wide : Bool) (tokens : List TokenKind) (at : ℕ) (code : Code) : Type 0 where
   pub there : at < length tokens
-  pub none : ¬ BeginsUnit (take (at + 1) tokens)
+  pub none : ¬ BeginsUnit wide (take (at + 1) tokens)
   pub before : BeginsTree (take at tokens)
-  pub height : IsNotForHeight code tokens at
-  pub may_be : MayBe code tokens at
+  pub height : IsNotForHeight wide code tokens at
+  pub may_be : MayBe wide code tokens at

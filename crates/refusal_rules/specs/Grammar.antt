@@ -2,15 +2,15 @@
 -- operators among one another, the mixes of specifiers, the `if` that an `else` belongs to, the form that an
 -- attribute belongs to, which declarators a function may have, the kinds of names by scope and the height are not
 -- looked at here.
-use Rattle.std.specs.Prelude.{◌≡◌, ◌≢◌, ◌≤◌, All, Bool, true, false, ℕ, List, []}
+use Rattle.std.specs.Prelude.{◌≡◌, ◌≢◌, ◌≤◌, All, Bool, true, false, ℕ, List, [], ◌∷◌}
 use Rattle.c_words.specs.declared.kinds.Keyword.{Keyword}
-use Rattle.c_words.specs.declared.kinds.Keyword.TheVariants.{Void, Char, Short, Int, Long, Float, Double, Signed, Unsigned, Bool as BoolWord, Complex, BaseWord, Int128}
+use Rattle.c_words.specs.declared.kinds.Keyword.TheVariants.{Void, Char, Short, Int, Long, Float, Double, Signed, Unsigned, Bool as BoolWord, Complex, BaseWord, Int128, AnyComplex}
 use Rattle.c_tree.specs.declared.lexeme.Lexeme.{Lexeme}
-use Rattle.c_tree.specs.Tree.{Expr, operation, cast, prefix, sizeof_value, sizeof_type, extension, index, call, dot, arrow, post, compound, name_use, number_use, char_use, text_use, paren, statement_expr, va_arg, va_start, va_copy, offset, Operator, comma, assign, cond, binary, SomeExpr, no_expr, some_expr, Exprs, no_exprs, more_exprs, SpecWords, no_words, more_words, SpecWord, storage, thread, inline_word, noreturn, qualifier, basic, struct_type, enum_type, typedef_name, attribute, SomeBody, no_body, some_body, StructItems, no_struct_items, more_struct_items, StructItem, member, member_semi, member_assert, MemDeclrs, no_mem_declrs, more_mem_declrs, MemDeclr, named, unnamed, SomeValue, no_value, some_value, EnumType, enum_of, SomeEnumBody, no_enum_body, some_enum_body, Enumerators, no_enumerators, more_enumerators, Declr, pointer, declr_name, declr_paren, array, params, abs_pointer, abs_paren, abs_array, abs_params, SomeDeclr, no_declr, some_declr, SomeSize, no_size, some_size, ArraySize, size_value, size_star, Params, no_params, more_params, Init, init_value, init_braced, InitList, init_list, InitItems, no_init_items, more_init_items, Desigs, no_desigs, more_desigs, Desig, member_desig, index_desig, SomeInit, no_init, some_init, InitDeclrs, no_init_declrs, more_init_declrs, Declaration, declaration, Decl, decl_declaration, decl_assert, BlockItems, no_block_items, more_block_items, BlockItem, block_decl, block_stmt, Stmt, block, expr_stmt, attr_stmt, label, case_stmt, default_stmt, if_stmt, switch_stmt, while_stmt, do_stmt, for_stmt, goto_stmt, continue_stmt, break_stmt, return_stmt, asm_stmt, SomeElse, no_else, some_else, ForStart, start_declaration, start_value}
+use Rattle.c_tree.specs.Tree.{Expr, operation, cast, prefix, sizeof_value, sizeof_type, extension, index, call, dot, arrow, post, compound, name_use, number_use, char_use, text_use, paren, statement_expr, va_arg, va_start, va_copy, offset, Operator, comma, assign, cond, binary, SomeExpr, no_expr, some_expr, Exprs, no_exprs, more_exprs, SpecWords, no_words, more_words, SpecWord, storage, thread, inline_word, noreturn, qualifier, basic, struct_type, enum_type, typedef_name, attribute, SomeBody, no_body, some_body, StructItems, no_struct_items, more_struct_items, StructItem, member, member_semi, member_assert, MemDeclrs, no_mem_declrs, more_mem_declrs, MemDeclr, named, unnamed, SomeValue, no_value, some_value, EnumType, enum_of, SomeEnumBody, no_enum_body, some_enum_body, Enumerators, no_enumerators, more_enumerators, Declr, pointer, declr_name, declr_paren, array, params, abs_pointer, abs_paren, abs_array, abs_params, SomeDeclr, no_declr, some_declr, SomeSize, no_size, some_size, ArraySize, size_value, size_star, Params, no_params, more_params, Init, init_value, init_braced, InitList, init_list, InitItems, no_init_items, more_init_items, Desigs, no_desigs, more_desigs, Desig, member_desig, index_desig, SomeInit, no_init, some_init, InitDeclrs, no_init_declrs, more_init_declrs, Declaration, declaration, Decl, decl_declaration, decl_assert, BlockItems, no_block_items, more_block_items, BlockItem, block_decl, block_stmt, Stmt, block, expr_stmt, attr_stmt, label, case_stmt, default_stmt, if_stmt, switch_stmt, while_stmt, do_stmt, for_stmt, goto_stmt, continue_stmt, break_stmt, return_stmt, asm_stmt, SomeElse, no_else, some_else, ForStart, start_declaration, start_value, complex_part, label_use, compat, choose, generic, typeof_value, typeof_type, align, auto_word, range_desig, old_desig, case_range, goto_value, block_labels, identifiers, base_name, Assocs, no_assocs, more_assocs, Assoc, typed_assoc, default_assoc}
 use Rattle.c_tree.specs.Levels.{IsOperator, expr_level, left_level, right_level}
 use Rattle.c_tree.specs.Groups.{IsGroup}
-use Rattle.c_tree.specs.WellFormed.{prefix_level, is_postfix, is_sizeof, is_struct, is_storage, is_asm_word, IsQual, IsPointerWord, IsArrayWord, AreAttrs, IsLabel, is_named, is_direct, IsEllipsis, IsInitStart, IsMemStart, HasTagOrBody, HasTagOrEnumBody, IsItemsEnd, IsDesignated, IsTypeWord}
-use Rattle.c_tree.specs.Unit.{Item, function_item, decl_item, asm_item, semi_item}
+use Rattle.c_tree.specs.WellFormed.{prefix_level, is_postfix, is_sizeof, is_struct, is_storage, is_asm_word, IsWordQual, IsPointerWord, IsArrayWord, AreAttrs, IsLabel, is_named, is_direct, IsEllipsis, IsInitStart, IsMemStart, HasTagOrBody, HasTagOrEnumBody, IsItemsEnd, IsDesignated, IsTypeWord, is_type_former, is_bare_name, has_auto, IsAutoWhere, AreLabelsFirst}
+use Rattle.c_tree.specs.Unit.{Item, function_item, decl_item, asm_item, semi_item, old_function_item}
 
 -- a word of the basic types
 abbrev pub is_basic_word : Keyword → Bool
@@ -25,6 +25,7 @@ is_basic_word Signed = true
 is_basic_word Unsigned = true
 is_basic_word BoolWord = true
 is_basic_word Complex = true
+is_basic_word AnyComplex = true
 is_basic_word BaseWord = true
 is_basic_word Int128 = true
 is_basic_word _ = false
@@ -68,7 +69,7 @@ module _ (all : List Lexeme) where
     DerivesExpr (char_use token) = Unit {0}
     DerivesExpr (text_use texts) = texts ≢ []
     DerivesExpr (paren opening e closing) = DerivesExpr e
-    DerivesExpr (statement_expr opening opening2 items closing closing2) = DerivesBlockItems items
+    DerivesExpr (statement_expr opening opening2 items closing closing2) = DerivesBlockItems items × AreLabelsFirst items
     DerivesExpr (va_arg keyword opening e separator ws d closing) =
         DerivesExpr e × (ws ≢ no_words) × DerivesTypeWords ws × DerivesSomeAbstract d × (1 ≤ expr_level e)
     DerivesExpr (va_start keyword opening e separator e2 closing) =
@@ -77,6 +78,22 @@ module _ (all : List Lexeme) where
         DerivesExpr e × DerivesExpr e2 × (1 ≤ expr_level e) × (1 ≤ expr_level e2)
     DerivesExpr (offset keyword opening ws d separator name steps closing) =
         (ws ≢ no_words) × DerivesTypeWords ws × DerivesSomeAbstract d × DerivesSteps steps
+    DerivesExpr (complex_part keyword e) = DerivesExpr e × (13 ≤ expr_level e)
+    DerivesExpr (label_use token name) = Unit {0}
+    DerivesExpr (compat keyword opening ws d separator ws2 d2 closing) =
+        (ws ≢ no_words) × DerivesTypeWords ws × DerivesSomeAbstract d × (ws2 ≢ no_words) × DerivesTypeWords ws2 × DerivesSomeAbstract d2
+    DerivesExpr (choose keyword opening e separator e2 separator2 e3 closing) =
+        DerivesExpr e × DerivesExpr e2 × DerivesExpr e3 × (1 ≤ expr_level e) × (1 ≤ expr_level e2) × (1 ≤ expr_level e3)
+    DerivesExpr (generic keyword opening e xs closing) = DerivesExpr e × (1 ≤ expr_level e) × (xs ≢ no_assocs) × DerivesAssocs xs
+
+    pub DerivesAssocs : Assocs → Type 0
+    DerivesAssocs no_assocs = Unit {0}
+    DerivesAssocs (more_assocs x xs) = DerivesAssoc x × DerivesAssocs xs
+
+    pub DerivesAssoc : Assoc → Type 0
+    DerivesAssoc (typed_assoc ws d colon e) =
+        (ws ≢ no_words) × DerivesTypeWords ws × DerivesSomeAbstract d × DerivesExpr e × (1 ≤ expr_level e)
+    DerivesAssoc (default_assoc keyword colon e) = DerivesExpr e × (1 ≤ expr_level e)
 
     pub DerivesMiddle : Operator → Type 0
     DerivesMiddle comma = Unit {0}
@@ -99,6 +116,8 @@ module _ (all : List Lexeme) where
     pub DerivesStep : Desig → Type 0
     DerivesStep (member_desig token name) = Unit {0}
     DerivesStep (index_desig opening e closing) = DerivesExpr e
+    DerivesStep (range_desig opening e dots e2 closing) = ⊥
+    DerivesStep (old_desig name colon) = ⊥
 
     pub DerivesDesigs : Desigs → Type 0
     DerivesDesigs no_desigs = Unit {0}
@@ -107,6 +126,8 @@ module _ (all : List Lexeme) where
     pub DerivesDesig : Desig → Type 0
     DerivesDesig (member_desig token name) = Unit {0}
     DerivesDesig (index_desig opening e closing) = DerivesExpr e × (2 ≤ expr_level e)
+    DerivesDesig (range_desig opening e dots e2 closing) = DerivesExpr e × (2 ≤ expr_level e) × DerivesExpr e2 × (2 ≤ expr_level e2)
+    DerivesDesig (old_desig name colon) = Unit {0}
 
     pub DerivesTypeWords : SpecWords → Type 0
     DerivesTypeWords no_words = Unit {0}
@@ -121,13 +142,18 @@ module _ (all : List Lexeme) where
     DerivesSpecWord (thread keyword) = Unit {0}
     DerivesSpecWord (inline_word keyword) = Unit {0}
     DerivesSpecWord (noreturn keyword) = Unit {0}
-    DerivesSpecWord (qualifier qual) = IsQual all qual
+    DerivesSpecWord (qualifier qual) = IsWordQual all qual
     DerivesSpecWord (basic word) = is_basic_word word.keyword ≡ true
     DerivesSpecWord (struct_type word attrs tag body) =
         (is_struct word.keyword ≡ true) × AreAttrs all attrs × HasTagOrBody tag body × DerivesBody body
     DerivesSpecWord (enum_type enum) = DerivesEnum enum
     DerivesSpecWord (typedef_name name) = Unit {0}
     DerivesSpecWord (attribute attr) = IsGroup all attr.group
+    DerivesSpecWord (typeof_value keyword opening e closing) = DerivesExpr e
+    DerivesSpecWord (typeof_type word opening ws d closing) =
+        (is_type_former word.keyword ≡ true) × (ws ≢ no_words) × DerivesTypeWords ws × DerivesSomeAbstract d
+    DerivesSpecWord (align attr) = IsGroup all attr.group
+    DerivesSpecWord (auto_word token) = Unit {0}
 
     pub DerivesBody : SomeBody → Type 0
     DerivesBody no_body = Unit {0}
@@ -139,7 +165,7 @@ module _ (all : List Lexeme) where
 
     pub DerivesStructItem : StructItem → Type 0
     DerivesStructItem (member exts ws ds semi) =
-        (ws ≢ no_words) × DerivesSpecWords ws × IsMemStart ds × DerivesMemDeclrs ds
+        (ws ≢ no_words) × DerivesSpecWords ws × (has_auto ws ≡ false) × IsMemStart ds × DerivesMemDeclrs ds
     DerivesStructItem (member_semi semi) = Unit {0}
     DerivesStructItem (member_assert it) = IsGroup all it.group
 
@@ -182,6 +208,8 @@ module _ (all : List Lexeme) where
         DerivesSomeDirect d × All (IsArrayWord all) words × DerivesSize size
     DerivesDeclr (abs_params d opening ps dots closing) =
         DerivesSomeDirect d × DerivesParams ps × IsEllipsis all ps dots
+    DerivesDeclr (identifiers d opening names closing) = DerivesDeclr d × (is_bare_name d ≡ true) × (names ≢ [])
+    DerivesDeclr (base_name token) = Unit {0}
 
     pub DerivesSomeAbstract : SomeDeclr → Type 0
     DerivesSomeAbstract no_declr = Unit {0}
@@ -202,7 +230,7 @@ module _ (all : List Lexeme) where
     pub DerivesParams : Params → Type 0
     DerivesParams no_params = Unit {0}
     DerivesParams (more_params ws d attrs ps) =
-        (ws ≢ no_words) × DerivesSpecWords ws × DerivesSomeDeclr d × AreAttrs all attrs × DerivesParams ps
+        (ws ≢ no_words) × DerivesSpecWords ws × (has_auto ws ≡ false) × DerivesSomeDeclr d × AreAttrs all attrs × DerivesParams ps
 
     pub DerivesSomeDeclr : SomeDeclr → Type 0
     DerivesSomeDeclr no_declr = Unit {0}
@@ -232,7 +260,7 @@ module _ (all : List Lexeme) where
 
     pub DerivesDeclaration : Declaration → Type 0
     DerivesDeclaration (declaration exts ws ds semi) =
-        (ws ≢ no_words) × DerivesSpecWords ws × IsInitStart ds × DerivesInitDeclrs ds
+        (ws ≢ no_words) × DerivesSpecWords ws × IsInitStart ds × DerivesInitDeclrs ds × IsAutoWhere (has_auto ws) ws ds
 
     pub DerivesDecl : Decl → Type 0
     DerivesDecl (decl_declaration d) = DerivesDeclaration d
@@ -245,9 +273,10 @@ module _ (all : List Lexeme) where
     pub DerivesBlockItem : BlockItem → Type 0
     DerivesBlockItem (block_decl d) = DerivesDecl d
     DerivesBlockItem (block_stmt s) = DerivesStmt s
+    DerivesBlockItem (block_labels keyword names semi) = names ≢ []
 
     pub DerivesStmt : Stmt → Type 0
-    DerivesStmt (block opening items closing) = DerivesBlockItems items
+    DerivesStmt (block opening items closing) = DerivesBlockItems items × AreLabelsFirst items
     DerivesStmt (expr_stmt e semi) = DerivesSomeExpr e
     DerivesStmt (attr_stmt attrs semi) = (attrs ≢ []) × AreAttrs all attrs
     DerivesStmt (label name colon attrs s) = AreAttrs all attrs × DerivesStmt s
@@ -264,6 +293,9 @@ module _ (all : List Lexeme) where
     DerivesStmt (break_stmt keyword semi) = Unit {0}
     DerivesStmt (return_stmt keyword e semi) = DerivesSomeExpr e
     DerivesStmt (asm_stmt keyword words group semi) = All (λ w. is_asm_word w.keyword ≡ true) words × IsGroup all group
+    DerivesStmt (case_range keyword e dots e2 colon s) =
+        DerivesExpr e × (2 ≤ expr_level e) × DerivesExpr e2 × (2 ≤ expr_level e2) × DerivesStmt s
+    DerivesStmt (goto_value keyword star e semi) = DerivesExpr e
 
     pub DerivesOther : SomeElse → Type 0
     DerivesOther no_else = Unit {0}
@@ -273,11 +305,18 @@ module _ (all : List Lexeme) where
     DerivesStart (start_declaration d) = DerivesDeclaration d
     DerivesStart (start_value e semi) = DerivesSomeExpr e
 
+  abbrev pub DeriveDeclarations : List Declaration → Type 0
+  DeriveDeclarations [] = Unit {0}
+  DeriveDeclarations (d ∷ ds) = DerivesDeclaration d × DeriveDeclarations ds
+
   -- an item of a unit
   abbrev pub DerivesItem : Item → Type 0
   DerivesItem (function_item exts ws d attrs opening items closing) =
-      (ws ≢ no_words) × DerivesSpecWords ws × DerivesDeclr d × (is_named d ≡ true) × AreAttrs all attrs
-      × DerivesBlockItems items
+      (ws ≢ no_words) × DerivesSpecWords ws × (has_auto ws ≡ false) × DerivesDeclr d × (is_named d ≡ true) × AreAttrs all attrs
+      × DerivesBlockItems items × AreLabelsFirst items
+  DerivesItem (old_function_item exts ws d attrs ds opening items closing) =
+      (ws ≢ no_words) × DerivesSpecWords ws × (has_auto ws ≡ false) × DerivesDeclr d × (is_named d ≡ true) × AreAttrs all attrs
+      × DeriveDeclarations ds × DerivesBlockItems items × AreLabelsFirst items
   DerivesItem (decl_item d) = DerivesDecl d
   DerivesItem (asm_item keyword group semi) = IsGroup all group
   DerivesItem (semi_item semi) = Unit {0}

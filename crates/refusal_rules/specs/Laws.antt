@@ -1,6 +1,6 @@
 -- How what is allowed lies to well-formed units: the lines of the grammar ask no more than all rules do, nothing is
 -- allowed before the first bad token, and there a refusal is, unless the height alone is wrong.
-use Rattle.std.specs.Prelude.{ℕ, ◌+◌, ◌<◌, All, List, take}
+use Rattle.std.specs.Prelude.{ℕ, Bool, ◌+◌, ◌<◌, All, List, take}
 use Rattle.c_words.specs.declared.kinds.TokenKind.{TokenKind}
 use Rattle.c_tree.specs.declared.lexeme.Lexeme.{Lexeme}
 use Rattle.c_tree.specs.Unit.{Item, IsUnit}
@@ -14,19 +14,19 @@ UnitsAreTrees = (all : List Lexeme) (items : List Item) → IsUnit all items →
 
 -- where a well-formed unit begins so, a tree does, and a unit that is well formed but for its height
 abbrev pub UnitsBeginAsTrees : Type 0
-UnitsBeginAsTrees = (before : List TokenKind) → BeginsUnit before → BeginsTree before
+UnitsBeginAsTrees = (wide : Bool) (before : List TokenKind) → BeginsUnit wide before → BeginsTree before
 
 abbrev pub UnitsBeginAtAnyHeight : Type 0
-UnitsBeginAtAnyHeight = (before : List TokenKind) → BeginsUnit before → BeginsUnitOfAnyHeight before
+UnitsBeginAtAnyHeight = (wide : Bool) (before : List TokenKind) → BeginsUnit wide before → BeginsUnitOfAnyHeight wide before
 
 -- where a well-formed unit begins with the first tokens, no refusal of one of these is allowed
 abbrev pub NoneIsEarlier : Type 0
 NoneIsEarlier =
-    (tokens : List TokenKind) (first at : ℕ) (code : Code) → BeginsUnit (take first tokens) → IsAllowed tokens at code
+    (wide : Bool) (tokens : List TokenKind) (first at : ℕ) (code : Code) → BeginsUnit wide (take first tokens) → IsAllowed wide tokens at code
     → ¬ (at < first)
 
 -- the refusal of the first bad token for its syntax is allowed, where the height is not what is wrong
 abbrev pub FirstBadIsAllowed : Type 0
 FirstBadIsAllowed =
-    (tokens : List TokenKind) (first : ℕ) → IsFirstBad tokens first → ¬ BeginsUnitOfAnyHeight (take (first + 1) tokens)
-    → IsAllowed tokens first syntax
+    (wide : Bool) (tokens : List TokenKind) (first : ℕ) → IsFirstBad wide tokens first → ¬ BeginsUnitOfAnyHeight wide (take (first + 1) tokens)
+    → IsAllowed wide tokens first syntax

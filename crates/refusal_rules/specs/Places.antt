@@ -1,14 +1,15 @@
 -- The expressions, the specifiers and the declared names of a tree, in the order of its text, each with the scopes
 -- at its place; none where a name before it has not the kind that its place wants. Declarators of members declare
 -- nothing.
-use Rattle.std.specs.Prelude.{ℕ, List, [], ◌∷◌, ◌++◌, Option, None, Some}
-use Rattle.c_tree.specs.Tree.{Expr, operation, cast, prefix, sizeof_value, sizeof_type, extension, index, call, dot, arrow, post, compound, name_use, number_use, char_use, text_use, paren, statement_expr, va_arg, va_start, va_copy, offset, Operator, comma, assign, cond, binary, SomeExpr, no_expr, some_expr, Exprs, no_exprs, more_exprs, SpecWords, no_words, more_words, SpecWord, storage, thread, inline_word, noreturn, qualifier, basic, struct_type, enum_type, typedef_name, attribute, SomeBody, no_body, some_body, StructItems, no_struct_items, more_struct_items, StructItem, member, member_semi, member_assert, MemDeclrs, no_mem_declrs, more_mem_declrs, MemDeclr, named, unnamed, SomeValue, no_value, some_value, EnumType, enum_of, SomeEnumBody, no_enum_body, some_enum_body, Enumerators, no_enumerators, more_enumerators, Declr, pointer, declr_name, declr_paren, array, params, abs_pointer, abs_paren, abs_array, abs_params, SomeDeclr, no_declr, some_declr, SomeSize, no_size, some_size, ArraySize, size_value, size_star, Params, no_params, more_params, Init, init_value, init_braced, InitList, init_list, InitItems, no_init_items, more_init_items, Desigs, no_desigs, more_desigs, Desig, member_desig, index_desig, SomeInit, no_init, some_init, InitDeclrs, no_init_declrs, more_init_declrs, Declaration, declaration, Decl, decl_declaration, decl_assert, BlockItems, no_block_items, more_block_items, BlockItem, block_decl, block_stmt, Stmt, block, expr_stmt, attr_stmt, label, case_stmt, default_stmt, if_stmt, switch_stmt, while_stmt, do_stmt, for_stmt, goto_stmt, continue_stmt, break_stmt, return_stmt, asm_stmt, SomeElse, no_else, some_else, ForStart, start_declaration, start_value}
-use Rattle.c_tree.specs.Unit.{Item, function_item, decl_item, asm_item, semi_item}
+use Rattle.std.specs.Prelude.{ℕ, List, [], ◌∷◌, ◌++◌, Option, None, Some, if◌then◌else◌}
+use Rattle.c_tree.specs.Tree.{Expr, operation, cast, prefix, sizeof_value, sizeof_type, extension, index, call, dot, arrow, post, compound, name_use, number_use, char_use, text_use, paren, statement_expr, va_arg, va_start, va_copy, offset, Operator, comma, assign, cond, binary, SomeExpr, no_expr, some_expr, Exprs, no_exprs, more_exprs, SpecWords, no_words, more_words, SpecWord, storage, thread, inline_word, noreturn, qualifier, basic, struct_type, enum_type, typedef_name, attribute, SomeBody, no_body, some_body, StructItems, no_struct_items, more_struct_items, StructItem, member, member_semi, member_assert, MemDeclrs, no_mem_declrs, more_mem_declrs, MemDeclr, named, unnamed, SomeValue, no_value, some_value, EnumType, enum_of, SomeEnumBody, no_enum_body, some_enum_body, Enumerators, no_enumerators, more_enumerators, Declr, pointer, declr_name, declr_paren, array, params, abs_pointer, abs_paren, abs_array, abs_params, SomeDeclr, no_declr, some_declr, SomeSize, no_size, some_size, ArraySize, size_value, size_star, Params, no_params, more_params, Init, init_value, init_braced, InitList, init_list, InitItems, no_init_items, more_init_items, Desigs, no_desigs, more_desigs, Desig, member_desig, index_desig, SomeInit, no_init, some_init, InitDeclrs, no_init_declrs, more_init_declrs, Declaration, declaration, Decl, decl_declaration, decl_assert, BlockItems, no_block_items, more_block_items, BlockItem, block_decl, block_stmt, Stmt, block, expr_stmt, attr_stmt, label, case_stmt, default_stmt, if_stmt, switch_stmt, while_stmt, do_stmt, for_stmt, goto_stmt, continue_stmt, break_stmt, return_stmt, asm_stmt, SomeElse, no_else, some_else, ForStart, start_declaration, start_value, typeof_value, typeof_type, align, auto_word, complex_part, label_use, compat, choose, generic, range_desig, old_desig, case_range, goto_value, block_labels, identifiers, base_name, Assocs, no_assocs, more_assocs, Assoc, typed_assoc, default_assoc}
+use Rattle.c_tree.specs.Unit.{Item, function_item, decl_item, asm_item, semi_item, old_function_item}
 use Rattle.typedef_scope.specs.declared.kind.Kind.{Kind}
 use Rattle.typedef_scope.specs.declared.kind.Kind.TheVariants.{Value, Constant}
-use Rattle.c_units.specs.HeldScopes.{HeldScopes, enter, innermost, reopen, release, declare}
-use Rattle.c_units.specs.Scoping.{behind, in_own_scope, where_true, declared_kind, some_shows_no_type, expr_scopes, operator_scopes, some_expr_scopes, spec_words_scopes, spec_word_scopes, struct_item_scopes, mem_declr_scopes, some_value_scopes, declr_scopes, some_declr_scopes, init_scopes, desigs_scopes, desig_scopes, some_init_scopes, block_item_scopes, stmt_scopes, for_start_scopes}
-use Rattle.c_units.specs.Units.{own_params, own_scope, item_scopes}
+use Rattle.c_units.specs.HeldScopes.{HeldScopes, enter, innermost, leave, reopen, release, declare, hold}
+use Rattle.c_units.specs.Scoping.{auto_name_scopes, behind, in_own_scope, where_true, declared_kind, some_shows_no_type, expr_scopes, operator_scopes, some_expr_scopes, spec_words_scopes, spec_word_scopes, struct_item_scopes, mem_declr_scopes, some_value_scopes, declr_scopes, some_declr_scopes, init_scopes, desigs_scopes, desig_scopes, some_init_scopes, block_item_scopes, stmt_scopes, for_start_scopes, assoc_scopes, declaration_scopes}
+use Rattle.c_units.specs.Units.{own_params, own_scope, item_scopes, declarations_scopes}
+use Rattle.c_tree.specs.WellFormed.{has_auto}
 
 -- a part of a tree: an expression, all words of specifiers, or a token that declares a name of a kind
 pub data Part : Type 0 where
@@ -97,6 +98,25 @@ abbrev mutual
   expr_inside (offset keyword opening ws d separator name steps closing) s =
       of_specs ws (spec_words_inside ws) s ++ some_declr_inside None d (behind s (spec_words_scopes ws))
       ++ desigs_inside steps (behind_type ws d s)
+  expr_inside (complex_part keyword e) s = of_expr e (expr_inside e) s
+  expr_inside (label_use token name) s = []
+  expr_inside (compat keyword opening ws d separator ws2 d2 closing) s =
+      of_specs ws (spec_words_inside ws) s ++ some_declr_inside None d (behind s (spec_words_scopes ws))
+      ++ of_specs ws2 (spec_words_inside ws2) (behind_type ws d s) ++ some_declr_inside None d2 (behind (behind_type ws d s) (spec_words_scopes ws2))
+  expr_inside (choose keyword opening e separator e2 separator2 e3 closing) s =
+      of_expr e (expr_inside e) s ++ of_expr e2 (expr_inside e2) (behind s (expr_scopes e))
+      ++ of_expr e3 (expr_inside e3) (behind (behind s (expr_scopes e)) (expr_scopes e2))
+  expr_inside (generic keyword opening e xs closing) s = of_expr e (expr_inside e) s ++ assocs_inside xs (behind s (expr_scopes e))
+
+  pub assocs_inside : Assocs → Option HeldScopes → List Place
+  assocs_inside no_assocs s = []
+  assocs_inside (more_assocs x xs) s = assoc_inside x s ++ assocs_inside xs (behind s (assoc_scopes x))
+
+  pub assoc_inside : Assoc → Option HeldScopes → List Place
+  assoc_inside (typed_assoc ws d colon e) s =
+      of_specs ws (spec_words_inside ws) s ++ some_declr_inside None d (behind s (spec_words_scopes ws))
+      ++ of_expr e (expr_inside e) (behind_type ws d s)
+  assoc_inside (default_assoc keyword colon e) s = of_expr e (expr_inside e) s
 
   pub operator_inside : Operator → Option HeldScopes → List Place
   operator_inside comma s = []
@@ -127,6 +147,10 @@ abbrev mutual
   spec_word_inside (enum_type enum) s = enum_type_inside enum s
   spec_word_inside (typedef_name name) s = []
   spec_word_inside (attribute attr) s = []
+  spec_word_inside (typeof_value keyword opening e closing) s = of_expr e (expr_inside e) s
+  spec_word_inside (typeof_type word opening ws d closing) s = of_specs ws (spec_words_inside ws) s ++ some_declr_inside None d (behind s (spec_words_scopes ws))
+  spec_word_inside (align attr) s = []
+  spec_word_inside (auto_word token) s = []
 
   pub some_body_inside : SomeBody → Option HeldScopes → List Place
   some_body_inside no_body s = []
@@ -185,6 +209,8 @@ abbrev mutual
       some_declr_inside kind d s ++ some_size_inside size (behind s (some_declr_scopes kind d))
   declr_inside kind (abs_params d opening ps dots closing) s =
       some_declr_inside kind d s ++ params_inside ps (entered (behind s (some_declr_scopes kind d)))
+  declr_inside kind (identifiers d opening names closing) s = declr_inside kind d s
+  declr_inside kind (base_name token) s = []
 
   pub some_declr_inside : Option Kind → SomeDeclr → Option HeldScopes → List Place
   some_declr_inside kind no_declr s = []
@@ -224,6 +250,8 @@ abbrev mutual
   pub desig_inside : Desig → Option HeldScopes → List Place
   desig_inside (member_desig token name) s = []
   desig_inside (index_desig opening e closing) s = of_expr e (expr_inside e) s
+  desig_inside (range_desig opening e dots e2 closing) s = of_expr e (expr_inside e) s ++ of_expr e2 (expr_inside e2) (behind s (expr_scopes e))
+  desig_inside (old_desig name colon) s = []
 
   pub some_init_inside : SomeInit → Option HeldScopes → List Place
   some_init_inside no_init s = []
@@ -237,9 +265,17 @@ abbrev mutual
       ++ init_declrs_inside kind ds
       (behind (released kind (behind s (declr_scopes (Some kind) d))) (some_init_scopes init))
 
+  pub auto_declrs_inside : InitDeclrs → Option HeldScopes → List Place
+  auto_declrs_inside no_init_declrs s = []
+  auto_declrs_inside (more_init_declrs attrs d asm_label attrs2 init ds) s =
+      declr_inside (Some Value) d s ++ some_init_inside init (behind s (auto_name_scopes d))
+      ++ auto_declrs_inside ds (released Value (behind (behind s (auto_name_scopes d)) (some_init_scopes init)))
+
   pub declaration_inside : Declaration → Option HeldScopes → List Place
   declaration_inside (declaration exts ws ds semi) s =
-      of_specs ws (spec_words_inside ws) s ++ init_declrs_inside (declared_kind ws) ds (behind s (spec_words_scopes ws))
+      of_specs ws (spec_words_inside ws) s
+      ++ (if has_auto ws then auto_declrs_inside ds (behind s (spec_words_scopes ws))
+      else init_declrs_inside (declared_kind ws) ds (behind s (spec_words_scopes ws)))
 
   pub decl_inside : Decl → Option HeldScopes → List Place
   decl_inside (decl_declaration d) s = declaration_inside d s
@@ -253,6 +289,7 @@ abbrev mutual
   pub block_item_inside : BlockItem → Option HeldScopes → List Place
   block_item_inside (block_decl d) s = decl_inside d s
   block_item_inside (block_stmt t) s = stmt_inside t s
+  block_item_inside (block_labels keyword names semi) s = []
 
   pub stmt_inside : Stmt → Option HeldScopes → List Place
   stmt_inside (block opening items closing) s = block_items_inside items (entered s)
@@ -281,6 +318,10 @@ abbrev mutual
   stmt_inside (break_stmt keyword semi) s = []
   stmt_inside (return_stmt keyword e semi) s = some_expr_inside e s
   stmt_inside (asm_stmt keyword words group semi) s = []
+  stmt_inside (case_range keyword e dots e2 colon t) s =
+      of_expr e (expr_inside e) s ++ of_expr e2 (expr_inside e2) (behind s (expr_scopes e))
+      ++ stmt_inside t (behind (behind s (expr_scopes e)) (expr_scopes e2))
+  stmt_inside (goto_value keyword star e semi) s = of_expr e (expr_inside e) s
 
   pub some_else_inside : SomeElse → Option HeldScopes → List Place
   some_else_inside no_else s = []
@@ -290,11 +331,28 @@ abbrev mutual
   for_start_inside (start_declaration d) s = declaration_inside d s
   for_start_inside (start_value e semi) s = some_expr_inside e s
 
+-- in the declarations behind a list of identifiers
+abbrev pub in_identifiers : Declr → Option HeldScopes → Option HeldScopes
+in_identifiers d s = behind s (λ t. behind (declr_scopes (Some Value) d t) (λ u. Some (enter u)))
+
+abbrev pub in_old_function : Declr → List Declaration → Option HeldScopes → Option HeldScopes
+in_old_function d ds s =
+    behind s (λ t. behind (declr_scopes (Some Value) d t) (λ u. behind (declarations_scopes ds (enter u))
+    (λ w. Some (reopen (innermost w) (release Value (leave w))))))
+
+abbrev pub declarations_inside : List Declaration → Option HeldScopes → List Place
+declarations_inside [] s = []
+declarations_inside (d ∷ ds) s = declaration_inside d s ++ declarations_inside ds (behind s (declaration_scopes d))
+
 -- the parts of an item of a unit
 abbrev pub item_inside : Item → Option HeldScopes → List Place
 item_inside (function_item exts ws d attrs opening items closing) s =
     of_specs ws (spec_words_inside ws) s ++ declr_inside (Some Value) d (behind s (spec_words_scopes ws))
     ++ block_items_inside items (in_function d (behind s (spec_words_scopes ws)))
+item_inside (old_function_item exts ws d attrs ds opening items closing) s =
+    of_specs ws (spec_words_inside ws) s ++ declr_inside (Some Value) d (behind s (spec_words_scopes ws))
+    ++ declarations_inside ds (in_identifiers d (behind s (spec_words_scopes ws)))
+    ++ block_items_inside items (in_old_function d ds (behind s (spec_words_scopes ws)))
 item_inside (decl_item d) s = decl_inside d s
 item_inside (asm_item keyword group semi) s = []
 item_inside (semi_item semi) s = []

@@ -6,7 +6,7 @@ ghost use Rattle.flow_graph.specs.System.{IsWithin};
 use crate::judging::judge_report;
 use crate::texts::put_checked;
 use flow_graph::{Constraint, FlowGraph, Link, Site};
-use lattice_core::{Entry, Lattice, Lattices, Level, Name, Pair, Sign};
+use lattice_core::{Deref, Entry, Lattice, Lattices, Level, Name, Pair, Sign};
 use qual_base::{Elem, FuncId, LatticeNo, Numbered, Owner, SiteId, Span, TokenId, UnitNo, VarId};
 use std::alloc::Global;
 use std::process::Abort;
@@ -78,7 +78,7 @@ fn entry(alloc: Global, text: &[u8]) -> Result<Entry, Fail> {
         level: Level::Value,
         sign: Sign::Eq,
         write: false,
-        deref: false,
+        deref: Deref::No,
     })
 }
 

@@ -1,5 +1,5 @@
 -- Tokens that bytes spell have no line feed in them.
-use Rattle.std.proofs.Common.{◌≡◌, ℕ, zero, suc, ◌+◌, ◌-◌, false, ◌⊎◌, inl, inr, List, [], ◌∷◌, ◌++◌, length, take, drop, slice_get, slice_range, Option, Some, None, unwrap_or, option_map, refl, sym, ◌∙◌, ap, subst, arith}
+use Rattle.std.proofs.Common.{◌≡◌, ℕ, zero, suc, ◌+◌, ◌-◌, Bool, false, ◌⊎◌, inl, inr, List, [], ◌∷◌, ◌++◌, length, take, drop, slice_get, slice_range, Option, Some, None, unwrap_or, option_map, refl, sym, ◌∙◌, ap, subst, arith}
 use Rattle.std.proofs.lemmas.Option.{slice_get-map}
 use Rattle.c_words.specs.declared.kinds.TokenKind.TheVariants.{End}
 use Rattle.c_lexer.specs.declared.token.Token.{Token}
@@ -26,13 +26,13 @@ token_more bytes tokens token free here k t there =
 taken_range : (bytes : List ℕ) (at n : ℕ) → slice_range bytes at (at + n) ≡ take n (drop at bytes)
 taken_range bytes at n = ap (λ k. take k (drop at bytes)) (let same : at + n - at ≡ n = omega arith in same)
 
-reached_free : (unit : ℕ) (words : Meanings) (bytes : List ℕ) (front : Front) → Reaches unit words bytes front → TokensFree bytes front.tokens
-reached_free unit words bytes front begins = λ k t there. absurd cc
-reached_free unit words bytes front (skips old new reached s) = subst (λ (ts : List Token). TokensFree bytes ts) (sym s.tokens) (reached_free unit words bytes old reached)
-reached_free unit words bytes front (takes old new reached t) =
+reached_free : (unit : ℕ) (wide : Bool) (words : Meanings) (bytes : List ℕ) (front : Front) → Reaches unit wide words bytes front → TokensFree bytes front.tokens
+reached_free unit wide words bytes front begins = λ k t there. absurd cc
+reached_free unit wide words bytes front (skips old new reached s) = subst (λ (ts : List Token). TokensFree bytes ts) (sym s.tokens) (reached_free unit wide words bytes old reached)
+reached_free unit wide words bytes front (takes old new reached t) =
     let here : has 10 (slice_range bytes old.at (old.at + t.n)) ≡ false = ap (has 10) (taken_range bytes old.at t.n) ∙ token_free (take t.n (drop old.at bytes)) t.longest.passes in
     subst (λ (ts : List Token). TokensFree bytes ts) (sym t.tokens)
-    (token_more bytes old.tokens (record { kind = t.kind; start = old.at; end = old.at + t.n }) (reached_free unit words bytes old reached) here)
+    (token_more bytes old.tokens (record { kind = t.kind; start = old.at; end = old.at + t.n }) (reached_free unit wide words bytes old reached) here)
 
 spelled_free : (words : Meanings) (lexed : Lexed) → IsSpelled words lexed → TokensFree lexed.bytes lexed.tokens
 spelled_free words lexed spelled =
@@ -40,7 +40,7 @@ spelled_free words lexed spelled =
     let bytes = lexed.bytes in
     let last : has 10 (slice_range bytes (length bytes) (length bytes)) ≡ false = ap (λ k. has 10 (take k (drop (length bytes) bytes))) (let none : length bytes - length bytes ≡ 0 = omega arith in none) in
     subst (λ (ts : List Token). TokensFree bytes ts) (sym s.tokens_are)
-    (token_more bytes s.front.tokens (record { kind = End; start = length bytes; end = length bytes }) (reached_free lexed.unit words bytes s.front s.reached) last)
+    (token_more bytes s.front.tokens (record { kind = End; start = length bytes; end = length bytes }) (reached_free lexed.unit lexed.wide words bytes s.front s.reached) last)
 
 text_free : (lexed : Lexed) (n : ℕ) → TokensFree lexed.bytes lexed.tokens → has 10 (text_of lexed n) ≡ false
 text_free lexed n free = by_token (slice_get lexed.tokens n) refl

@@ -4,20 +4,20 @@ use Rattle.std.specs.Prelude.{◌-◌, ◌&&◌, ◌||◌, is_some}
 use Rattle.c_words.specs.declared.kinds.TokenKind.{TokenKind}
 use Rattle.c_tree.specs.declared.lexeme.Lexeme.{Lexeme}
 use Rattle.c_syntax.specs.declared.parts.Attr.{Attr}
-use Rattle.c_tree.specs.Tree.{SpecWords, no_words, more_words, SomeDeclr, no_declr}
+use Rattle.c_tree.specs.Tree.{SpecWords, no_words, more_words, SomeDeclr, no_declr, some_declr}
 use Rattle.c_tree.specs.Height.{some_declr_height}
 use Rattle.typedef_scope.specs.declared.kind.Kind.{Kind}
 use Rattle.typedef_scope.specs.declared.kind.Kind.TheVariants.{Value}
 use Rattle.c_units.specs.HeldScopes.{HeldScopes, enter, release}
 use Rattle.c_units.specs.Scoping.{at_name}
 use Rattle.c_reading.specs.declared.kinds.Reach.TheVariants.{Assigned}
-use Rattle.c_reading.specs.declared.kinds.Role.TheVariants.{Declaring, Naming}
+use Rattle.c_reading.specs.declared.kinds.Role.TheVariants.{Typed, Naming}
 use Rattle.c_reading.specs.declared.kinds.Mode.{Mode}
 use Rattle.c_reading.specs.declared.kinds.Mode.TheVariants.{Named, Abstract, Either}
 use Rattle.c_reading.specs.Reading.{Found, take_one, kind_at, fits}
 use Rattle.c_reading.specs.Tokens.{is_open_paren, is_close_paren, is_open_bracket, is_close_bracket, is_star, is_dots, spelled_name, quals_at, array_words_at}
 use Rattle.c_reading.specs.Parts.{Inner, nothing, star, Declared, ParamItem}
-use Rattle.c_reading.specs.Declaring.{takes_name, least_pointer, is_bare, room_at, words_of_quals, words_of_attrs, are_none, opens_params, opens_declr, takes_attrs, name_held, star_size, size_with, array_with, param_words, param_attrs, param_with, next_param, params_with, prototype_with, params_behind, suffix_turn, paren_with, named_paren, opened_by, opened_with, some_paren, name_or_none, core_with, direct_with, pointer_with, declr_with, type_name_with}
+use Rattle.c_reading.specs.Declaring.{takes_name, least_pointer, is_bare, room_at, words_of_quals, words_of_attrs, are_none, opens_params, opens_declr, takes_attrs, name_held, star_size, size_with, array_with, param_words, param_attrs, param_with, next_param, params_with, prototype_with, params_behind, suffix_turn, paren_with, named_paren, opened_by, opened_with, some_paren, name_or_none, core_with, direct_with, pointer_with, declr_with, type_name_with, begins_identifiers, identifiers_of, identifiers_with, list_behind, names_base}
 use Rattle.c_reading.proofs.Binding.{bind_ok}
 use Rattle.room_laws.specs.Rooms.{More, InnerMore, number_of}
 use Rattle.room_laws.proofs.More.{more_same, more_bind, more_behind, more_fits, more_if, MoreTurn, more_run, more_listed}
@@ -74,8 +74,8 @@ module _ (n : ℕ) (inner other : Inner) (m : InnerMore n inner other) where
         (λ d. more_bind _ _ _ _ (param_attrs_more d.tree.declr (release Value d.scopes) d.rest) (λ attrs. refl)))
       where
         words_more : (known : SpecWords) (s : HeldScopes) (ts : List Lexeme) → More (param_words inner known room s ts) (param_words other known wide s ts)
-        words_more no_words s ts = specs_here_more n inner other m room wide less wider s ts
-        words_more (more_words w ws) s ts = m.words Declaring (more_words w ws) (room - 1) (wide - 1) (omega (arith, less, one)) (omega (arith, wider)) s ts
+        words_more no_words s ts = specs_here_more n inner other m room wide less wider Typed s ts
+        words_more (more_words w ws) s ts = m.words Typed (more_words w ws) (room - 1) (wide - 1) (omega (arith, less, one)) (omega (arith, wider)) s ts
 
     next_param_more : (comma : ℕ) → 1 ≤ room → (s : HeldScopes) (ts : List Lexeme) → More (next_param inner room comma s ts) (next_param other wide comma s ts)
     unfolding next_param
@@ -88,12 +88,12 @@ module _ (n : ℕ) (inner other : Inner) (m : InnerMore n inner other) where
     unfolding param_with
     first_param (inl one) s ts = param_more no_words one s ts
     first_param (inr none) s ts =
-        more_behind _ _ _ _ (specs_here_more n inner other m room wide less wider s ts)
-        (λ words is. let two = specs_two n inner other m room s ts words is in absurd (omega (arith, two, none)))
+        more_behind _ _ _ _ (specs_here_more n inner other m room wide less wider Typed s ts)
+        (λ words is. let two = specs_two n inner other m Typed room s ts words is in absurd (omega (arith, two, none)))
 
     param_one : (s : HeldScopes) (ts : List Lexeme) (x : Found ParamItem) → param_with inner no_words room s ts ≡ Ok x → 1 ≤ room
     unfolding param_with
-    param_one s ts x e = let a = bind_ok e in let two = specs_two n inner other m room s ts a.0 a.1 in omega (arith, two)
+    param_one s ts x e = let a = bind_ok e in let two = specs_two n inner other m Typed room s ts a.0 a.1 in omega (arith, two)
 
     one_or_none : 1 ≤ room ⊎ (room < 1)
     one_or_none = by_room room
@@ -119,8 +119,20 @@ module _ (n : ℕ) (inner other : Inner) (m : InnerMore n inner other) where
     unfolding prototype_with
     prototype_more d opening lead fit s ts = more_bind _ _ _ _ (params_more (room - 1) (wide - 1) (omega (arith, less)) (omega (arith, wider)) lead fit (enter s) ts) (λ ps. more_same _)
 
-    params_behind_more : (d : Declared) (s : HeldScopes) (ts : List Lexeme) → More (params_behind inner d room s ts) (params_behind other d wide s ts)
-    params_behind_more d s ts = more_bind _ _ _ _ (more_same (take_one s ts)) (λ opening. prototype_more d opening.tree [] (inl refl) opening.scopes opening.rest)
+    -- a list of identifiers asks for no room
+    list_more : (b : Bool) (d : Declared) (opening : ℕ) (s : HeldScopes) (ts : List Lexeme) → More (list_behind inner b d opening room s ts) (list_behind other b d opening wide s ts)
+    unfolding identifiers_with
+    list_more false d opening s ts = prototype_more d opening [] (inl refl) s ts
+    list_more true d opening s ts = by d.declr
+      where
+        by : (o : SomeDeclr) → More (identifiers_of o (λ inside. identifiers_with inner inside opening s ts) (prototype_with inner d opening [] room s ts))
+            (identifiers_of o (λ inside. identifiers_with other inside opening s ts) (prototype_with other d opening [] wide s ts))
+        by no_declr = prototype_more d opening [] (inl refl) s ts
+        by (some_declr inside) = more_same _
+
+    params_behind_more : (flag : Bool) (d : Declared) (s : HeldScopes) (ts : List Lexeme) → More (params_behind inner flag d room s ts) (params_behind other flag d wide s ts)
+    params_behind_more flag d s ts =
+        more_bind _ _ _ _ (more_same (take_one s ts)) (λ opening. list_more (flag && is_bare d.declr && begins_identifiers opening.scopes (kind_at opening.rest)) d opening.tree opening.scopes opening.rest)
 
   module _ (flag : Bool) (room wide : ℕ) (less : number_of flag room < suc n) (wider : room ≤ wide) where
     suffix_more : (d : Declared) (s : HeldScopes) (ts : List Lexeme) → MoreTurn (suffix_turn inner flag room d s ts) (suffix_turn other flag wide d s ts)
@@ -139,10 +151,10 @@ module _ (n : ℕ) (inner other : Inner) (m : InnerMore n inner other) where
         wide_enough = wider_at flag room wide d (kind_at ts) wider
 
         by_bracket : (b c : Bool) → b ≡ b →
-            MoreTurn (if b then Some (fits (suc (some_declr_height d.declr)) near ts (array_with inner d near s ts)) else if c then Some (fits (suc (some_declr_height d.declr)) near ts (params_behind inner d near s ts)) else None)
-            (if b then Some (fits (suc (some_declr_height d.declr)) far ts (array_with other d far s ts)) else if c then Some (fits (suc (some_declr_height d.declr)) far ts (params_behind other d far s ts)) else None)
+            MoreTurn (if b then Some (fits (suc (some_declr_height d.declr)) near ts (array_with inner d near s ts)) else if c then Some (fits (suc (some_declr_height d.declr)) near ts (params_behind inner flag d near s ts)) else None)
+            (if b then Some (fits (suc (some_declr_height d.declr)) far ts (array_with other d far s ts)) else if c then Some (fits (suc (some_declr_height d.declr)) far ts (params_behind other flag d far s ts)) else None)
         by_bracket true c h = more_fits (suc (some_declr_height d.declr)) near far ts _ _ wide_enough (λ fit. array_more near far below wide_enough d (omega (arith, fit)) s ts)
-        by_bracket false true h = more_fits (suc (some_declr_height d.declr)) near far ts _ _ wide_enough (λ fit. params_behind_more near far below wide_enough d s ts)
+        by_bracket false true h = more_fits (suc (some_declr_height d.declr)) near far ts _ _ wide_enough (λ fit. params_behind_more near far below wide_enough flag d s ts)
         by_bracket false false h = tt
 
     paren_more : (mode : Mode) (wanted : Option Kind) (opening : ℕ) (attrs : List Attr) → 1 ≤ room → (s : HeldScopes) (ts : List Lexeme) →
@@ -179,7 +191,8 @@ module _ (n : ℕ) (inner other : Inner) (m : InnerMore n inner other) where
 
     core_more : (mode : Mode) (wanted : Option Kind) (s : HeldScopes) (ts : List Lexeme) → More (core_with inner mode wanted flag room s ts) (core_with other mode wanted flag wide s ts)
     unfolding core_with
-    core_more mode wanted s ts = more_if (is_open_paren (kind_at ts)) _ _ _ _ (some_paren_more mode wanted s ts) (name_more mode wanted (spelled_name (kind_at ts)) s ts)
+    core_more mode wanted s ts = more_if (is_open_paren (kind_at ts)) _ _ _ _ (some_paren_more mode wanted s ts)
+        (more_if (names_base s mode wanted (kind_at ts)) _ _ _ _ (more_fits 1 room wide ts _ _ wider (λ one. more_same _)) (name_more mode wanted (spelled_name (kind_at ts)) s ts))
 
     pub declr_more : (mode : Mode) (wanted : Option Kind) (s : HeldScopes) (ts : List Lexeme) → More (declr_with inner mode wanted flag room s ts) (declr_with other mode wanted flag wide s ts)
     unfolding declr_with pointer_with direct_with

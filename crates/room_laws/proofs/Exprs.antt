@@ -1,4 +1,5 @@
 -- Expressions with more room.
+use Rattle.c_reading.specs.declared.kinds.Role.TheVariants.{Naming}
 use Rattle.std.proofs.Common.{ℕ, suc, ◌+◌, ◌<◌, ◌≤◌, Bool, true, false, if◌then◌else◌, List, length, inr, Some, None, refl, arith}
 use Rattle.std.specs.Prelude.{◌-◌, nat_le}
 use Rattle.c_words.specs.declared.kinds.Punct.{Punct}
@@ -8,7 +9,7 @@ use Rattle.c_syntax.specs.declared.parts.Word.{Word}
 use Rattle.c_tree.specs.Tree.{Expr, Operator, comma, assign, binary, va_start, va_copy, name_use, number_use, char_use, text_use}
 use Rattle.c_tree.specs.Height.{expr_height}
 use Rattle.c_tree.specs.Levels.{expr_level, binary_level}
-use Rattle.c_units.specs.HeldScopes.{HeldScopes, names_type}
+use Rattle.c_units.specs.HeldScopes.{HeldScopes, names_type, is_wide}
 use Rattle.c_ops.specs.Joining.{Settled}
 use Rattle.c_reading.specs.declared.kinds.Fault.TheVariants.{BadTarget}
 use Rattle.c_reading.specs.declared.kinds.Reach.{Reach}
@@ -20,10 +21,10 @@ use Rattle.c_reading.specs.declared.kinds.PostfixForm.TheVariants as forms
 use Rattle.c_reading.specs.declared.kinds.Infix.{Infix}
 use Rattle.c_reading.specs.declared.kinds.Infix.TheVariants as infixes
 use Rattle.c_reading.specs.Reading.{take_one, token_at, kind_at, behind_first, refuses}
-use Rattle.c_reading.specs.Tokens.{is_open_paren, is_close_paren, is_comma, is_colon, is_open_brace, name_at, texts_at}
+use Rattle.c_reading.specs.Tokens.{is_open_paren, is_close_paren, is_comma, is_colon, is_open_brace, name_at, texts_at, is_default}
 use Rattle.c_reading.specs.Parts.{Inner, Begun, nothing, extensions, star, TypeName, type_name_height}
-use Rattle.c_reading.specs.Specifying.{begins_specs}
-use Rattle.c_reading.specs.Expressing.{is_dot, begins_desig, opening_of, form_of, infix_of, takes_comma, takes_assign, Row, settled, depth_of, next_argument, arguments_with, index_with, call_with, dot_with, arrow_with, post_with, postfix_by, lowered, postfix_turn, postfixed, primary_with, text_with, compound_with, cast_behind, typed_behind, typed_with, statement_with, paren_with, opened_by, opened_with, prefix_with, extension_with, sizeof_value_with, sizeof_typed, sizeof_type_with, sizeof_behind, sizeof_with, va_arg_with, va_two_with, step_with, offset_with, unary_by, unary_with, cast_with, operand_with, operation_with, middle_with, question_with, operation_by, operation_turn, row_with, expr_with}
+use Rattle.c_reading.specs.Specifying.{begins_specs, begins_role}
+use Rattle.c_reading.specs.Expressing.{is_dot, begins_desig, opening_of, form_of, infix_of, takes_comma, takes_assign, Row, settled, depth_of, next_argument, arguments_with, index_with, call_with, dot_with, arrow_with, post_with, postfix_by, lowered, postfix_turn, postfixed, primary_with, text_with, compound_with, cast_behind, typed_behind, typed_with, statement_with, paren_with, opened_by, opened_with, prefix_with, extension_with, sizeof_value_with, sizeof_typed, sizeof_type_with, sizeof_behind, sizeof_with, va_arg_with, va_two_with, step_with, offset_with, unary_by, unary_with, cast_with, operand_with, operation_with, middle_with, question_with, operation_by, operation_turn, row_with, expr_with, part_with, label_use_with, compat_with, choose_with, default_assoc_with, typed_assoc_with, assoc_with, next_assoc, generic_with}
 use Rattle.room_laws.specs.Rooms.{More, InnerMore}
 use Rattle.room_laws.proofs.More.{more_same, more_bind, more_fits, more_if, MoreTurn, more_guarded, more_run, more_repeated, more_listed}
 
@@ -138,8 +139,78 @@ module _ (n : ℕ) (inner other : Inner) (m : InnerMore n inner other) (room wid
       (λ name. more_bind _ _ _ _ (more_repeated begins_desig (step_with inner room) (step_with other wide) (step_more (omega (arith, three))) name.scopes name.rest)
       (λ steps. more_bind _ _ _ _ (more_same (token_at is_close_paren steps.scopes steps.rest)) (λ closing. postfixed_more _ closing.scopes closing.rest))))))))
 
+  part_more : (s : HeldScopes) (ts : List Lexeme) → More (part_with inner room s ts) (part_with other wide s ts)
+  unfolding part_with
+  part_more s ts =
+      more_fits 2 room wide ts _ _ wider (λ two. more_bind _ _ _ _ (more_same (take_one s ts))
+      (λ token. more_bind _ _ _ _ (inside Castable nothing (omega (arith, two)) token.scopes token.rest) (λ e. refl)))
+
+  label_use_more : (s : HeldScopes) (ts : List Lexeme) → More (label_use_with inner room s ts) (label_use_with other wide s ts)
+  unfolding label_use_with
+  label_use_more s ts = more_if (is_wide s) _ _ _ _ (more_fits 1 room wide ts _ _ wider (λ one. more_same _)) (inr refl)
+
+  compat_more : (s : HeldScopes) (ts : List Lexeme) → More (compat_with inner room s ts) (compat_with other wide s ts)
+  unfolding compat_with
+  compat_more s ts =
+      more_fits 3 room wide ts _ _ wider (λ three. more_bind _ _ _ _ (more_same (take_one s ts))
+      (λ keyword. more_bind _ _ _ _ (more_same (token_at is_open_paren keyword.scopes keyword.rest))
+      (λ opening. more_bind _ _ _ _
+      (m.types (room - 1) (wide - 1) (omega (arith, less, three)) (omega (arith, three)) (omega (arith, wider)) opening.scopes opening.rest)
+      (λ t. more_bind _ _ _ _ (more_same (token_at is_comma t.scopes t.rest))
+      (λ separator. more_bind _ _ _ _
+      (m.types (room - 1) (wide - 1) (omega (arith, less, three)) (omega (arith, three)) (omega (arith, wider)) separator.scopes separator.rest)
+      (λ t2. more_bind _ _ _ _ (more_same (token_at is_close_paren t2.scopes t2.rest))
+      (λ closing. postfixed_more _ closing.scopes closing.rest)))))))
+
+  choose_more : (s : HeldScopes) (ts : List Lexeme) → More (choose_with inner room s ts) (choose_with other wide s ts)
+  unfolding choose_with
+  choose_more s ts =
+      more_fits 2 room wide ts _ _ wider (λ two. more_bind _ _ _ _ (more_same (take_one s ts))
+      (λ keyword. more_bind _ _ _ _ (more_same (token_at is_open_paren keyword.scopes keyword.rest))
+      (λ opening. more_bind _ _ _ _ (inside Assigned nothing (omega (arith, two)) opening.scopes opening.rest)
+      (λ e. more_bind _ _ _ _ (more_same (token_at is_comma e.scopes e.rest))
+      (λ separator. more_bind _ _ _ _ (inside Assigned nothing (omega (arith, two)) separator.scopes separator.rest)
+      (λ e2. more_bind _ _ _ _ (more_same (token_at is_comma e2.scopes e2.rest))
+      (λ separator2. more_bind _ _ _ _ (inside Assigned nothing (omega (arith, two)) separator2.scopes separator2.rest)
+      (λ e3. more_bind _ _ _ _ (more_same (token_at is_close_paren e3.scopes e3.rest))
+      (λ closing. postfixed_more _ closing.scopes closing.rest)))))))))
+
+  -- an association, by whether it has a type
+
+  assoc_more : (s : HeldScopes) (ts : List Lexeme) → More (assoc_with inner room s ts) (assoc_with other wide s ts)
+  unfolding assoc_with default_assoc_with typed_assoc_with
+  assoc_more s ts =
+      more_if (is_default (kind_at ts)) _ _ _ _
+      (more_fits 2 room wide ts _ _ wider (λ two. more_bind _ _ _ _ (more_same (take_one s ts))
+      (λ keyword. more_bind _ _ _ _ (more_same (token_at is_colon keyword.scopes keyword.rest))
+      (λ colon. more_bind _ _ _ _ (inside Assigned nothing (omega (arith, two)) colon.scopes colon.rest) (λ e. refl)))))
+      (more_if (begins_role Naming s (kind_at ts)) _ _ _ _
+      (more_fits 3 room wide ts _ _ wider (λ three. more_bind _ _ _ _
+      (m.types (room - 1) (wide - 1) (omega (arith, less, three)) (omega (arith, three)) (omega (arith, wider)) s ts)
+      (λ t. more_bind _ _ _ _ (more_same (token_at is_colon t.scopes t.rest))
+      (λ colon. more_bind _ _ _ _ (inside Assigned nothing (omega (arith, three)) colon.scopes colon.rest) (λ e. refl)))))
+      (inr refl))
+
+  next_assoc_more : (token : ℕ) (s : HeldScopes) (ts : List Lexeme) → More (next_assoc inner room token s ts) (next_assoc other wide token s ts)
+  unfolding next_assoc
+  next_assoc_more token s ts = more_bind _ _ _ _ (assoc_more s ts) (λ x. refl)
+
 module _ (n : ℕ) (inner other : Inner) (m : InnerMore n inner other) where
   module _ (room wide : ℕ) (less : room < suc n) (wider : room ≤ wide) where
+    generic_more : (s : HeldScopes) (ts : List Lexeme) → More (generic_with inner room s ts) (generic_with other wide s ts)
+    unfolding generic_with
+    generic_more s ts =
+        more_fits 3 room wide ts _ _ wider (λ three. more_bind _ _ _ _ (more_same (take_one s ts))
+        (λ keyword. more_bind _ _ _ _ (more_same (token_at is_open_paren keyword.scopes keyword.rest))
+        (λ opening. more_bind _ _ _ _ (inside n inner other m room wide less wider Assigned nothing (omega (arith, three)) opening.scopes opening.rest)
+        (λ e. more_bind _ _ _ _ (more_same (token_at is_comma e.scopes e.rest))
+        (λ separator. more_bind _ _ _ _
+        (more_listed (assoc_with inner (room - 1)) (assoc_with other (wide - 1)) (next_assoc inner (room - 1)) (next_assoc other (wide - 1)) separator.scopes separator.rest
+        (assoc_more n inner other m (room - 1) (wide - 1) (omega (arith, less)) (omega (arith, wider)) separator.scopes separator.rest)
+        (λ x is token s ts. next_assoc_more n inner other m (room - 1) (wide - 1) (omega (arith, less)) (omega (arith, wider)) token s ts))
+        (λ xs. more_bind _ _ _ _ (more_same (token_at is_close_paren xs.scopes xs.rest))
+        (λ closing. postfixed_more n inner other m room wide less wider _ closing.scopes closing.rest)))))))
+
     -- behind a type's name in parentheses a compound literal stands one level lower
     sizeof_typed_more : (word : Word) (opening : ℕ) (t : TypeName) (closing : ℕ) (s : HeldScopes) (ts : List Lexeme) → More (sizeof_typed inner word opening t closing room s ts) (sizeof_typed other word opening t closing wide s ts)
     unfolding sizeof_typed
@@ -176,6 +247,11 @@ module _ (n : ℕ) (inner other : Inner) (m : InnerMore n inner other) where
     unary_by_more openings.VaStart s ts = va_two_more n inner other m room wide less wider va_start s ts
     unary_by_more openings.VaCopy s ts = va_two_more n inner other m room wide less wider va_copy s ts
     unary_by_more openings.Offset s ts = offset_more n inner other m room wide less wider s ts
+    unary_by_more openings.Part s ts = part_more n inner other m room wide less wider s ts
+    unary_by_more openings.Label s ts = label_use_more n inner other m room wide less wider s ts
+    unary_by_more openings.Compat s ts = compat_more n inner other m room wide less wider s ts
+    unary_by_more openings.Choose s ts = choose_more n inner other m room wide less wider s ts
+    unary_by_more openings.Generic s ts = generic_more s ts
     unary_by_more openings.Nothing s ts = inr refl
 
     unary_more : (s : HeldScopes) (ts : List Lexeme) → More (unary_with inner room s ts) (unary_with other wide s ts)

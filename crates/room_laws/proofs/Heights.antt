@@ -1,5 +1,5 @@
 -- A unit that is well formed but for its height is read with room for it, and what is read with any room is well formed but for it.
-use Rattle.std.proofs.Common.{◌≡◌, ℕ, zero, suc, ◌<◌, ◌≤◌, true, false, List, [], ◌∷◌, Some, refl, sym, ◌∙◌, ap, subst, arith}
+use Rattle.std.proofs.Common.{◌≡◌, ℕ, zero, suc, ◌<◌, ◌≤◌, Bool, true, false, List, [], ◌∷◌, Some, refl, sym, ◌∙◌, ap, subst, arith}
 use Rattle.std.specs.Prelude.{◌+◌, ◌-◌, max, not, All}
 use Rattle.std.proofs.lemmas.List.Elements.{All-nil, All-cons, All-head, All-tail}
 use Rattle.c_words.specs.declared.kinds.TokenKind.{TokenKind}
@@ -9,7 +9,7 @@ use Rattle.c_tree.specs.Tree.{SpecWords, declaration, decl_declaration, decl_ass
 use Rattle.c_tree.specs.Text.{spec_words_text, extensions_text}
 use Rattle.c_tree.specs.Specifiers.{IsMix}
 use Rattle.c_tree.specs.WellFormed.{AreSpecWords}
-use Rattle.c_tree.specs.Unit.{Item, function_item, decl_item, asm_item, semi_item, item_text, items_text, item_height, unit_height, IsItem}
+use Rattle.c_tree.specs.Unit.{Item, function_item, old_function_item, decl_item, asm_item, semi_item, item_text, items_text, item_height, unit_height, IsItem}
 use Rattle.c_specs.specs.Laws.{WholeAreMixes, MixesGoOn}
 use Rattle.c_units.specs.HeldScopes.{HeldScopes, file_scope}
 use Rattle.c_units.specs.Scoping.{spec_words_scopes}
@@ -105,8 +105,8 @@ module _ (whole_are : WholeAreMixes) (goes : MixesGoOn) (all : List Lexeme) (num
     words = specs_laws all numbered tokens firsts n inner laws whole_are goes;
     declrs = declr_laws all numbered tokens goes n inner laws;
     lists = init_list_laws all numbered tokens firsts n inner laws;
-    blocks = block_laws all numbered tokens firsts n inner laws goes;
-    stmts = stmt_laws all numbered tokens firsts n inner laws goes;
+    blocks = block_laws all numbered tokens firsts n inner laws whole_are goes;
+    stmts = stmt_laws all numbered tokens firsts n inner laws whole_are goes;
   }
 
   knot_laws : (n : ℕ) → Laws all (suc n) (knot n)
@@ -146,47 +146,50 @@ module _ (whole_are : WholeAreMixes) (goes : MixesGoOn) (all : List Lexeme) (num
   item_starts (decl_item (decl_declaration (declaration exts ws ds semi))) s t k fit named =
       let b = behind_ok (spec_words_scopes ws s) _ t named in
       words_no_end exts ws s b.0 _ fit.0 fit.1 b.1
+  item_starts (old_function_item exts ws d attrs ds opening items closing) s t k fit named =
+      let b = behind_ok (spec_words_scopes ws s) _ t named in
+      words_no_end exts ws s b.0 _ fit.0 fit.1 b.1
   item_starts (function_item exts ws d attrs opening items closing) s t k fit named =
       let b = behind_ok (spec_words_scopes ws s) _ t named in
       words_no_end exts ws s b.0 _ fit.0 fit.1 b.1
 
-  unit_read : (room : ℕ) → 1 ≤ room → (items : List Item) → IsWellFormedAtAnyHeight all items → unit_height items ≤ room → unit_of room all ≡ done (found items file_scope [])
+  unit_read : (dialect : Bool) (room : ℕ) → 1 ≤ room → (items : List Item) → IsWellFormedAtAnyHeight dialect all items → unit_height items ≤ room → unit_of room dialect all ≡ done (found items (file_scope dialect) [])
   unfolding items_with
-  unit_read room one items w low =
+  unit_read dialect room one items w low =
       let end : List Lexeme = record { kind = kinds.End; at = w.tokens.last } ∷ [] in
       let spelled : all ≡ row_text (item_form all) items end = w.tokens.spelled ∙ sym (rows_are items end) in
       let high = rows_high items in
-      bind_is _ (ap (repeated (λ kind. not (is_end kind)) (item_with (knot room) (room - 1)) file_scope) spelled ∙
+      bind_is _ (ap (repeated (λ kind. not (is_end kind)) (item_with (knot room) (room - 1)) (file_scope dialect)) spelled ∙
       repeated_complete (λ kind. not (is_end kind)) (item_with (knot room) (room - 1)) (item_form all) always (room - 1) (item_shrinks all tokens (suc room) (knot room) (knot_laws room) (room - 1))
-      (item_complete all numbered tokens firsts (suc room) (knot room) (knot_laws room) (block_body_read all numbered tokens goes firsts (suc room) (knot room) (knot_laws room)) (room - 1) (omega arith)) item_starts (λ x kind e. refl) items file_scope w.scopes end
-      (rows_fit items w.parts) (rows_named items file_scope ∙ w.named) (omega (arith, high, low)) refl (λ x. refl))
+      (item_complete all numbered tokens firsts (suc room) (knot room) (knot_laws room) whole_are goes (block_body_read all numbered tokens goes firsts (suc room) (knot room) (knot_laws room) whole_are) (room - 1) (omega arith)) item_starts (λ x kind e. refl) items (file_scope dialect) w.scopes end
+      (rows_fit items w.parts) (rows_named items (file_scope dialect) ∙ w.named) (omega (arith, high, low)) refl (λ x. refl))
       (bind_is _ refl refl)
 
   rows_formed : (xs : List Item) → AllFit (item_form all) xs → All (IsItem all) xs
   rows_formed [] h = All-nil (IsItem all)
   rows_formed (x ∷ xs) h = All-cons (IsItem all) x xs h.0 (rows_formed xs h.1)
 
-  unit_sound : (room : ℕ) → 1 ≤ room → (x : Found (List Item)) → unit_of room all ≡ done x → IsWellFormedAtAnyHeight all x.tree
+  unit_sound : (dialect : Bool) (room : ℕ) → 1 ≤ room → (x : Found (List Item)) → unit_of room dialect all ≡ done x → IsWellFormedAtAnyHeight dialect all x.tree
   unfolding items_with
-  unit_sound room one x e =
+  unit_sound dialect room one x e =
       let a = bind_ok e in
       let b = bind_ok a.2 in
-      let i = repeated_sound (λ kind. not (is_end kind)) (item_with (knot room) (room - 1)) all (item_form all) (room - 1) (item_sound all numbered tokens (suc room) (knot room) (knot_laws room) (room - 1)) file_scope all a.0 (0, refl) a.1 in
+      let i = repeated_sound (λ kind. not (is_end kind)) (item_with (knot room) (room - 1)) all (item_form all) (room - 1) (item_sound all numbered tokens (suc room) (knot room) (knot_laws room) goes (room - 1)) (file_scope dialect) all a.0 (0, refl) a.1 in
       let q = took_token all is_end kinds.End end_kind a.0.scopes a.0.rest b.0 i.left b.1 in
       at_last a.0 b.0 b.0.rest refl i q b.2
     where
-      at_last : (a : Found (List Item)) (b : Found ℕ) (rest : List Lexeme) → b.rest ≡ rest → Takes all (row_form (item_form all)) (room - 1) file_scope all a → Took all kinds.End a.scopes a.rest b → alone a.tree rest ≡ done x → IsWellFormedAtAnyHeight all x.tree
+      at_last : (a : Found (List Item)) (b : Found ℕ) (rest : List Lexeme) → b.rest ≡ rest → Takes all (row_form (item_form all)) (room - 1) (file_scope dialect) all a → Took all kinds.End a.scopes a.rest b → alone dialect a.tree rest ≡ done x → IsWellFormedAtAnyHeight dialect all x.tree
       at_last a b [] is i q e =
-          subst (λ (x : Found (List Item)). IsWellFormedAtAnyHeight all x.tree) (ok_is e) (record {
+          subst (λ (x : Found (List Item)). IsWellFormedAtAnyHeight dialect all x.tree) (ok_is e) (record {
             tokens = record { last = b.tree; spelled = i.spelled ∙ rows_are a.tree a.rest ∙ ap (items_text all a.tree) (q.spelled ∙ ap (λ (k : List Lexeme). record { kind = kinds.End; at = b.tree } ∷ k) is) };
             parts = rows_formed a.tree i.fits;
             scopes = a.scopes;
-            named = sym (rows_named a.tree file_scope) ∙ i.named;
+            named = sym (rows_named a.tree (file_scope dialect)) ∙ i.named;
           })
       at_last a b (t ∷ ts) is i q e = absurd cc
 
 pub any_unit_is_well_formed : WholeAreMixes → MixesGoOn → AnyUnitIsWellFormed
-any_unit_is_well_formed whole_are goes all numbered room x one e = unit_sound whole_are goes all numbered room one x e
+any_unit_is_well_formed whole_are goes dialect all numbered room x one e = unit_sound whole_are goes all numbered dialect room one x e
 
 pub any_height_is_read : WholeAreMixes → MixesGoOn → AnyHeightIsRead
-any_height_is_read whole_are goes all numbered room items one w low = unit_read whole_are goes all numbered room one items w low
+any_height_is_read whole_are goes dialect all numbered room items one w low = unit_read whole_are goes all numbered dialect room one items w low

@@ -86,6 +86,11 @@ pub more_guarded : {S : Type 0} (b : Bool) (r q : Read S) → More r q → MoreT
 more_guarded true r q h = h
 more_guarded false r q h = tt
 
+-- a test that ends a loop
+pub more_unless : {S : Type 0} (b : Bool) (r q : Option (Read S)) → MoreTurn r q → MoreTurn (if b then None else r) (if b then None else q)
+more_unless true r q h = tt
+more_unless false r q h = h
+
 pub more_repeated : {T : Type 0} (begins : TokenKind → Bool) (read other : Reader T) → ((s : HeldScopes) (ts : List Lexeme) → More (read s ts) (other s ts)) → (s : HeldScopes) (ts : List Lexeme) →
     More (repeated begins read s ts) (repeated begins other s ts)
 unfolding repeated

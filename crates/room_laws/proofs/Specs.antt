@@ -12,16 +12,16 @@ use Rattle.c_specs.specs.Mix.{goes_on, is_typed}
 use Rattle.typedef_scope.specs.declared.kind.Kind.{Kind}
 use Rattle.typedef_scope.specs.declared.kind.Kind.TheVariants.{Constant}
 use Rattle.c_units.specs.HeldScopes.{HeldScopes, innermost, may_declare, is_name}
-use Rattle.c_reading.specs.declared.kinds.Reach.TheVariants.{Conditional}
+use Rattle.c_reading.specs.declared.kinds.Reach.TheVariants.{Conditional, Whole}
 use Rattle.c_reading.specs.declared.kinds.Role.{Role}
-use Rattle.c_reading.specs.declared.kinds.Role.TheVariants.{Declaring}
+use Rattle.c_reading.specs.declared.kinds.Role.TheVariants.{Typed}
 use Rattle.c_reading.specs.declared.kinds.Mode.TheVariants.{Named}
 use Rattle.c_reading.specs.declared.kinds.SpecStart.{SpecStart}
 use Rattle.c_reading.specs.declared.kinds.SpecStart.TheVariants as starts
-use Rattle.c_reading.specs.Reading.{Found, Reader, ends, take_one, kind_at, fits, run, repeated, repeated_turn, and_then}
-use Rattle.c_reading.specs.Tokens.{is_open_brace, is_close_brace, is_semicolon, is_colon, is_equal, is_static_assert, is_attribute, is_extension, begins_pointer_word, name_at, tag_at, attr_at, attrs_at, extensions_at, pointer_word_at, pointer_words_at}
+use Rattle.c_reading.specs.Reading.{Found, Reader, ends, take_one, kind_at, fits, run, repeated, repeated_turn, and_then, token_at}
+use Rattle.c_reading.specs.Tokens.{is_open_brace, is_close_brace, is_semicolon, is_colon, is_equal, is_static_assert, is_attribute, is_extension, begins_pointer_word, name_at, tag_at, attr_at, attrs_at, extensions_at, pointer_word_at, pointer_words_at, is_open_paren, align_at}
 use Rattle.c_reading.specs.Parts.{Inner, nothing}
-use Rattle.c_reading.specs.Specifying.{begins_specs, is_start, start_at, class_of_start, may_stand, least_of, specs_here, value_with, named_declr, width_with, field_with, mem_declr_with, first_member, next_member, mem_declrs_with, member_with, struct_item_with, members_with, body_with, struct_with, enumerator_behind, enumerator_named, enumerator_with, next_enumerator, enumerators_with, enum_body_with, enum_with, word_by, word_with, word_turn, specs_with}
+use Rattle.c_reading.specs.Specifying.{begins_specs, is_start, start_at, class_of_start, may_stand, least_of, specs_here, value_with, named_declr, width_with, field_with, mem_declr_with, first_member, next_member, mem_declrs_with, member_with, struct_item_with, members_with, body_with, struct_with, enumerator_behind, enumerator_named, enumerator_with, next_enumerator, enumerators_with, enum_body_with, enum_with, word_by, word_with, word_turn, specs_with, ends_before, typed_word_with, typeof_value_with, typeof_with, atomic_with, begins_role}
 use Rattle.c_reading.specs.Declaring.{are_none}
 use Rattle.c_reading.proofs.Binding.{found, done, ok_is, bind_ok, fits_ok, if_ok}
 use Rattle.c_reading.proofs.Loops.{after, run_is}
@@ -29,7 +29,7 @@ use Rattle.c_reading.proofs.Forms.{Shrinks}
 use Rattle.c_reading.proofs.Rows.{row_turn_shrinks}
 use Rattle.c_reading.proofs.KnotLaws.{none_tokens}
 use Rattle.room_laws.specs.Rooms.{More, InnerMore}
-use Rattle.room_laws.proofs.More.{more_same, more_bind, more_behind, more_fits, more_if, more_guarded, more_run, more_repeated, more_listed}
+use Rattle.room_laws.proofs.More.{more_same, more_bind, more_behind, more_fits, more_if, more_guarded, more_run, more_repeated, more_listed, more_unless}
 
 module _ (room wide : ℕ) (wider : room ≤ wide) where
   pub attrs_more : (s : HeldScopes) (ts : List Lexeme) → More (attrs_at room s ts) (attrs_at wide s ts)
@@ -71,10 +71,10 @@ attrs_lead room s ts x e = by_test (is_attribute (kind_at ts)) refl
 
 module _ (n : ℕ) (inner other : Inner) (m : InnerMore n inner other) where
   module _ (room wide : ℕ) (less : room < suc n) (wider : room ≤ wide) where
-    pub specs_here_more : (s : HeldScopes) (ts : List Lexeme) → More (specs_here inner room s ts) (specs_here other wide s ts)
+    pub specs_here_more : (role : Role) (s : HeldScopes) (ts : List Lexeme) → More (specs_here inner role room s ts) (specs_here other role wide s ts)
     unfolding specs_here
-    specs_here_more s ts =
-        more_if (begins_specs s (kind_at ts)) _ _ _ _ (more_fits 2 room wide ts _ _ wider (λ two. m.words Declaring no_words (room - 1) (wide - 1) (omega (arith, less, two)) (omega (arith, wider)) s ts)) (inr refl)
+    specs_here_more role s ts =
+        more_if (begins_role role s (kind_at ts)) _ _ _ _ (more_fits 2 room wide ts _ _ wider (λ two. m.words role no_words (room - 1) (wide - 1) (omega (arith, less, two)) (omega (arith, wider)) s ts)) (inr refl)
 
     pub value_more : (test : TokenKind → Bool) (s : HeldScopes) (ts : List Lexeme) → More (value_with inner test room s ts) (value_with other test wide s ts)
     unfolding value_with
@@ -110,9 +110,9 @@ module _ (n : ℕ) (inner other : Inner) (m : InnerMore n inner other) where
         (λ x is comma s ts. more_bind _ _ _ _ (attrs_more room wide wider s ts) (λ attrs. more_bind _ _ _ _ (mem_declr_more attrs.scopes attrs.rest) (λ d. refl)))) (λ ds. refl))
 
   -- specifiers that were read had room for two levels
-  pub specs_two : (room : ℕ) (s : HeldScopes) (ts : List Lexeme) (x : Found SpecWords) → specs_here inner room s ts ≡ Ok x → 2 ≤ room
+  pub specs_two : (role : Role) (room : ℕ) (s : HeldScopes) (ts : List Lexeme) (x : Found SpecWords) → specs_here inner role room s ts ≡ Ok x → 2 ≤ room
   unfolding specs_here
-  specs_two room s ts x e = if_ok (begins_specs s (kind_at ts)) e (λ is e. (fits_ok 2 room ts e).0) (λ is e. absurd cc)
+  specs_two role room s ts x e = if_ok (begins_role role s (kind_at ts)) e (λ is e. (fits_ok 2 room ts e).0) (λ is e. absurd cc)
 
   module _ (room wide : ℕ) (less : room < suc n) (wider : room ≤ wide) where
     struct_item_more : (s : HeldScopes) (ts : List Lexeme) → More (struct_item_with inner room s ts) (struct_item_with other wide s ts)
@@ -120,8 +120,8 @@ module _ (n : ℕ) (inner other : Inner) (m : InnerMore n inner other) where
     struct_item_more s ts =
         more_if (is_semicolon (kind_at ts)) _ _ _ _ (more_fits 1 room wide ts _ _ wider (λ fit. more_same _))
         (more_if (is_static_assert (kind_at ts)) _ _ _ _ (more_fits 1 room wide ts _ _ wider (λ fit. more_same _))
-        (more_bind _ _ _ _ (exts_more room wide wider s ts) (λ exts. more_behind _ _ _ _ (specs_here_more room wide less wider exts.scopes exts.rest)
-        (λ words is. let two = specs_two room exts.scopes exts.rest words is in
+        (more_bind _ _ _ _ (exts_more room wide wider s ts) (λ exts. more_behind _ _ _ _ (specs_here_more room wide less wider Typed exts.scopes exts.rest)
+        (λ words is. let two = specs_two Typed room exts.scopes exts.rest words is in
         more_bind _ _ _ _ (mem_declrs_more (room - 1) (wide - 1) (omega (arith, less)) (omega (arith, two)) (omega (arith, wider)) words.scopes words.rest) (λ ds. more_same _)))))
 
   module _ (room wide : ℕ) (less : room < suc n) (wider : room ≤ wide) where
@@ -166,6 +166,28 @@ module _ (n : ℕ) (inner other : Inner) (m : InnerMore n inner other) where
         (λ tag. more_bind _ _ _ _ (enum_body_more tag.tree tag.scopes tag.rest) (λ body. refl))))
 
   module _ (room wide : ℕ) (less : room < suc n) (wider : room ≤ wide) where
+    -- types of values and types in parentheses
+
+    typed_word_more : (keyword : Keyword) (token opening : ℕ) → 2 ≤ room → (s : HeldScopes) (ts : List Lexeme) →
+        More (typed_word_with inner keyword token opening room s ts) (typed_word_with other keyword token opening wide s ts)
+    unfolding typed_word_with
+    typed_word_more keyword token opening two s ts =
+        more_bind _ _ _ _ (m.types (room - 1) (wide - 1) (omega (arith, less, two)) (omega (arith, two)) (omega (arith, wider)) s ts) (λ t. more_same _)
+
+    typeof_more : 2 ≤ room → (s : HeldScopes) (ts : List Lexeme) → More (typeof_with inner room s ts) (typeof_with other wide s ts)
+    unfolding typeof_with typeof_value_with
+    typeof_more two s ts =
+        more_bind _ _ _ _ (more_same (take_one s ts)) (λ keyword. more_bind _ _ _ _ (more_same (token_at is_open_paren keyword.scopes keyword.rest))
+        (λ opening. more_if (begins_specs opening.scopes (kind_at opening.rest)) _ _ _ _ (typed_word_more _ keyword.tree opening.tree two opening.scopes opening.rest)
+        (more_bind _ _ _ _ (m.exprs Whole nothing (room - 1) (wide - 1) (omega (arith, less, two)) (omega (arith, wider)) opening.scopes opening.rest) (λ e. more_same _))))
+
+    atomic_more : 2 ≤ room → (s : HeldScopes) (ts : List Lexeme) → More (atomic_with inner room s ts) (atomic_with other wide s ts)
+    unfolding atomic_with
+    atomic_more two s ts =
+        more_bind _ _ _ _ (more_same (take_one s ts)) (λ keyword. more_bind _ _ _ _ (more_same (token_at is_open_paren keyword.scopes keyword.rest))
+        (λ opening. typed_word_more _ keyword.tree opening.tree two opening.scopes opening.rest))
+
+  module _ (room wide : ℕ) (less : room < suc n) (wider : room ≤ wide) where
     word_by_more : (start : SpecStart) → least_of start ≤ room → (s : HeldScopes) (ts : List Lexeme) → More (word_by inner start room s ts) (word_by other start wide s ts)
     unfolding word_by
     word_by_more (starts.Storage keyword) fit s ts = more_same _
@@ -180,12 +202,17 @@ module _ (n : ℕ) (inner other : Inner) (m : InnerMore n inner other) where
     word_by_more starts.Enum fit s ts = enum_more (room - 1) (wide - 1) (omega (arith, less)) (omega (arith, wider)) s ts
     word_by_more starts.Attribute fit s ts = more_same _
     word_by_more (starts.Name name) fit s ts = more_same _
+    word_by_more starts.Typeof fit s ts = typeof_more (room - 1) (wide - 1) (omega (arith, less)) (omega (arith, wider)) (omega (arith, fit)) s ts
+    word_by_more starts.Atomic fit s ts = atomic_more (room - 1) (wide - 1) (omega (arith, less)) (omega (arith, wider)) (omega (arith, fit)) s ts
+    word_by_more starts.Align fit s ts = more_same _
+    word_by_more starts.Auto fit s ts = more_same _
     word_by_more starts.Nothing fit s ts = inr refl
 
     pub specs_more : (role : Role) (words : SpecWords) (s : HeldScopes) (ts : List Lexeme) → More (specs_with inner role words room s ts) (specs_with other role words wide s ts)
     unfolding specs_with word_with
     specs_more role words s ts =
-        more_bind _ _ _ _ (more_run (word_turn inner role room) (word_turn other role wide) (λ words s ts. more_guarded (is_start (start_at s (is_typed words) (kind_at ts))) _ _ (more_bind _ _ _ _
+        more_bind _ _ _ _ (more_run (word_turn inner role room) (word_turn other role wide) (λ words s ts. more_unless (ends_before s words (start_at s (is_typed words) (kind_at ts))) _ _
+        (more_guarded (is_start (start_at s (is_typed words) (kind_at ts))) _ _ (more_bind _ _ _ _
         (more_if (may_stand role (start_at s (is_typed words) (kind_at ts))) _ _ _ _ (more_if (goes_on words (class_of_start (start_at s (is_typed words) (kind_at ts)))) _ _ _ _
         (more_fits (max (least_of (start_at s (is_typed words) (kind_at ts))) (specs_height words)) room wide ts _ _ wider (λ fit. word_by_more (start_at s (is_typed words) (kind_at ts)) (omega (arith, fit)) s ts)) (inr refl)) (inr refl))
-        (λ word. refl))) words s ts) (λ all. more_same _)
+        (λ word. refl)))) words s ts) (λ all. more_same _)

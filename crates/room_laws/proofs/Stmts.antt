@@ -1,26 +1,31 @@
 -- Initialisers, declarations, statements and the items of a unit with more room.
-use Rattle.std.proofs.Common.{◌≡◌, ℕ, suc, ◌+◌, ◌<◌, ◌≤◌, Bool, true, List, [], inr, Option, Some, None, Ok, refl, arith}
-use Rattle.std.specs.Prelude.{◌-◌, not}
+use Rattle.std.proofs.Common.{◌≡◌, ℕ, suc, ◌+◌, ◌<◌, ◌≤◌, Bool, true, false, List, [], inr, Option, Some, None, Ok, refl, arith}
+use Rattle.std.specs.Prelude.{◌-◌, not, ◌&&◌}
 use Rattle.c_words.specs.declared.kinds.TokenKind.{TokenKind}
 use Rattle.c_tree.specs.declared.lexeme.Lexeme.{Lexeme}
 use Rattle.c_syntax.specs.declared.parts.Attr.{Attr}
 use Rattle.c_tree.specs.Tree.{Expr, SpecWords, Declr, Stmt, switch_stmt, while_stmt}
 use Rattle.c_tree.specs.Height.{specs_height}
+use Rattle.c_tree.specs.Specifiers.{storage_words}
+use Rattle.c_tree.specs.WellFormed.{has_auto}
+use Rattle.typedef_scope.specs.declared.kind.Kind.TheVariants.{Value}
 use Rattle.typedef_scope.specs.declared.kind.Kind.{Kind}
-use Rattle.c_units.specs.HeldScopes.{HeldScopes, names_type, enter, release}
-use Rattle.c_units.specs.Scoping.{declared_kind}
+use Rattle.c_units.specs.HeldScopes.{HeldScopes, names_type, enter, release, is_wide}
+use Rattle.c_units.specs.Scoping.{declared_kind, at_name, has_typedef_word}
 use Rattle.c_reading.specs.declared.kinds.Reach.TheVariants.{Whole, Assigned, Conditional}
 use Rattle.c_reading.specs.declared.kinds.Role.TheVariants.{Declaring}
 use Rattle.c_reading.specs.declared.kinds.StmtStart.{StmtStart}
 use Rattle.c_reading.specs.declared.kinds.StmtStart.TheVariants as starts
 use Rattle.c_reading.specs.Reading.{Found, Reader, take_one, token_at, kind_at, behind_first}
-use Rattle.c_reading.specs.Tokens.{is_open_paren, is_close_paren, is_open_brace, is_close_brace, is_colon, is_semicolon, is_equal, is_while, is_else, is_extension, is_attribute, is_static_assert, spelled_name, name_at, extensions_at, attrs_at, attr_at}
+use Rattle.c_reading.specs.Tokens.{is_open_paren, is_close_paren, is_open_brace, is_close_brace, is_colon, is_semicolon, is_equal, is_base_word, is_while, is_else, is_extension, is_attribute, is_static_assert, spelled_name, name_at, extensions_at, attrs_at, attr_at, is_dots, is_star, is_label_word}
 use Rattle.c_reading.specs.Parts.{Inner, Begun, nothing, extensions, DeclrItem}
 use Rattle.c_reading.specs.Specifying.{begins_specs}
-use Rattle.c_reading.specs.Declaring.{words_of_attrs}
+use Rattle.c_reading.specs.Declaring.{words_of_attrs, name_held}
 use Rattle.c_reading.specs.Expressing.{begins_expr, begins_desig, is_dot}
-use Rattle.c_reading.specs.Initialising.{begins_init, init_with, member_desig_with, index_desig_with, desig_with, init_here, init_item_with, next_init_item, init_items_with, braced_with, init_list_with}
-use Rattle.c_reading.specs.Stating.{label_at, some_init_with, declr_behind, init_declr_with, next_init_declr, declrs_with, bare_declaration, declaration_behind, declaration_with, declaration_from, expr_stmt_with, label_with, named_item, extended_item, attr_item_by, attr_item, other_item, block_item_with, block_body, block_with, part_with, some_expr_with, case_with, default_with, some_else_with, if_inside, headed_inside, do_inside, start_value_with, extended_start, for_start_with, for_inside, goto_with, jump_with, return_with, asm_with, attr_stmt_with, named_stmt, stmt_by}
+use Rattle.c_reading.specs.Initialising.{begins_init, init_with, member_desig_with, index_desig_with, desig_with, init_here, init_item_with, next_init_item, init_items_with, braced_with, init_list_with, index_behind, plain_item, old_item, named_init_item, init_item_by}
+use Rattle.c_reading.specs.Stating.{label_at, some_init_with, declr_behind, init_declr_with, next_init_declr, declrs_with, bare_declaration, declaration_behind, declaration_with, declaration_from, expr_stmt_with, label_with, named_item, extended_item, attr_item_by, attr_item, other_item, block_item_with, block_body, block_with, part_with, some_expr_with, case_with, default_with, some_else_with, if_inside, headed_inside, do_inside, start_value_with, extended_start, for_start_with, for_inside, goto_with, jump_with, return_with, asm_with, attr_stmt_with, named_stmt, stmt_by, auto_declr, auto_name, auto_declarator, auto_behind, labels_with, value_behind, goto_value_with, goto_name}
+use Rattle.c_reading.specs.Initialising as initialising
+use Rattle.c_reading.specs.Stating as stating
 use Rattle.c_reading.proofs.Binding.{take_falls}
 use Rattle.c_reading.proofs.KnotLaws.{none_tokens}
 use Rattle.room_laws.specs.Rooms.{More, InnerMore}
@@ -45,18 +50,41 @@ module _ (n : ℕ) (inner other : Inner) (m : InnerMore n inner other) where
 
   module _ (room wide : ℕ) (less : room < suc n) (wider : room ≤ wide) where
     desig_more : (s : HeldScopes) (ts : List Lexeme) → More (desig_with inner room s ts) (desig_with other wide s ts)
-    unfolding desig_with member_desig_with index_desig_with
+    unfolding desig_with member_desig_with index_desig_with index_behind initialising.range_behind
     desig_more s ts =
         more_if (is_dot (kind_at ts)) _ _ _ _ (more_fits 2 room wide ts _ _ wider (λ two. more_same _))
         (more_fits 3 room wide ts _ _ wider (λ three. more_bind _ _ _ _ (more_same (take_one s ts))
-        (λ opening. more_bind _ _ _ _ (m.exprs Conditional nothing (room - 2) (wide - 2) (omega (arith, less, three)) (omega (arith, wider)) opening.scopes opening.rest) (λ e. more_same _))))
+        (λ opening. more_bind _ _ _ _ (m.exprs Conditional nothing (room - 2) (wide - 2) (omega (arith, less, three)) (omega (arith, wider)) opening.scopes opening.rest)
+        (λ e. more_if (is_wide e.scopes && is_dots (kind_at e.rest)) _ _ _ _
+        (more_bind _ _ _ _ (more_same (take_one e.scopes e.rest))
+        (λ dots. more_bind _ _ _ _ (m.exprs Conditional nothing (room - 2) (wide - 2) (omega (arith, less, three)) (omega (arith, wider)) dots.scopes dots.rest) (λ e2. more_same _)))
+        (more_same _)))))
+
+    init_here_more : (s : HeldScopes) (ts : List Lexeme) → More (init_here inner room s ts) (init_here other wide s ts)
+    unfolding init_here
+    init_here_more s ts =
+        more_if (begins_init s (kind_at ts)) _ _ _ _
+        (more_fits 2 room wide ts _ _ wider (λ two. init_more (room - 1) (wide - 1) (omega (arith, less, two)) (omega (arith, wider)) s ts)) (inr refl)
+
+    plain_item_more : (s : HeldScopes) (ts : List Lexeme) → More (plain_item inner room s ts) (plain_item other wide s ts)
+    unfolding plain_item
+    plain_item_more s ts =
+        more_bind _ _ _ _ (more_repeated begins_desig (desig_with inner room) (desig_with other wide) desig_more s ts) (λ desigs. more_bind _ _ _ _ (more_same _)
+        (λ equal. more_bind _ _ _ _ (init_here_more equal.scopes equal.rest) (λ init. refl)))
 
     init_item_more : (s : HeldScopes) (ts : List Lexeme) → More (init_item_with inner room s ts) (init_item_with other wide s ts)
-    unfolding init_item_with init_here
-    init_item_more s ts =
-        more_bind _ _ _ _ (more_repeated begins_desig (desig_with inner room) (desig_with other wide) desig_more s ts) (λ desigs. more_bind _ _ _ _ (more_same _)
-        (λ equal. more_bind _ _ _ _ (more_if (begins_init equal.scopes (kind_at equal.rest)) _ _ _ _
-        (more_fits 2 room wide equal.rest _ _ wider (λ two. init_more (room - 1) (wide - 1) (omega (arith, less, two)) (omega (arith, wider)) equal.scopes equal.rest)) (inr refl)) (λ init. refl)))
+    unfolding init_item_with named_init_item old_item
+    init_item_more s ts = by (spelled_name (kind_at ts))
+      where
+        by : (o : Option ℕ) → More (init_item_by inner o room s ts) (init_item_by other o wide s ts)
+        by None = plain_item_more s ts
+        by (Some name) =
+            more_if (is_wide s) _ _ _ _
+            (more_fits 2 room wide ts _ _ wider (λ two. more_if (is_colon (kind_at (behind_first ts))) _ _ _ _
+            (more_bind _ _ _ _ (more_same (name_at s ts)) (λ name. more_bind _ _ _ _ (more_same (token_at is_colon name.scopes name.rest))
+            (λ colon. more_bind _ _ _ _ (init_here_more colon.scopes colon.rest) (λ init. refl))))
+            (more_if (names_type s name) _ _ _ _ (inr refl) (plain_item_more s ts))))
+            (plain_item_more s ts)
 
   module _ (room wide : ℕ) (less : room < suc n) (wider : room ≤ wide) where
     pub init_list_more : (s : HeldScopes) (ts : List Lexeme) → More (init_list_with inner room s ts) (init_list_with other wide s ts)
@@ -93,6 +121,35 @@ module _ (n : ℕ) (inner other : Inner) (m : InnerMore n inner other) where
     unfolding next_init_declr
     next_init_declr_more kind comma s ts = more_bind _ _ _ _ (attrs_more room wide wider s ts) (λ attrs. more_bind _ _ _ _ (init_declr_more attrs.tree kind attrs.scopes attrs.rest) (λ d. refl))
 
+  -- a name of the type of its initialiser
+
+  auto_declr_more : (room wide : ℕ) → room < suc n → 1 ≤ room → room ≤ wide → (exts : List ℕ) (words : SpecWords) (d : Declr) (s : HeldScopes) (ts : List Lexeme) →
+      More (auto_declr inner exts words d room s ts) (auto_declr other exts words d wide s ts)
+  unfolding auto_declr
+  auto_declr_more room wide less one wider exts words d s ts =
+      more_bind _ _ _ _ (attrs_more room wide wider s ts) (λ attrs. more_bind _ _ _ _ (more_same (token_at is_equal attrs.scopes attrs.rest))
+      (λ equal. more_bind _ _ _ _ (m.exprs Assigned nothing (room - 1) (wide - 1) (omega (arith, less, one)) (omega (arith, wider)) equal.scopes equal.rest) (λ e. more_same _)))
+
+  auto_name_more : (room wide : ℕ) → room ≤ wide → (o : Option ℕ) (s : HeldScopes) (ts : List Lexeme) → More (auto_name inner o room s ts) (auto_name other o wide s ts)
+  auto_name_more room wide wider None s ts = inr refl
+  auto_name_more room wide wider (Some name) s ts = more_bind _ _ _ _ (held (at_name (Some Value) name s)) (λ d. more_same _)
+    where
+      held : (o : Option HeldScopes) → More (name_held name room o s ts) (name_held name wide o s ts)
+      held None = inr refl
+      held (Some t) = more_fits 1 room wide ts _ _ wider (λ one. more_same _)
+
+  auto_declarator_more : (typed : Bool) (room wide : ℕ) → room ≤ wide → (s : HeldScopes) (ts : List Lexeme) → More (auto_declarator inner typed room s ts) (auto_declarator other typed wide s ts)
+  auto_declarator_more false room wide wider s ts = auto_name_more room wide wider (spelled_name (kind_at ts)) s ts
+  auto_declarator_more true room wide wider s ts =
+      more_if (is_base_word (kind_at ts)) _ _ _ _ (more_fits 1 room wide ts _ _ wider (λ one. more_same _)) (inr refl)
+
+  auto_behind_more : (room wide : ℕ) → room < suc n → 2 ≤ room → room ≤ wide → (exts : List ℕ) (words : SpecWords) (s : HeldScopes) (ts : List Lexeme) →
+      More (auto_behind inner exts words room s ts) (auto_behind other exts words wide s ts)
+  unfolding auto_behind
+  auto_behind_more room wide less two wider exts words s ts =
+      more_bind _ _ _ _ (auto_declarator_more (has_typedef_word (storage_words words)) (room - 2) (wide - 2) (omega (arith, wider)) s ts)
+      (λ d. auto_declr_more (room - 1) (wide - 1) (omega (arith, less)) (omega (arith, two)) (omega (arith, wider)) exts words d.tree d.scopes d.rest)
+
   module _ (room wide : ℕ) (less : room < suc n) (two : 2 ≤ room) (wider : room ≤ wide) where
     pub declrs_more : (exts : List ℕ) (words : SpecWords) (kind : Kind) (first firsts : Reader DeclrItem) (s : HeldScopes) (ts : List Lexeme) → More (first s ts) (firsts s ts) →
         More (declrs_with inner exts words kind room first s ts) (declrs_with other exts words kind wide firsts s ts)
@@ -104,16 +161,16 @@ module _ (n : ℕ) (inner other : Inner) (m : InnerMore n inner other) where
     pub declaration_behind_more : (exts : List ℕ) (words : SpecWords) (s : HeldScopes) (ts : List Lexeme) → More (declaration_behind inner exts words room s ts) (declaration_behind other exts words wide s ts)
     unfolding declaration_behind bare_declaration
     declaration_behind_more exts words s ts =
-        more_if (is_semicolon (kind_at ts)) _ _ _ _ (more_fits (1 + specs_height words) room wide ts _ _ wider (λ fit. more_same _))
+        more_if (has_auto words) _ _ _ _ (auto_behind_more room wide less two wider exts words s ts) (more_if (is_semicolon (kind_at ts)) _ _ _ _ (more_fits (1 + specs_height words) room wide ts _ _ wider (λ fit. more_same _))
         (declrs_more exts words (declared_kind words) (init_declr_with inner [] (declared_kind words) (room - 1)) (init_declr_with other [] (declared_kind words) (wide - 1)) s ts
-        (init_declr_more (room - 1) (wide - 1) (omega (arith, less)) (omega (arith, two)) (omega (arith, wider)) [] (declared_kind words) s ts))
+        (init_declr_more (room - 1) (wide - 1) (omega (arith, less)) (omega (arith, two)) (omega (arith, wider)) [] (declared_kind words) s ts)))
 
   module _ (room wide : ℕ) (less : room < suc n) (wider : room ≤ wide) where
     declaration_more : (exts : List ℕ) (s : HeldScopes) (ts : List Lexeme) → More (declaration_with inner exts room s ts) (declaration_with other exts wide s ts)
     unfolding declaration_with
     declaration_more exts s ts =
-        more_behind _ _ _ _ (specs_here_more n inner other m room wide less wider s ts)
-        (λ words is. declaration_behind_more room wide less (specs_two n inner other m room s ts words is) wider exts words.tree words.scopes words.rest)
+        more_behind _ _ _ _ (specs_here_more n inner other m room wide less wider Declaring s ts)
+        (λ words is. declaration_behind_more room wide less (specs_two n inner other m Declaring room s ts words is) wider exts words.tree words.scopes words.rest)
 
     from_more : (known : SpecWords) → 2 ≤ room → (s : HeldScopes) (ts : List Lexeme) → More (declaration_from inner known room s ts) (declaration_from other known wide s ts)
     unfolding declaration_from
@@ -199,10 +256,12 @@ module _ (n : ℕ) (inner other : Inner) (m : InnerMore n inner other) where
     wide_lower = omega (arith, wider)
 
     pub block_body_more : (s : HeldScopes) (ts : List Lexeme) → More (block_body inner room s ts) (block_body other wide s ts)
-    unfolding block_body
+    unfolding block_body labels_with
     block_body_more s ts =
-        more_bind _ _ _ _ (more_same (take_one s ts)) (λ opening. more_bind _ _ _ _ (more_repeated (λ kind. not (is_close_brace kind)) (block_item_with inner (room - 1)) (block_item_with other (wide - 1))
-        (block_item_more (room - 1) (wide - 1) lower wide_lower) opening.scopes opening.rest) (λ items. more_same _))
+        more_bind _ _ _ _ (more_same (take_one s ts)) (λ opening. more_bind _ _ _ _
+        (more_repeated is_label_word (labels_with inner (room - 1)) (labels_with other (wide - 1)) (λ s ts. more_fits 1 (room - 1) (wide - 1) ts _ _ wide_lower (λ fit. more_same _)) opening.scopes opening.rest)
+        (λ labels. more_bind _ _ _ _ (more_repeated (λ kind. not (is_close_brace kind)) (block_item_with inner (room - 1)) (block_item_with other (wide - 1))
+        (block_item_more (room - 1) (wide - 1) lower wide_lower) labels.scopes labels.rest) (λ items. more_same _)))
 
     headed_more : (make : ℕ → ℕ → Expr → ℕ → Stmt → Stmt) (s : HeldScopes) (ts : List Lexeme) → More (headed_inside inner make room s ts) (headed_inside other make wide s ts)
     unfolding headed_inside
@@ -235,10 +294,13 @@ module _ (n : ℕ) (inner other : Inner) (m : InnerMore n inner other) where
         (λ closing. more_bind _ _ _ _ (part_more (room - 1) (wide - 1) lower wide_lower closing.scopes closing.rest) (λ t. refl))))))))
 
     case_more : (s : HeldScopes) (ts : List Lexeme) → More (case_with inner room s ts) (case_with other wide s ts)
-    unfolding case_with
+    unfolding case_with stating.range_behind value_behind
     case_more s ts =
         more_fits 2 room wide ts _ _ wider (λ two. more_bind _ _ _ _ (more_same (take_one s ts)) (λ keyword. more_bind _ _ _ _ (m.exprs Conditional nothing (room - 1) (wide - 1) lower wide_lower keyword.scopes keyword.rest)
-        (λ e. more_bind _ _ _ _ (more_same (token_at is_colon e.scopes e.rest)) (λ colon. more_bind _ _ _ _ (m.stmts (room - 1) (wide - 1) lower wide_lower colon.scopes colon.rest) (λ t. refl)))))
+        (λ e. more_if (is_wide e.scopes && is_dots (kind_at e.rest)) _ _ _ _
+        (more_bind _ _ _ _ (more_same (take_one e.scopes e.rest)) (λ dots. more_bind _ _ _ _ (m.exprs Conditional nothing (room - 1) (wide - 1) lower wide_lower dots.scopes dots.rest)
+        (λ e2. more_bind _ _ _ _ (more_same (token_at is_colon e2.scopes e2.rest)) (λ colon. more_bind _ _ _ _ (m.stmts (room - 1) (wide - 1) lower wide_lower colon.scopes colon.rest) (λ t. refl)))))
+        (more_bind _ _ _ _ (more_same (token_at is_colon e.scopes e.rest)) (λ colon. more_bind _ _ _ _ (m.stmts (room - 1) (wide - 1) lower wide_lower colon.scopes colon.rest) (λ t. refl))))))
 
     default_more : (s : HeldScopes) (ts : List Lexeme) → More (default_with inner room s ts) (default_with other wide s ts)
     unfolding default_with
@@ -258,7 +320,7 @@ module _ (n : ℕ) (inner other : Inner) (m : InnerMore n inner other) where
         (more_if (names_type s name) _ _ _ _ (inr refl) (expr_stmt_more room wide less wider nothing one s ts)))
 
     pub stmt_by_more : (start : StmtStart) (s : HeldScopes) (ts : List Lexeme) → More (stmt_by inner start room s ts) (stmt_by other start wide s ts)
-    unfolding stmt_by block_with goto_with jump_with asm_with attr_stmt_with
+    unfolding stmt_by block_with goto_with goto_value_with goto_name jump_with asm_with attr_stmt_with
     stmt_by_more starts.Block s ts =
         more_bind _ _ _ _ (more_if (is_open_brace (kind_at ts)) _ _ _ _ (more_fits 1 room wide ts _ _ wider (λ fit. more_bind _ _ _ _ (block_body_more (enter s) ts) (λ b. refl))) (inr refl)) (λ b. refl)
     stmt_by_more starts.Semicolon s ts = more_fits 1 room wide ts _ _ wider (λ fit. more_same _)
@@ -271,7 +333,10 @@ module _ (n : ℕ) (inner other : Inner) (m : InnerMore n inner other) where
     stmt_by_more starts.While s ts = more_fits 2 room wide ts _ _ wider (λ fit. more_bind _ _ _ _ (headed_more while_stmt (enter s) ts) (λ t. refl))
     stmt_by_more starts.Do s ts = more_fits 2 room wide ts _ _ wider (λ fit. more_bind _ _ _ _ (do_more (enter s) ts) (λ t. refl))
     stmt_by_more starts.For s ts = more_fits 2 room wide ts _ _ wider (λ fit. more_bind _ _ _ _ (for_more (enter s) ts) (λ t. refl))
-    stmt_by_more starts.Goto s ts = more_fits 1 room wide ts _ _ wider (λ fit. more_same _)
+    stmt_by_more starts.Goto s ts =
+        more_fits 1 room wide ts _ _ wider (λ fit. more_bind _ _ _ _ (more_same (take_one s ts)) (λ keyword. more_if (is_wide keyword.scopes && is_star (kind_at keyword.rest)) _ _ _ _
+        (more_fits 2 room wide keyword.rest _ _ wider (λ two. more_bind _ _ _ _ (more_same (take_one keyword.scopes keyword.rest))
+        (λ star. more_bind _ _ _ _ (m.exprs Whole nothing (room - 1) (wide - 1) lower wide_lower star.scopes star.rest) (λ e. more_same _)))) (more_same _)))
     stmt_by_more starts.Continue s ts = more_fits 1 room wide ts _ _ wider (λ fit. more_same _)
     stmt_by_more starts.Break s ts = more_fits 1 room wide ts _ _ wider (λ fit. more_same _)
     stmt_by_more starts.Return s ts = return_more s ts

@@ -5,10 +5,12 @@ use Rattle.c_tree.specs.declared.lexeme.Lexeme.{Lexeme}
 use Rattle.c_syntax.specs.declared.parts.Attr.{Attr}
 use Rattle.c_tree.specs.Tree.{SpecWords, Declr}
 use Rattle.c_tree.specs.Specifiers.{storage_words}
+use Rattle.c_tree.specs.WellFormed.{has_auto, lists_identifiers}
 use Rattle.c_tree.specs.Height.{specs_height, declr_height}
 use Rattle.typedef_scope.specs.declared.kind.Kind.TheVariants.{Value}
-use Rattle.c_units.specs.HeldScopes.{HeldScopes, HeldScope, reopen, release}
+use Rattle.c_units.specs.HeldScopes.{HeldScopes, HeldScope, reopen, release, enter, innermost, leave}
 use Rattle.c_units.specs.Scoping.{has_typedef_word}
+use Rattle.c_reading.specs.declared.kinds.Role.TheVariants.{Declaring}
 use Rattle.c_reading.specs.declared.kinds.Mode.TheVariants.{Named}
 use Rattle.c_reading.specs.declared.kinds.StmtStart.{StmtStart}
 use Rattle.c_reading.specs.declared.kinds.StmtStart.TheVariants as starts
@@ -18,7 +20,7 @@ use Rattle.c_reading.specs.Parts.{Inner, never}
 use Rattle.c_reading.specs.Specifying.{present}
 use Rattle.c_reading.specs.Expressing.{begins_expr}
 use Rattle.c_reading.specs.Stating.{stmt_start, bare_declaration, declr_behind, case_with, default_with, block_with, goto_with, jump_with, return_with, asm_with, attr_stmt_with, named_stmt, stmt_by, stmt_with}
-use Rattle.c_reading.specs.Items.{goes_on_declared, function_with, attrs_behind, function_or_not, behind_function, behind_declr, first_declr, declared_item, asm_item_with, item_with, items_with}
+use Rattle.c_reading.specs.Items.{goes_on_declared, function_with, attrs_behind, function_or_not, behind_function, behind_declr, first_declr, declared_item, asm_item_with, item_with, items_with, old_declaration, old_function_with}
 use Rattle.c_reading.specs.Knot.{tied, knot}
 use Rattle.room_laws.specs.Rooms.{More, InnerMore, number_of, MoreRoomIsMore}
 use Rattle.room_laws.proofs.More.{more_same, more_bind, more_behind, more_fits, more_if, more_repeated}
@@ -93,21 +95,40 @@ module _ (n : ℕ) (inner other : Inner) (m : InnerMore n inner other) where
         (more_fits (2 + declr_height d) room wide ts _ _ wider (λ fit. more_bind _ _ _ _ (declrs_more n inner other m room wide less two wider exts words Value _ _ s ts (declared_more exts words d s ts)) (λ d. refl)))
         (more_bind _ _ _ _ (attrs_more room wide wider s ts) (λ attrs. function_or_not_more exts words d attrs.tree closed attrs.scopes attrs.rest))
 
+    -- declarations behind a list of identifiers
+    old_declaration_more : (s : HeldScopes) (ts : List Lexeme) → More (old_declaration inner (room - 1) s ts) (old_declaration other (wide - 1) s ts)
+    unfolding old_declaration
+    old_declaration_more s ts =
+        more_bind _ _ _ _ (exts_more (room - 1) (wide - 1) (omega (arith, wider)) s ts)
+        (λ exts. more_behind _ _ _ _ (specs_here_more n inner other m (room - 1) (wide - 1) (omega (arith, less)) (omega (arith, wider)) Declaring exts.scopes exts.rest)
+        (λ words is. declaration_behind_more n inner other m (room - 1) (wide - 1) (omega (arith, less)) (specs_two n inner other m Declaring (room - 1) exts.scopes exts.rest words is) (omega (arith, wider)) exts.tree words.tree
+        words.scopes words.rest))
+
+    old_function_more : (exts : List ℕ) (words : SpecWords) (d : Declr) (s : HeldScopes) (ts : List Lexeme) → More (old_function_with inner exts words d room s ts) (old_function_with other exts words d wide s ts)
+    unfolding old_function_with
+    old_function_more exts words d s ts =
+        more_bind _ _ _ _ (attrs_more room wide wider s ts)
+        (λ attrs. more_bind _ _ _ _ (more_repeated (λ kind. not (is_open_brace kind)) (old_declaration inner (room - 1)) (old_declaration other (wide - 1)) old_declaration_more (enter attrs.scopes) attrs.rest)
+        (λ ds. more_bind _ _ _ _ (block_body_more n inner other m (room - 1) (wide - 1) (omega (arith, less)) (omega (arith, two)) (omega (arith, wider)) (reopen (innermost ds.scopes) (release Value (leave ds.scopes))) ds.rest)
+        (λ body. refl)))
+
     first_declr_more : (exts : List ℕ) (words : SpecWords) (s : HeldScopes) (ts : List Lexeme) → More (first_declr inner exts words room s ts) (first_declr other exts words wide s ts)
     unfolding first_declr
     first_declr_more exts words s ts =
         more_bind _ _ _ _ (m.declrs Named (Some Value) true (room - 2) (wide - 2) (omega (arith, less, two)) (omega (arith, wider)) s ts)
-        (λ d. more_bind _ _ _ _ (more_same (present d.tree.declr d.scopes d.rest)) (λ known. behind_declr_more exts words known.tree d.tree.closed (release Value known.scopes) known.rest))
+        (λ d. more_bind _ _ _ _ (more_same (present d.tree.declr d.scopes d.rest)) (λ known. more_if (lists_identifiers known.tree) _ _ _ _ (old_function_more exts words known.tree known.scopes known.rest)
+        (behind_declr_more exts words known.tree d.tree.closed (release Value known.scopes) known.rest)))
 
   module _ (room wide : ℕ) (less : room < suc n) (wider : room ≤ wide) where
     declared_item_more : (s : HeldScopes) (ts : List Lexeme) → More (declared_item inner room s ts) (declared_item other wide s ts)
     unfolding declared_item bare_declaration
     declared_item_more s ts =
-        more_bind _ _ _ _ (exts_more room wide wider s ts) (λ exts. more_behind _ _ _ _ (specs_here_more n inner other m room wide less wider exts.scopes exts.rest)
-        (λ words is. let two = specs_two n inner other m room exts.scopes exts.rest words is in
-        more_if (is_semicolon (kind_at words.rest)) _ _ _ _ (more_bind _ _ _ _ (more_fits (1 + specs_height words.tree) room wide words.rest _ _ wider (λ fit. more_same _)) (λ d. refl))
+        more_bind _ _ _ _ (exts_more room wide wider s ts) (λ exts. more_behind _ _ _ _ (specs_here_more n inner other m room wide less wider Declaring exts.scopes exts.rest)
+        (λ words is. let two = specs_two n inner other m Declaring room exts.scopes exts.rest words is in
+        more_if (has_auto words.tree) _ _ _ _ (more_bind _ _ _ _ (declaration_behind_more n inner other m room wide less two wider exts.tree words.tree words.scopes words.rest) (λ d. refl))
+        (more_if (is_semicolon (kind_at words.rest)) _ _ _ _ (more_bind _ _ _ _ (more_fits (1 + specs_height words.tree) room wide words.rest _ _ wider (λ fit. more_same _)) (λ d. refl))
         (more_if (has_typedef_word (storage_words words.tree)) _ _ _ _ (more_bind _ _ _ _ (declaration_behind_more n inner other m room wide less two wider exts.tree words.tree words.scopes words.rest) (λ d. refl))
-        (first_declr_more room wide less two wider exts.tree words.tree words.scopes words.rest))))
+        (first_declr_more room wide less two wider exts.tree words.tree words.scopes words.rest)))))
 
     item_more : (s : HeldScopes) (ts : List Lexeme) → More (item_with inner room s ts) (item_with other wide s ts)
     unfolding item_with asm_item_with
@@ -146,5 +167,5 @@ knot_more (suc n) zero h = absurd (omega (arith, h))
 knot_more (suc n) (suc d) h = tied_more (suc n) (knot n) (knot d) (knot_more n d (omega (arith, h)))
 
 pub more_room_is_more : MoreRoomIsMore
-more_room_is_more room wide one wider all =
+more_room_is_more room wide one wider dialect all =
     more_bind _ _ _ _ (items_more (suc room) (knot room) (knot wide) (knot_more room wide wider) (room - 1) (wide - 1) (omega arith) (omega (arith, wider)) _ all) (λ items. more_same _)

@@ -38,20 +38,20 @@ pub record InnerMore (n : ℕ) (inner other : Inner) : Type 0 where
   pub stmts : (room wide : ℕ) → room < n → room ≤ wide → (s : HeldScopes) (ts : List Lexeme) → More (inner.stmt room s ts) (other.stmt wide s ts)
 
 -- a unit of at most this height; that of 500 is the reader of units
-abbrev pub unit_of : ℕ → List Lexeme → Read (List Item)
-unit_of room all = items_with (knot room) (room - 1) file_scope all >>= λ items. token_at is_end items.scopes items.rest >>= λ last. alone items.tree last.rest
+abbrev pub unit_of : ℕ → Bool → List Lexeme → Read (List Item)
+unit_of room dialect all = items_with (knot room) (room - 1) (file_scope dialect) all >>= λ items. token_at is_end items.scopes items.rest >>= λ last. alone dialect items.tree last.rest
 
 -- with more room a unit is read alike
 abbrev pub MoreRoomIsMore : Type 0
-MoreRoomIsMore = (room wide : ℕ) → 1 ≤ room → room ≤ wide → (all : List Lexeme) → More (unit_of room all) (unit_of wide all)
+MoreRoomIsMore = (room wide : ℕ) → 1 ≤ room → room ≤ wide → (dialect : Bool) (all : List Lexeme) → More (unit_of room dialect all) (unit_of wide dialect all)
 
 -- a unit that is well formed but for its height is read with room for it
 abbrev pub AnyHeightIsRead : Type 0
 AnyHeightIsRead =
-    (all : List Lexeme) → IsNumbered all → (room : ℕ) (items : List Item) → 1 ≤ room → IsWellFormedAtAnyHeight all items
-    → unit_height items ≤ room → unit_of room all ≡ Ok (record { tree = items; scopes = file_scope; rest = [] })
+    (dialect : Bool) (all : List Lexeme) → IsNumbered all → (room : ℕ) (items : List Item) → 1 ≤ room → IsWellFormedAtAnyHeight dialect all items
+    → unit_height items ≤ room → unit_of room dialect all ≡ Ok (record { tree = items; scopes = file_scope dialect; rest = [] })
 
 -- what is read with any room is well formed but for its height
 abbrev pub AnyUnitIsWellFormed : Type 0
 AnyUnitIsWellFormed =
-    (all : List Lexeme) → IsNumbered all → (room : ℕ) (x : Found (List Item)) → 1 ≤ room → unit_of room all ≡ Ok x → IsWellFormedAtAnyHeight all x.tree
+    (dialect : Bool) (all : List Lexeme) → IsNumbered all → (room : ℕ) (x : Found (List Item)) → 1 ≤ room → unit_of room dialect all ≡ Ok x → IsWellFormedAtAnyHeight dialect all x.tree

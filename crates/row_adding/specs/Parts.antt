@@ -1,5 +1,5 @@
 -- Parts of rows.
-use Rattle.std.specs.Prelude.{ℕ, ◌^◌, nat_eq, Bool, true, ◌&&◌, ◌||◌, List, [], ◌∷◌, ◌++◌, Option, None, Some, if◌then◌else◌}
+use Rattle.std.specs.Prelude.{ℕ, ◌^◌, nat_eq, Bool, true, false, ◌&&◌, ◌||◌, List, [], ◌∷◌, ◌++◌, Option, None, Some, if◌then◌else◌}
 use Rattle.c_words.specs.declared.kinds.Punct.{Punct}
 use Rattle.qual_base.specs.declared.places.Span.{Span}
 use Rattle.lattice_core.specs.declared.Entry.{Entry}
@@ -12,10 +12,10 @@ use Rattle.name_rules.specs.Spellings.{Place}
 use Rattle.name_rules.specs.Values.{is_additive}
 use Rattle.row_rules.specs.Worlds.{World, all_lattices, at, constraint, in_all, site_number, skeleton, span}
 use Rattle.type_table.specs.Types.{CType}
-use Rattle.row_rules.specs.Annotations.{uncut}
+use Rattle.row_rules.specs.Annotations.{uncut, derefs_where}
 use Rattle.row_rules.specs.Vals.{Val, is_nothing, is_ref, value}
 use Rattle.row_rules.specs.Forming.{formed}
-use Rattle.row_rules.specs.Rows.{is_plus_or_minus, is_logical, flowing, formed_here, branched}
+use Rattle.row_rules.specs.Rows.{is_plus_or_minus, is_logical, flowing, formed_here, branched, carrying}
 use Rattle.row_adding.specs.declared.bounds.Attribute.{Attribute}
 use Rattle.row_adding.specs.declared.bounds.Attribute.TheVariants as attributes
 
@@ -28,7 +28,8 @@ computes_none p a b = is_logical p || (is_additive p && (is_ref a || is_ref b))
 
 abbrev pub has : Attribute → Entry → Bool
 has attributes.Write = λ entry. entry.write
-has attributes.Deref = λ entry. entry.deref
+has attributes.Deref = λ entry. derefs_where true entry.deref
+has attributes.Access = λ entry. derefs_where false entry.deref
 
 -- the bound by one element
 abbrev pub bound_by : (Entry → Bool) → ℕ → Span → ℕ → ℕ → Entry → List Constraint
@@ -66,3 +67,7 @@ given w was_function a b where_ = if was_function || is_nothing b then [] else i
 -- the variable of further arguments flows into a list of arguments, where that is one
 abbrev pub begun : World → ℕ → Skel → Span → List Constraint
 begun w e list where_ = if is_nothing list then [] else in_all w where_ (Le e (root list) ∷ [])
+
+-- a pointer that carries another one points at its place, and is at least that one
+abbrev pub pointed : World → Skel → Skel → Skel → Span → List Constraint
+pointed w place by t where_ = flowing false place t (all_lattices w) where_ ++ carrying w by t where_

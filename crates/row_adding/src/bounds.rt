@@ -6,7 +6,7 @@ ghost use Rattle.flow_rules.specs.Adding.{with};
 ghost use Rattle.qual_types.specs.Skel.{root};
 ghost use Rattle.qual_types.specs.Table.{IsVar};
 ghost use Rattle.row_rules.specs.Annotations as rules;
-ghost use Rattle.row_rules.specs.Annotations.{bounds_of, bounds_from};
+ghost use Rattle.row_rules.specs.Annotations.{bounds_of, bounds_from, derefs_where};
 ghost use Rattle.row_rules.specs.Rows as rows;
 ghost use Rattle.row_world.specs.Shown.{skel};
 ghost use Rattle.row_adding.specs.Adding.{StopsEarly, Adds, Halts};
@@ -14,15 +14,38 @@ ghost use Rattle.row_adding.specs.Parts.{has, bound_by};
 
 use crate::flows::add;
 use flow_graph::{FlowGraph, GraphFault, Link};
-use lattice_core::{Entry, Lattice, Lattices};
+use lattice_core::{Deref, Entry, Lattice, Lattices};
 use qual_base::{Elem, LatticeNo, SkelId, Span, VarId};
 use row_world::{Known, contents, is_fun};
 
-/// What an element may say: that it bounds what is written to, or what is dereferenced.
+/// What an element may say: that it bounds what is written to, what is dereferenced, or what is dereferenced and not only addressed.
 #[derive(Clone, Copy, PartialEq, Eq, Debug)]
 enum Attribute {
     Write,
     Deref,
+    Access,
+}
+
+/// Whether an element bounds all that is dereferenced.
+fn is_deref(entry: &Entry) -> bool
+    ensures { result ≡ rules.is_deref entry.now.deref }
+{
+    match entry.deref {
+        Deref::No => false,
+        Deref::Yes => true,
+        Deref::Access => false,
+    }
+}
+
+/// Whether it bounds what is dereferenced and not only addressed.
+fn is_deref_or_access(entry: &Entry) -> bool
+    ensures { result ≡ rules.is_deref_or_access entry.now.deref }
+{
+    match entry.deref {
+        Deref::No => false,
+        Deref::Yes => true,
+        Deref::Access => true,
+    }
 }
 
 fn has(attribute: Attribute, entry: &Entry) -> bool
@@ -30,7 +53,19 @@ fn has(attribute: Attribute, entry: &Entry) -> bool
 {
     match attribute {
         Attribute::Write => entry.write,
-        Attribute::Deref => entry.deref,
+        Attribute::Deref => is_deref(entry),
+        Attribute::Access => is_deref_or_access(entry),
+    }
+}
+
+/// What bounds a place that is dereferenced; `aims`: it is only addressed.
+fn attribute_of(aims: bool) -> Attribute
+    ensures { has result ≡ λ entry. derefs_where aims entry.deref }
+{
+    if aims {
+        Attribute::Deref
+    } else {
+        Attribute::Access
     }
 }
 
@@ -159,36 +194,39 @@ pub(crate) fn written(
     write_bounds(known, graph, known.vars.var(at), span)
 }
 
-/// What is dereferenced is bounded by each element that says so. In at most 1,024 steps.
+/// What is dereferenced is bounded by each element that says so; `aims`: its place is only addressed. In at most 1,024 steps.
 pub fn deref_bounds(
     known: &Known,
     graph: &mut FlowGraph,
     var: VarId,
+    aims: bool,
     span: &Span,
 ) -> Result<(), GraphFault>
     requires { IsVar var }
     ensures ok { OnOk result (Adds known.now graph.old graph.new
-        (λ w. rules.deref_bounds w var span.now)) }
+        (λ w. rules.deref_bounds w var aims span.now)) }
     ensures err { IfErr result (λ fault. Halts known.now graph.old graph.new fault
-        (λ w. rules.deref_bounds w var span.now)) }
+        (λ w. rules.deref_bounds w var aims span.now)) }
 {
-    add_bounds_from(graph, Attribute::Deref, var, span, known.lattices, 0)
+    let attribute = attribute_of(aims);
+    add_bounds_from(graph, attribute, var, span, known.lattices, 0)
 }
 
-/// What is dereferenced is bounded, but where it points to a function. In at most 1,024 steps.
+/// What is dereferenced is bounded, but where it points to a function; `aims`: its place is only addressed. In at most 1,024 steps.
 pub fn dereferenced(
     known: &Known,
     graph: &mut FlowGraph,
     at: SkelId,
+    aims: bool,
     span: &Span,
 ) -> Result<(), GraphFault>
     ensures ok { OnOk result (Adds known.now graph.old graph.new
-        (λ w. rows.dereferenced w (skel known.now at) span.now)) }
+        (λ w. rows.dereferenced w (skel known.now at) aims span.now)) }
     ensures err { IfErr result (λ fault. Halts known.now graph.old graph.new fault
-        (λ w. rows.dereferenced w (skel known.now at) span.now)) }
+        (λ w. rows.dereferenced w (skel known.now at) aims span.now)) }
 {
     if is_fun(known.vars, contents(known.vars, at)) {
         return Ok(());
     }
-    deref_bounds(known, graph, known.vars.var(at), span)
+    deref_bounds(known, graph, known.vars.var(at), aims, span)
 }

@@ -27,6 +27,6 @@ pub use flows::{
 };
 pub use forming::{form, form_here};
 pub use naming::{RowKind, annotate_name, declared, name};
-pub use operators::{assigned, chosen, computed, passed, prefixed};
+pub use operators::{assigned, carried, chosen, computed, passed, prefixed};
 pub use others::{into_target, literal, returned, started, taken, taken_fresh};
 pub use uses::used;

@@ -7,15 +7,15 @@ ghost use Rattle.row_rules.specs.Rows as rows;
 ghost use Rattle.row_rules.specs.Vals as vals;
 ghost use Rattle.row_world.specs.Shown.{skel, val};
 ghost use Rattle.row_adding.specs.Adding.{Adds, Halts};
-ghost use Rattle.row_adding.specs.Parts.{chosen_row, moved, computes_none};
+ghost use Rattle.row_adding.specs.Parts.{chosen_row, moved, computes_none, pointed};
 
 use crate::bounds::{dereferenced, written};
-use crate::flows::{flowing_in_all, smash_in_all};
+use crate::flows::{add, flowing_in_all, smash_in_all};
 use crate::forming::form;
 use c_words::Punct;
-use flow_graph::{FlowGraph, GraphFault};
+use flow_graph::{FlowGraph, GraphFault, Link};
 use qual_base::{SkelId, Span, VarId};
-use row_world::{Known, Operand, contents, is_additive, is_empty, is_ref, value};
+use row_world::{Known, Operand, contents, is_additive, is_empty, is_nothing, is_ref, value};
 
 /// Whether a sign is `+=` or `-=`.
 fn is_plus_or_minus(sign: Punct) -> bool
@@ -181,6 +181,66 @@ pub fn chosen(
     chosen_fresh(known, graph, first, last, own, span)
 }
 
+/// A pointer that carries another one is at least that, in the lattices with an element that bounds accesses, where both are there.
+fn carrying(
+    known: &Known,
+    graph: &mut FlowGraph,
+    pointer: SkelId,
+    own: SkelId,
+    span: &Span,
+) -> Result<(), GraphFault>
+    ensures ok { OnOk result (Adds known.now graph.old graph.new (λ w.
+        rows.carrying w (skel known.now pointer) (skel known.now own) span.now)) }
+    ensures err { IfErr result (λ fault. Halts known.now graph.old graph.new fault (λ w.
+        rows.carrying w (skel known.now pointer) (skel known.now own) span.now)) }
+{
+    if is_nothing(known.vars, pointer) || is_nothing(known.vars, own) {
+        return Ok(());
+    }
+    let below = known.vars.var(pointer);
+    let above = known.vars.var(own);
+    add(graph, known.access_lattices(), span, Link::Le(below, above))
+}
+
+/// A pointer that carries another one points at its place, and is at least that one.
+fn pointed(
+    known: &Known,
+    graph: &mut FlowGraph,
+    place: SkelId,
+    pointer: SkelId,
+    own: SkelId,
+    span: &Span,
+) -> Result<(), GraphFault>
+    ensures ok { OnOk result (Adds known.now graph.old graph.new (λ w. pointed w
+        (skel known.now place) (skel known.now pointer) (skel known.now own) span.now)) }
+    ensures err { IfErr result (λ fault. Halts known.now graph.old graph.new fault (λ w.
+        pointed w (skel known.now place) (skel known.now pointer) (skel known.now own)
+        span.now)) }
+{
+    flowing_in_all(known, graph, false, place, own, span)?;
+    carrying(known, graph, pointer, own, span)
+}
+
+/// A pointer that `&` makes to a place that was come to by a pointer: what passes inside its fresh value, that it points at the place, and
+/// that it is at least that pointer, in the lattices with an element that bounds accesses.
+pub fn carried(
+    known: &Known,
+    graph: &mut FlowGraph,
+    place: SkelId,
+    pointer: SkelId,
+    own: SkelId,
+    span: &Span,
+) -> Result<(), GraphFault>
+    ensures ok { OnOk result (Adds known.now graph.old graph.new (λ w. rows.carried w
+        (skel known.now place) (skel known.now pointer) (skel known.now own) span.now)) }
+    ensures err { IfErr result (λ fault. Halts known.now graph.old graph.new fault (λ w.
+        rows.carried w (skel known.now place) (skel known.now pointer) (skel known.now own)
+        span.now)) }
+{
+    form(known, graph, own, span)?;
+    pointed(known, graph, place, pointer, own, span)
+}
+
 /// An operator before an operand: what `++` and `--` write to and what `*` dereferences is bounded, and the operand of `+`, `-`
 /// and `~` flows into its fresh value.
 pub fn prefixed(
@@ -190,17 +250,19 @@ pub fn prefixed(
     is_zero: bool,
     operand: &Operand,
     own: SkelId,
+    aims: bool,
     span: &Span,
 ) -> Result<(), GraphFault>
-    ensures ok { OnOk result (Adds known.now graph.old graph.new (λ w.
-        rows.prefixed w sign is_zero (val known.now operand.now) (skel known.now own) span.now)) }
+    ensures ok { OnOk result (Adds known.now graph.old graph.new (λ w. rows.prefixed w sign is_zero
+        (val known.now operand.now) (skel known.now own) aims span.now)) }
     ensures err { IfErr result (λ fault. Halts known.now graph.old graph.new fault (λ w.
-        rows.prefixed w sign is_zero (val known.now operand.now) (skel known.now own) span.now)) }
+        rows.prefixed w sign is_zero (val known.now operand.now) (skel known.now own) aims
+        span.now)) }
 {
     match sign {
         Punct::PlusPlus => written(known, graph, operand.skel, span),
         Punct::MinusMinus => written(known, graph, operand.skel, span),
-        Punct::Star => dereferenced(known, graph, value(known.vars, operand), span),
+        Punct::Star => dereferenced(known, graph, value(known.vars, operand), aims, span),
         Punct::Plus => {
             flowing_in_all(known, graph, is_zero, value(known.vars, operand), own, span)
         }

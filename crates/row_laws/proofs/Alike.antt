@@ -1,9 +1,8 @@
 -- The function that a world says is around is of no use to the steps along a tape.
-use Rattle.std.proofs.Common.{◌≡◌, ℕ, ◌+◌, ◌^◌, suc, Bool, true, false, List, [], ◌∷◌, ◌++◌, Option, None, Some, refl, ◌∙◌, ap}
-use Rattle.std.specs.Prelude.{◌||◌, if◌then◌else◌, nat_eq}
+use Rattle.std.proofs.Common.{◌≡◌, ℕ, ◌+◌, ◌^◌, zero, suc, Bool, true, false, List, [], ◌∷◌, ◌++◌, Option, None, Some, refl, ◌∙◌, ap}
+use Rattle.std.specs.Prelude.{◌&&◌, ◌||◌, if◌then◌else◌, nat_eq}
 use Rattle.lattice_core.specs.View.{LatticeView}
 use Rattle.c_words.specs.declared.kinds.Punct.{Punct}
-use Rattle.c_words.specs.declared.kinds.Punct.TheVariants as signs
 use Rattle.qual_base.specs.declared.places.Span.{Span}
 use Rattle.flow_graph.specs.declared.constraint.Constraint.{Constraint}
 use Rattle.tape_ops.specs.declared.op.Op.{Op}
@@ -27,15 +26,18 @@ use Rattle.name_rules.specs.Spellings.{Place}
 use Rattle.name_rules.specs.Scopes.{Role, typedef_role, object_role, function_role, parameter_role, field_role, enumerator_role, Declared, declared_at, Use, means, called, missing, Known, Own}
 use Rattle.name_rules.specs.Uses.{use_at}
 use Rattle.shape_steps.specs.State.{declared_last, changed}
-use Rattle.row_rules.specs.Worlds.{World, at, span, skeleton}
+use Rattle.row_rules.specs.Worlds.{World, all_lattices, at, span, skeleton}
 use Rattle.row_rules.specs.Annotations.{Annotation, is_reference_mark, is_reference_word, words_of_level, sorted, annotations_at, some_annotations_at, inner, parameters, outcome, further, annotated, annotated_params, marked, annotation_constraints, annotating, names_lattice, all_words, uncut_from, uncut}
-use Rattle.row_rules.specs.Vals.{Val, a_place, contents, member_of, known_skeleton, member_skel, prefix_of, used_by_role, used_some, used, own}
+use Rattle.row_rules.specs.Vals.{Val, Candidate, is_carrying, left_of, pick_of, value, a_place, contents, member_of, known_skeleton, member_skel, prefix_of, used_by_role, used_some, used, own}
 use Rattle.row_rules.specs.Forming.{formed}
-use Rattle.row_rules.specs.Rows.{flowing, formed_here, formed_name, prefixed, passed, instance, some_instance, use_demand, annotating_some, cast_demand, annotating_name, name_row, declared_row, some_declared_row, into_param, param_row, RowKind, no_row, row_of_name, row_of_param, row_at, returned, started, own_skel, behind_known, annotating_place, by_role, by_first, initialised_at, taken, tied_to_first}
+use Rattle.row_rules.specs.Rows.{picking, picked, carried, identified_by, flowing, formed_here, formed_name, prefixed, passed, instance, some_instance, use_demand, annotating_some, cast_demand, annotating_name, name_row, declared_row, some_declared_row, into_param, param_row, RowKind, no_row, row_of_name, row_of_param, row_at, returned, started, own_skel, behind_known, annotating_place, by_role, by_first, initialised_at, taken, tied_to_first}
 use Rattle.row_rules.specs.Indexing.{indexing}
-use Rattle.row_steps.specs.Rounds.{Naming, a_name, own_param, other_param, naming, is_quiet}
+use Rattle.row_steps.specs.Rounds.{Naming, a_name, own_param, other_param, identified_param, naming, is_quiet}
 use Rattle.row_steps.specs.State.{Operand, Braces, whole, untargeted, listed, State, put, val_at, value_at, is_zero_at, type_at, first_operand, type_of_operand, operands_below, first_braces}
-use Rattle.row_steps.specs.Steps.{item_target, target_in, list_of, with_member, initialised_by, gone_through, expr_step, form_step, init_step, declr_step, stack_step, with_round_step, step, run}
+use Rattle.name_rules.specs.Checks.{is_star}
+use Rattle.shape_steps.specs.Steps.{twice}
+use Rattle.row_steps.specs.Steps as steps
+use Rattle.row_steps.specs.Steps.{carrying, selected, candidate_at, item_target, target_in, list_of, with_member, initialised_by, gone_through, expr_step, form_step, init_step, declr_step, stack_step, with_round_step, step, run}
 use Rattle.row_steps.specs.OpRows.{function_skeleton, some_param_row, naming_row, into_target, expr_row, form_row, init_row, spec_row, declr_row, stmt_row, loud_row, op_row}
 use Rattle.row_steps.specs.Found.{rows_found}
 use Rattle.row_laws.proofs.Indexing.{indexing_alike}
@@ -64,53 +66,11 @@ module _ (w : World) (o : Option Skel) where
       known_alike (member_of (inside o w) (struct_of s) name)
       ∙ ap (known_skeleton w) (member_of_alike (struct_of s) name)
 
-  prefix_alike : (p : Punct) (token : ℕ) (e : Val) → prefix_of (inside o w) token p e ≡ prefix_of w token p e
-  prefix_alike signs.OpenBracket token e = refl
-  prefix_alike signs.CloseBracket token e = refl
-  prefix_alike signs.OpenParen token e = refl
-  prefix_alike signs.CloseParen token e = refl
-  prefix_alike signs.OpenBrace token e = refl
-  prefix_alike signs.CloseBrace token e = refl
-  prefix_alike signs.Dot token e = refl
-  prefix_alike signs.Arrow token e = refl
-  prefix_alike signs.PlusPlus token e = refl
-  prefix_alike signs.MinusMinus token e = refl
-  prefix_alike signs.Ampersand token e = refl
-  prefix_alike signs.Star token e = refl
-  prefix_alike signs.Plus token e = refl
-  prefix_alike signs.Minus token e = refl
-  prefix_alike signs.Tilde token e = refl
-  prefix_alike signs.Bang token e = refl
-  prefix_alike signs.Slash token e = refl
-  prefix_alike signs.Percent token e = refl
-  prefix_alike signs.ShiftLeft token e = refl
-  prefix_alike signs.ShiftRight token e = refl
-  prefix_alike signs.Less token e = refl
-  prefix_alike signs.Greater token e = refl
-  prefix_alike signs.LessEqual token e = refl
-  prefix_alike signs.GreaterEqual token e = refl
-  prefix_alike signs.EqualEqual token e = refl
-  prefix_alike signs.BangEqual token e = refl
-  prefix_alike signs.Caret token e = refl
-  prefix_alike signs.Bar token e = refl
-  prefix_alike signs.AmpersandAmpersand token e = refl
-  prefix_alike signs.BarBar token e = refl
-  prefix_alike signs.Question token e = refl
-  prefix_alike signs.Colon token e = refl
-  prefix_alike signs.Semicolon token e = refl
-  prefix_alike signs.Ellipsis token e = refl
-  prefix_alike signs.Equal token e = refl
-  prefix_alike signs.StarEqual token e = refl
-  prefix_alike signs.SlashEqual token e = refl
-  prefix_alike signs.PercentEqual token e = refl
-  prefix_alike signs.PlusEqual token e = refl
-  prefix_alike signs.MinusEqual token e = refl
-  prefix_alike signs.ShiftLeftEqual token e = refl
-  prefix_alike signs.ShiftRightEqual token e = refl
-  prefix_alike signs.AmpersandEqual token e = refl
-  prefix_alike signs.CaretEqual token e = refl
-  prefix_alike signs.BarEqual token e = refl
-  prefix_alike signs.Comma token e = refl
+  prefix_alike : (p : Punct) (token : ℕ) (e : Val) (aims : Bool) → prefix_of (inside o w) token p e aims ≡ prefix_of w token p e aims
+  prefix_alike p token e aims = refl
+
+  carrying_alike : (p : Punct) (aims : Bool) → is_carrying (inside o w) p aims ≡ is_carrying w p aims
+  carrying_alike p aims = refl
 
   role_alike : (token : ℕ) (p : Place) (role : Role) →
       used_by_role (inside o w) token p role ≡ used_by_role w token p role
@@ -213,54 +173,20 @@ module _ (w : World) (o : Option Skel) where
 
   -- rows
 
-  prefixed_alike : (p : Punct) (is_zero : Bool) (e : Val) (t : Skel) (where_ : Span) →
-      prefixed (inside o w) p is_zero e t where_ ≡ prefixed w p is_zero e t where_
-  prefixed_alike signs.OpenBracket is_zero e t where_ = refl
-  prefixed_alike signs.CloseBracket is_zero e t where_ = refl
-  prefixed_alike signs.OpenParen is_zero e t where_ = refl
-  prefixed_alike signs.CloseParen is_zero e t where_ = refl
-  prefixed_alike signs.OpenBrace is_zero e t where_ = refl
-  prefixed_alike signs.CloseBrace is_zero e t where_ = refl
-  prefixed_alike signs.Dot is_zero e t where_ = refl
-  prefixed_alike signs.Arrow is_zero e t where_ = refl
-  prefixed_alike signs.PlusPlus is_zero e t where_ = refl
-  prefixed_alike signs.MinusMinus is_zero e t where_ = refl
-  prefixed_alike signs.Ampersand is_zero e t where_ = refl
-  prefixed_alike signs.Star is_zero e t where_ = refl
-  prefixed_alike signs.Plus is_zero e t where_ = refl
-  prefixed_alike signs.Minus is_zero e t where_ = refl
-  prefixed_alike signs.Tilde is_zero e t where_ = refl
-  prefixed_alike signs.Bang is_zero e t where_ = refl
-  prefixed_alike signs.Slash is_zero e t where_ = refl
-  prefixed_alike signs.Percent is_zero e t where_ = refl
-  prefixed_alike signs.ShiftLeft is_zero e t where_ = refl
-  prefixed_alike signs.ShiftRight is_zero e t where_ = refl
-  prefixed_alike signs.Less is_zero e t where_ = refl
-  prefixed_alike signs.Greater is_zero e t where_ = refl
-  prefixed_alike signs.LessEqual is_zero e t where_ = refl
-  prefixed_alike signs.GreaterEqual is_zero e t where_ = refl
-  prefixed_alike signs.EqualEqual is_zero e t where_ = refl
-  prefixed_alike signs.BangEqual is_zero e t where_ = refl
-  prefixed_alike signs.Caret is_zero e t where_ = refl
-  prefixed_alike signs.Bar is_zero e t where_ = refl
-  prefixed_alike signs.AmpersandAmpersand is_zero e t where_ = refl
-  prefixed_alike signs.BarBar is_zero e t where_ = refl
-  prefixed_alike signs.Question is_zero e t where_ = refl
-  prefixed_alike signs.Colon is_zero e t where_ = refl
-  prefixed_alike signs.Semicolon is_zero e t where_ = refl
-  prefixed_alike signs.Ellipsis is_zero e t where_ = refl
-  prefixed_alike signs.Equal is_zero e t where_ = refl
-  prefixed_alike signs.StarEqual is_zero e t where_ = refl
-  prefixed_alike signs.SlashEqual is_zero e t where_ = refl
-  prefixed_alike signs.PercentEqual is_zero e t where_ = refl
-  prefixed_alike signs.PlusEqual is_zero e t where_ = refl
-  prefixed_alike signs.MinusEqual is_zero e t where_ = refl
-  prefixed_alike signs.ShiftLeftEqual is_zero e t where_ = refl
-  prefixed_alike signs.ShiftRightEqual is_zero e t where_ = refl
-  prefixed_alike signs.AmpersandEqual is_zero e t where_ = refl
-  prefixed_alike signs.CaretEqual is_zero e t where_ = refl
-  prefixed_alike signs.BarEqual is_zero e t where_ = refl
-  prefixed_alike signs.Comma is_zero e t where_ = refl
+  prefixed_alike : (p : Punct) (is_zero : Bool) (e : Val) (t : Skel) (aims : Bool) (where_ : Span) →
+      prefixed (inside o w) p is_zero e t aims where_ ≡ prefixed w p is_zero e t aims where_
+  prefixed_alike p is_zero e t aims where_ = refl
+
+  picking_alike : (all : List Candidate) (t : Skel) (where_ : Span) → picking (inside o w) all t where_ ≡ picking w all t where_
+  picking_alike [] t where_ = refl
+  picking_alike (it ∷ others) t where_ =
+      ap (λ (rows : List Constraint). flowing it.is_zero (value it.val) t (all_lattices w) where_ ++ rows) (picking_alike others t where_)
+
+  picked_alike : (all : List Candidate) (t : Skel) (where_ : Span) → picked (inside o w) all t where_ ≡ picked w all t where_
+  picked_alike [] t where_ = refl
+  picked_alike (it ∷ []) t where_ = refl
+  picked_alike (it ∷ other ∷ others) t where_ =
+      ap (λ (rows : List Constraint). formed w where_ t ++ rows) (picking_alike (it ∷ other ∷ others) t where_)
 
   passed_alike : (is_zero : Bool) (a : Skel) (t : Option Skel) (e : Option ℕ) (where_ : Span) →
       passed (inside o w) is_zero a t e where_ ≡ passed w is_zero a t e where_
@@ -346,10 +272,12 @@ module _ (w : World) (o : Option Skel) where
   function_alike None = refl
   function_alike (Some token) = refl
 
-  naming_alike : (it : Naming) → naming_row (inside o w) it ≡ naming_row w it
-  naming_alike a_name = refl
-  naming_alike (own_param f n) = ap (λ (s : Option Skel). some_param_row s n) (function_alike f)
-  naming_alike other_param = refl
+  naming_alike : (it : Naming) (token : ℕ) → naming_row (inside o w) it token ≡ naming_row w it token
+  naming_alike a_name token = refl
+  naming_alike (own_param f n) token = ap (λ (s : Option Skel). some_param_row s n) (function_alike f)
+  naming_alike other_param token = refl
+  naming_alike (identified_param f) token =
+      ap (λ (s : Option Skel). identified_by s (declared_at w.names.declared (at w token))) (function_alike f)
 
   returned_alike : (s : Option Skel) (is_zero : Bool) (a : Skel) (where_ : Span) →
       returned (inside o w) s is_zero a where_ ≡ returned w s is_zero a where_
@@ -440,15 +368,22 @@ module _ (w : World) (o : Option Skel) where
   expr_step_alike st (exprs.Assign sign token first last) = refl
   expr_step_alike st (exprs.Cond has_middle token first last) = refl
   expr_step_alike st (exprs.Binary sign token first last) = refl
-  expr_step_alike st (exprs.Prefix sign token last) =
-      ap (λ (it : Val). put 1 it st) (prefix_alike sign token (val_at 0 st))
+  expr_step_alike st (exprs.Prefix sign token last aims) =
+      ap (λ (it : Val). put 1 it (carrying (aims && is_star sign) (value_at 0 st) st)) (prefix_alike sign token (val_at 0 st) aims)
   expr_step_alike st (exprs.Post sign token first) = refl
-  expr_step_alike st (exprs.Index token first last) = refl
+  expr_step_alike st (exprs.Index token first last aims) = refl
   expr_step_alike st (exprs.Arg behind first last) = refl
   expr_step_alike st (exprs.Call token count) = refl
-  expr_step_alike st (exprs.Arrow token first last) = refl
+  expr_step_alike st (exprs.Arrow token first last aims) = refl
   expr_step_alike st (exprs.Dot token member name) =
       ap (λ (it : Skel). put 1 (a_place it) st) (member_alike (value_at 0 st) name)
+  expr_step_alike st (exprs.Label token) = refl
+
+  selected_alike : (token i n : ℕ) (st : State) → selected (inside o w) token i n st ≡ selected w token i n st
+  selected_alike token i zero st = refl
+  selected_alike token i (suc n) st =
+      ap (λ (all : List Candidate). (if w.candidate (at w token) i then candidate_at (twice n) st ∷ [] else []) ++ all)
+      (selected_alike token (suc i) n st)
 
   form_step_alike : (st : State) (op : FormOp) → form_step (inside o w) st op ≡ form_step w st op
   form_step_alike st (forms.Cast token last) = refl
@@ -460,6 +395,12 @@ module _ (w : World) (o : Option Skel) where
   form_step_alike st (forms.OffsetMember token name) = refl
   form_step_alike st (forms.OffsetIndex token) = refl
   form_step_alike st (forms.Offset token) = refl
+  form_step_alike st (forms.Compat token) = refl
+  form_step_alike st forms.Control = refl
+  form_step_alike st forms.NoType = refl
+  form_step_alike st (forms.Choose token) = refl
+  form_step_alike st (forms.Generic token count) =
+      ap (λ (all : List Candidate). put (suc (twice count)) (pick_of (own w token) all) st) (selected_alike token 0 count st)
 
   init_step_alike : (st : State) (op : InitOp) → init_step (inside o w) st op ≡ init_step w st op
   init_step_alike st (inits.Value first last) = refl
@@ -486,6 +427,10 @@ module _ (w : World) (o : Option Skel) where
   declr_step_alike st declrs.Array = refl
   declr_step_alike st (declrs.Function has_ellipsis) = refl
   declr_step_alike st declrs.Declare = refl
+  declr_step_alike st declrs.AutoBegin = refl
+  declr_step_alike st (declrs.AutoEnd token) = refl
+  declr_step_alike st (declrs.Identifier token name) = refl
+  declr_step_alike st declrs.OldParam = refl
   declr_step_alike st declrs.Member = refl
   declr_step_alike st (declrs.TypeName first) = refl
   declr_step_alike st declrs.DeclarationEnd = refl
@@ -514,14 +459,19 @@ module _ (w : World) (o : Option Skel) where
   expr_row_alike st (exprs.Assign sign token first last) = refl
   expr_row_alike st (exprs.Cond has_middle token first last) = refl
   expr_row_alike st (exprs.Binary sign token first last) = refl
-  expr_row_alike st (exprs.Prefix sign token last) =
-      prefixed_alike sign (is_zero_at 0 st) (val_at 0 st) (own w token) (span w token last)
+  expr_row_alike st (exprs.Prefix sign token last aims) =
+      ap (λ (is : Bool). if is then carried w (val_at 0 st).skel st.carried (own w token) (span w token token)
+      else prefixed (inside o w) sign (is_zero_at 0 st) (val_at 0 st) (own w token) aims (span w token last)) (carrying_alike sign aims)
+      ∙ ap (λ (rows : List Constraint). if is_carrying w sign aims
+      then carried w (val_at 0 st).skel st.carried (own w token) (span w token token) else rows)
+      (prefixed_alike sign (is_zero_at 0 st) (val_at 0 st) (own w token) aims (span w token last))
   expr_row_alike st (exprs.Post sign token first) = refl
-  expr_row_alike st (exprs.Index token first last) = refl
+  expr_row_alike st (exprs.Index token first last aims) = refl
   expr_row_alike st (exprs.Arg behind first last) = passed_alike _ _ _ _ _
   expr_row_alike st (exprs.Call token count) = refl
-  expr_row_alike st (exprs.Arrow token first last) = refl
+  expr_row_alike st (exprs.Arrow token first last aims) = refl
   expr_row_alike st (exprs.Dot token member name) = refl
+  expr_row_alike st (exprs.Label token) = refl
 
   form_row_alike : (st : State) (op : FormOp) → form_row (inside o w) st op ≡ form_row w st op
   form_row_alike st (forms.Cast token last) =
@@ -539,6 +489,13 @@ module _ (w : World) (o : Option Skel) where
   form_row_alike st (forms.OffsetMember token name) = refl
   form_row_alike st (forms.OffsetIndex token) = refl
   form_row_alike st (forms.Offset token) = refl
+  form_row_alike st (forms.Compat token) = refl
+  form_row_alike st forms.Control = refl
+  form_row_alike st forms.NoType = refl
+  form_row_alike st (forms.Choose token) = picked_alike (left_of (steps.chosen st)) (own w token) (span w token token)
+  form_row_alike st (forms.Generic token count) =
+      ap (λ (all : List Candidate). picked (inside o w) (left_of all) (own w token) (span w token token)) (selected_alike token 0 count st)
+      ∙ picked_alike (left_of (selected w token 0 count st)) (own w token) (span w token token)
 
   init_row_alike : (st : State) (op : InitOp) → init_row (inside o w) st op ≡ init_row w st op
   init_row_alike st (inits.Value first last) =
@@ -565,8 +522,8 @@ module _ (w : World) (o : Option Skel) where
 
   declr_row_alike : (st : State) (op : DeclrOp) → declr_row (inside o w) st op ≡ declr_row w st op
   declr_row_alike st (declrs.DeclName token name) =
-      row_alike (naming_row (inside o w) (naming st.rounds)) token
-      ∙ ap (λ (row : RowKind). row_at w row token) (naming_alike (naming st.rounds))
+      row_alike (naming_row (inside o w) (naming st.rounds) token) token
+      ∙ ap (λ (row : RowKind). row_at w row token) (naming_alike (naming st.rounds) token)
   declr_row_alike st (declrs.ParamsBegin is_own) = refl
   declr_row_alike st declrs.Param = refl
   declr_row_alike st declrs.ParamsEnd = refl
@@ -574,6 +531,10 @@ module _ (w : World) (o : Option Skel) where
   declr_row_alike st declrs.Array = refl
   declr_row_alike st (declrs.Function has_ellipsis) = refl
   declr_row_alike st declrs.Declare = refl
+  declr_row_alike st declrs.AutoBegin = refl
+  declr_row_alike st (declrs.AutoEnd token) = refl
+  declr_row_alike st (declrs.Identifier token name) = refl
+  declr_row_alike st declrs.OldParam = refl
   declr_row_alike st declrs.Member = refl
   declr_row_alike st (declrs.TypeName first) = refl
   declr_row_alike st declrs.DeclarationEnd = refl
@@ -604,6 +565,9 @@ module _ (w : World) (o : Option Skel) where
   spec_row_alike specs.BodyEnd = refl
   spec_row_alike (specs.Enumerator token name) = refl
   spec_row_alike (specs.UnnamedMember token) = refl
+  spec_row_alike specs.PartBegin = refl
+  spec_row_alike (specs.TypeofEnd token) = refl
+  spec_row_alike specs.TypeEnd = refl
   spec_row_alike specs.SpecsEnd = refl
 
   loud_alike : (st : State) (op : Op) → loud_row (inside o w) st op ≡ loud_row w st op

@@ -58,15 +58,28 @@ stacks_of st =
       declarations = st.declarations;
     }
 
+-- what is of no use behind what it is for: the skeleton of the compound literal that was gone through last, and the pointer by which the
+-- last place was come to that is only addressed
+pub record Registers : Type 0 where
+  pub literal : Skel
+  pub carried : Skel
+
+abbrev pub no_registers : Registers
+no_registers = record { literal = no_skeleton; carried = no_skeleton }
+
+abbrev pub registers_of : State → Registers
+registers_of st = record { literal = st.literal; carried = st.carried }
+
 -- a state in which neither an argument nor an item is being taken
-abbrev pub state : Rounds → Stacks → Skel → State
+abbrev pub state : Rounds → Stacks → Registers → State
 state r c s =
     record {
       operands = c.operands;
       bases = c.bases;
       braces = c.braces;
       leaves = [];
-      literal = s;
+      literal = s.literal;
+      carried = s.carried;
       declarations = c.declarations;
       rounds = r;
       passed = 0;
@@ -75,21 +88,20 @@ state r c s =
 abbrev pub as_is : Stacks → Stacks
 as_is c = c
 
--- From each state of a family to one of another, giving these constraints where it is not quiet. The skeleton of the compound
--- literal that was gone through last may change.
-pub record Runs (k : Over) (quiet : Bool) (A : Type 0) (tape : List Op) (f g : A → Skel → State)
+-- From each state of a family to one of another, giving these constraints where it is not quiet. The registers may change.
+pub record Runs (k : Over) (quiet : Bool) (A : Type 0) (tape : List Op) (f g : A → Registers → State)
     (rows : List Constraint) : Type 0 where
-  pub behind : A → Skel → Skel
-  pub goes : (a : A) (s : Skel) → run k.world (f a s) tape ≡ g a (behind a s)
-  pub found : k.asked ≡ true → (a : A) (s : Skel) → rows_found k.world (f a s) tape ≡ unless quiet rows
+  pub behind : A → Registers → Registers
+  pub goes : (a : A) (s : Registers) → run k.world (f a s) tape ≡ g a (behind a s)
+  pub found : k.asked ≡ true → (a : A) (s : Registers) → rows_found k.world (f a s) tape ≡ unless quiet rows
 
-pub stay : {k : Over} {quiet : Bool} {A : Type 0} {f : A → Skel → State} → Runs k quiet A [] f f []
+pub stay : {k : Over} {quiet : Bool} {A : Type 0} {f : A → Registers → State} → Runs k quiet A [] f f []
 stay {quiet = quiet} =
     record { behind = λ a s. s; goes = λ a s. refl; found = λ y a s. sym (unless_none quiet) }
 
 -- one op
-pub op_runs : {k : Over} {quiet : Bool} {A : Type 0} {op : Op} {f : A → Skel → State} (rows : List Constraint) →
-    (k.asked ≡ true → (a : A) (s : Skel) → op_row k.world (f a s) op ≡ unless quiet rows)
+pub op_runs : {k : Over} {quiet : Bool} {A : Type 0} {op : Op} {f : A → Registers → State} (rows : List Constraint) →
+    (k.asked ≡ true → (a : A) (s : Registers) → op_row k.world (f a s) op ≡ unless quiet rows)
     → Runs k quiet A (op ∷ []) f (λ a s. step k.world (f a s) op) rows
 op_runs {k} {op = op} {f} rows e =
     record {
@@ -99,7 +111,7 @@ op_runs {k} {op = op} {f} rows e =
     }
 
 -- one tape behind another
-pub chain : {k : Over} {quiet : Bool} {A : Type 0} {xs ys : List Op} {f g h : A → Skel → State}
+pub chain : {k : Over} {quiet : Bool} {A : Type 0} {xs ys : List Op} {f g h : A → Registers → State}
     {fs gs : List Constraint} → Runs k quiet A xs f g fs → Runs k quiet A ys g h gs →
     Runs k quiet A (xs ++ ys) f h (fs ++ gs)
 chain {k} {quiet} {A} {xs} {ys} {f} {g} {h} {fs} {gs} p q = record {
@@ -114,8 +126,8 @@ chain {k} {quiet} {A} {xs} {ys} {f} {g} {h} {fs} {gs} p q = record {
 }
 
 -- what a tape does from some states, it does from those of them that are reached by these changes
-pub started_from : {k : Over} {quiet : Bool} {A B : Type 0} {tape : List Op} {g h : A → Skel → State}
-    {rows : List Constraint} (m : B → A) (n : B → Skel → Skel) → Runs k quiet A tape g h rows
+pub started_from : {k : Over} {quiet : Bool} {A B : Type 0} {tape : List Op} {g h : A → Registers → State}
+    {rows : List Constraint} (m : B → A) (n : B → Registers → Registers) → Runs k quiet A tape g h rows
     → Runs k quiet B tape (λ b s. g (m b) (n b s)) (λ b s. h (m b) s) rows
 started_from m n p =
     record {
@@ -125,7 +137,7 @@ started_from m n p =
     }
 
 -- constraints said in another way
-pub giving : {k : Over} {quiet : Bool} {A : Type 0} {tape : List Op} {f g : A → Skel → State}
+pub giving : {k : Over} {quiet : Bool} {A : Type 0} {tape : List Op} {f g : A → Registers → State}
     {fs gs : List Constraint} → Runs k quiet A tape f g fs → (k.asked ≡ true → fs ≡ gs) → Runs k quiet A tape f g gs
 giving {quiet = quiet} p e =
     record {
@@ -135,16 +147,16 @@ giving {quiet = quiet} p e =
     }
 
 -- states said in another way
-pub ending : {k : Over} {quiet : Bool} {A : Type 0} {tape : List Op} {f g : A → Skel → State}
-    {rows : List Constraint} (h : A → Skel → State) → Runs k quiet A tape f g rows →
-    ((a : A) (s : Skel) → g a s ≡ h a s) → Runs k quiet A tape f h rows
+pub ending : {k : Over} {quiet : Bool} {A : Type 0} {tape : List Op} {f g : A → Registers → State}
+    {rows : List Constraint} (h : A → Registers → State) → Runs k quiet A tape f g rows →
+    ((a : A) (s : Registers) → g a s ≡ h a s) → Runs k quiet A tape f h rows
 ending h p e =
     record { behind = p.behind; goes = λ a s. p.goes a s ∙ e a (p.behind a s); found = p.found }
 
--- and with another skeleton of a literal
-pub ending_at : {k : Over} {quiet : Bool} {A : Type 0} {tape : List Op} {f g : A → Skel → State}
-    {rows : List Constraint} (h : A → Skel → State) (n : A → Skel → Skel) → Runs k quiet A tape f g rows →
-    ((a : A) (s : Skel) → g a s ≡ h a (n a s)) → Runs k quiet A tape f h rows
+-- and with other registers
+pub ending_at : {k : Over} {quiet : Bool} {A : Type 0} {tape : List Op} {f g : A → Registers → State}
+    {rows : List Constraint} (h : A → Registers → State) (n : A → Registers → Registers) → Runs k quiet A tape f g rows →
+    ((a : A) (s : Registers) → g a s ≡ h a (n a s)) → Runs k quiet A tape f h rows
 ending_at h n p e =
     record {
       behind = λ a s. n a (p.behind a s);
@@ -161,11 +173,40 @@ nowhere = record { runs = stay }
 
 -- one op
 pub one : {k : Over} {r : Rounds} {op : Op} {f : Stacks → Stacks} (rows : List Constraint) →
-    (k.asked ≡ true → (c : Stacks) (s : Skel) → op_row k.world (state r (f c) s) op ≡ unless (is_quiet r) rows)
-    → ((c : Stacks) (s : Skel) → step k.world (state r (f c) s) op ≡
-    state r (stacks_of (step k.world (state r (f c) no_skeleton) op)) s)
-    → Goes k r (op ∷ []) f (λ c. stacks_of (step k.world (state r (f c) no_skeleton) op)) rows
+    (k.asked ≡ true → (c : Stacks) (s : Registers) → op_row k.world (state r (f c) s) op ≡ unless (is_quiet r) rows)
+    → ((c : Stacks) (s : Registers) → step k.world (state r (f c) s) op ≡
+    state r (stacks_of (step k.world (state r (f c) no_registers) op)) s)
+    → Goes k r (op ∷ []) f (λ c. stacks_of (step k.world (state r (f c) no_registers) op)) rows
 one {k} {r} {op} {f} rows e d = record { runs = ending _ (op_runs rows e) d }
+
+-- one op that changes registers
+pub one_at : {k : Over} {r : Rounds} {op : Op} {f : Stacks → Stacks} (g : Stacks → Stacks) (n : Stacks → Registers → Registers)
+    (rows : List Constraint) →
+    (k.asked ≡ true → (c : Stacks) (s : Registers) → op_row k.world (state r (f c) s) op ≡ unless (is_quiet r) rows)
+    → ((c : Stacks) (s : Registers) → step k.world (state r (f c) s) op ≡ state r (g c) (n c s)) → Goes k r (op ∷ []) f g rows
+one_at {r = r} g n rows e d = record { runs = ending_at (λ c s. state r (g c) s) n (op_runs rows e) d }
+
+-- One op behind a tape that leaves this pointer as the one by which its place was come to: what the op gives may use it.
+pub carried_on : {k : Over} {r : Rounds} {xs : List Op} {f g h : Stacks → Stacks} {fs : List Constraint} (op : Op) (by : Skel) (rows : List Constraint) → Goes k r xs f g fs →
+    ((c : Stacks) (s : Registers) → (run k.world (state r (f c) s) xs).carried ≡ by) →
+    (k.asked ≡ true → (c : Stacks) (s : Registers) → s.carried ≡ by →
+    op_row k.world (state r (g c) s) op ≡ unless (is_quiet r) rows) →
+    ((c : Stacks) (s : Registers) → step k.world (state r (g c) s) op ≡ state r (h c) s) →
+    Goes k r (xs ++ op ∷ []) f h (fs ++ rows)
+carried_on {k} {r} {xs} {f} {g} {h} {fs} op by rows p left e d = record {
+  runs = record {
+    behind = p.runs.behind;
+    goes = λ c s. run_append k.world xs (op ∷ []) (state r (f c) s) ∙
+        (ap (λ (st : State). run k.world st (op ∷ [])) (p.runs.goes c s) ∙ d c (p.runs.behind c s));
+    found = λ y c s. rows_append k.world xs (op ∷ []) (state r (f c) s) ∙
+        (ap (λ (all : List Constraint). all ++ rows_found k.world (run k.world (state r (f c) s) xs) (op ∷ [])) (p.runs.found y c s)
+        ∙ (ap (λ (st : State). unless (is_quiet r) fs ++ rows_found k.world st (op ∷ [])) (p.runs.goes c s)
+        ∙ (ap (λ (all : List Constraint). unless (is_quiet r) fs ++ all)
+        (append-nil (op_row k.world (state r (g c) (p.runs.behind c s)) op)
+        ∙ e y c (p.runs.behind c s) (ap (λ (st : State). st.carried) (sym (p.runs.goes c s)) ∙ left c s))
+        ∙ unless_both (is_quiet r) fs rows)));
+  };
+}
 
 -- one tape behind another
 pub join : {k : Over} {r : Rounds} {xs ys : List Op} {f g h : Stacks → Stacks} {fs gs : List Constraint} →

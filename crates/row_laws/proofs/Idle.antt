@@ -10,7 +10,7 @@ use Rattle.c_syntax.specs.declared.parts.ArrayWord.{ArrayWord}
 use Rattle.c_syntax.specs.declared.parts.ArrayWord.TheVariants as array_words
 use Rattle.tape_ops.specs.declared.op.Op.{Op}
 use Rattle.tape_ops.specs.declared.specifier.TagKind.{TagKind}
-use Rattle.c_tree.specs.Tree.{SpecWords, no_words, more_words, SpecWord, storage, thread, inline_word, noreturn, qualifier, basic, struct_type, enum_type, typedef_name, attribute, EnumType, enum_of, Declr, pointer, declr_name, declr_paren, array, params, abs_pointer, abs_paren, abs_array, abs_params, SomeDeclr, no_declr, some_declr, Params, no_params, more_params, Dots}
+use Rattle.c_tree.specs.Tree.{SpecWords, no_words, more_words, SpecWord, storage, thread, inline_word, noreturn, qualifier, basic, struct_type, enum_type, typedef_name, attribute, EnumType, enum_of, Declr, pointer, declr_name, declr_paren, array, params, abs_pointer, abs_paren, abs_array, abs_params, SomeDeclr, no_declr, some_declr, Params, no_params, more_params, Dots, typeof_value, typeof_type, align, auto_word, identifiers, base_name}
 use Rattle.c_tree.specs.Firsts as tape_tokens
 use Rattle.c_tape.specs.Tests.{is_bare_word, is_bare, is_name, says_none}
 use Rattle.c_tape.specs.Tape.{pointer_words_tape, array_words_tape, quals_tape, dots_tape, pieces, some_pieces, tag_tape}
@@ -72,6 +72,8 @@ module _ (k : Over) (r : Rounds) where
         both (both (array_words_idle words) (one [] (λ y c s. refl) (λ c s. refl))) (some_pieces_idle d)
     pieces_idle (abs_params d opening ps dots closing) =
         both (both (dots_idle dots) (one [] (λ y c s. refl) (λ c s. refl))) (some_pieces_idle d)
+    pieces_idle (identifiers d opening names closing) = both (one [] (λ y c s. refl) (λ c s. refl)) (pieces_idle d)
+    pieces_idle (base_name token) = nowhere
 
     pub some_pieces_idle : (d : SomeDeclr) → Idle k r (some_pieces d)
     some_pieces_idle no_declr = nowhere
@@ -105,6 +107,10 @@ same_word (struct_type word attrs tag body) = refl
 same_word (enum_type e) = same_enum e
 same_word (typedef_name name) = refl
 same_word (attribute attr) = refl
+same_word (typeof_value keyword opening e closing) = refl
+same_word (typeof_type word opening ws d closing) = refl
+same_word (align attr) = refl
+same_word (auto_word token) = refl
 
 pub same_first : (ws : SpecWords) → tape_tokens.first_word ws ≡ rule_tokens.first_word ws
 same_first no_words = refl
@@ -132,6 +138,10 @@ module _ (w : World) where
   bare_word (enum_type it) e = refl
   bare_word (typedef_name name) e = refl
   bare_word (attribute attr) e = refl
+  bare_word (typeof_value keyword opening it closing) e = refl
+  bare_word (typeof_type word opening ws d closing) e = absurd cc
+  bare_word (align attr) e = refl
+  bare_word (auto_word token) e = refl
 
   bare_words : (ws : SpecWords) → is_bare ws ≡ true → words_demand w ws ≡ []
   bare_words no_words e = refl
@@ -159,3 +169,5 @@ same_name (abs_pointer star words d) = refl
 same_name (abs_paren opening attrs d closing) = refl
 same_name (abs_array d opening words size closing) = refl
 same_name (abs_params d opening ps dots closing) = refl
+same_name (identifiers d opening names closing) = refl
+same_name (base_name token) = refl

@@ -1,6 +1,9 @@
 -- What an op makes of the operands that the tapes of its parts have left, and tapes that are made of others.
 use Rattle.std.proofs.Common.{◌≡◌, ℕ, suc, ◌-◌, ◌+◌, Bool, true, false, List, [], ◌∷◌, ◌++◌, length, drop, Option, None, Some, refl, sym, ◌∙◌, ap, arith}
-use Rattle.std.specs.Prelude.{◌&&◌}
+use Rattle.std.specs.Prelude.{◌&&◌, if◌then◌else◌}
+use Rattle.c_words.specs.declared.kinds.Punct.{Punct}
+use Rattle.c_words.specs.declared.kinds.Punct.TheVariants as signs
+use Rattle.tape_ops.specs.declared.op.Op.TheVariants as ops
 use Rattle.std.proofs.lemmas.List.{append-nil}
 use Rattle.flow_graph.specs.declared.constraint.Constraint.{Constraint}
 use Rattle.tape_ops.specs.declared.op.Op.{Op}
@@ -11,31 +14,34 @@ use Rattle.tape_ops.specs.declared.statement.StmtOp.TheVariants as stmts
 use Rattle.tape_ops.specs.declared.specifier.SpecOp.TheVariants as specs
 use Rattle.tape_ops.specs.declared.initialiser.InitOp.TheVariants as inits
 use Rattle.tape_ops.specs.declared.declarator.DeclrOp.TheVariants as declrs
-use Rattle.c_tree.specs.Tree.{Expr, operation, call, Operator, comma, assign, cond, binary, no_expr, some_expr, Exprs, no_exprs, more_exprs, SpecWords, InitList, init_braced, Params, no_params, more_params}
+use Rattle.c_tree.specs.Tree.{Expr, prefix, index, arrow, generic, Assocs, operation, call, Operator, comma, assign, cond, binary, no_expr, some_expr, Exprs, no_exprs, more_exprs, SpecWords, InitList, init_braced, Params, no_params, more_params}
 use Rattle.c_tree.specs.Ends.{first_token, last_token}
+use Rattle.c_tree.specs.Addresses.{comes_by_pointer}
+use Rattle.name_rules.specs.Checks.{is_star}
 use Rattle.c_syntax.specs.declared.parts.Identifier.{Identifier}
 use Rattle.c_tree.specs.Firsts as tape_tokens
 use Rattle.c_tape.specs.Tests.{says_none}
-use Rattle.c_tape.specs.Tape.{expr, form, init, stmt, spec, declr, count, arguments, operator_tape, body_tape, type_name_with, params_with, params_tape, rule_of_list, quietly, in_scope}
+use Rattle.c_tape.specs.Tape.{prefix_tape, assoc_count, expr, form, init, stmt, spec, declr, count, arguments, operator_tape, body_tape, type_name_with, params_with, params_tape, rule_of_list, quietly, in_scope}
 use Rattle.type_table.specs.Types.{CType}
 use Rattle.name_rules.specs.Spellings.{Named}
 use Rattle.name_rules.specs.Uses.{type_named_at}
 use Rattle.qual_types.specs.Skel.{Skel, param_at}
 use Rattle.shape_steps.specs.State.{OpenDeclaration}
-use Rattle.row_rules.specs.Worlds.{World, at}
-use Rattle.row_rules.specs.Annotations.{parameters, further}
-use Rattle.row_rules.specs.Rows.{param_kind, literal_row, own_skeleton, assigned, chosen, computed}
+use Rattle.row_rules.specs.Worlds.{World, at, span}
+use Rattle.row_rules.specs.Annotations.{has_access, parameters, further}
+use Rattle.row_rules.specs.Rows.{carried, index_demand, dereferenced, picked, prefixed, param_kind, literal_row, own_skeleton, assigned, chosen, computed}
 use Rattle.row_rules.specs.Rows as rows_of
-use Rattle.row_rules.specs.Vals.{a_value, a_place, contents, value, result, own}
-use Rattle.constraint_rules.specs.Values.{val}
-use Rattle.constraint_rules.specs.Demands.{zero_at, where_is, list_rule, demand, some_expr_demand}
+use Rattle.row_rules.specs.Vals.{Candidate, prefix_of, is_ref, left_of, pick_of, a_value, a_place, contents, value, result, own}
+use Rattle.constraint_rules.specs.Values.{val, pointer_to, candidates_of}
+use Rattle.constraint_rules.specs.Demands.{demand_in, prefix_demand, zero_at, where_is, list_rule, demand, some_expr_demand}
 use Rattle.constraint_rules.specs.Demands as demands
 use Rattle.row_steps.specs.Rounds.{Naming, a_name, own_param, other_param, Rounds, is_quiet, naming, with_round, entered, silenced, next_naming, params_naming}
-use Rattle.row_steps.specs.State.{Operand, expression, State, first_operand, val_of_operand, is_zero_operand, type_of_operand, whole}
-use Rattle.row_steps.specs.Steps.{initialised_by}
-use Rattle.row_steps.specs.OpRows.{naming_row, function_skeleton}
-use Rattle.row_laws.proofs.Goes.{Over, unless, unless_none, Stacks, state, Runs, stay, op_runs, chain, started_from, giving, ending, ending_at, Goes, as_is, one, join, from, next, same, reaching, without, silent_runs, group_two, group_three}
-use Rattle.row_laws.proofs.Stacks.{drop_above, drop_one_more, with_operand, with_val, top_value, block_put, operand_of, with_expr, with_middle, arguments_on, with_arguments, under_more, under_arguments, with_value, type_at_words, leaves_in, taken_in, taken_above, with_leaves, declaring, token_of}
+use Rattle.row_steps.specs.State.{Operand, expression, put, State, first_operand, val_of_operand, is_zero_operand, type_of_operand, whole}
+use Rattle.shape_steps.specs.Steps.{twice}
+use Rattle.row_steps.specs.Steps.{run, initialised_by, selected, carrying, with_round_step}
+use Rattle.row_steps.specs.OpRows.{op_row, naming_row, function_skeleton}
+use Rattle.row_laws.proofs.Goes.{Registers, one_at, carried_on, Over, unless, unless_none, Stacks, state, Runs, stay, op_runs, chain, started_from, giving, ending, ending_at, Goes, as_is, one, join, from, next, same, reaching, without, silent_runs, group_two, group_three}
+use Rattle.row_laws.proofs.Stacks.{assocs_on, with_assocs, assocs_kept, under_assocs, drop_above, drop_one_more, with_operand, with_val, top_value, block_put, operand_of, with_expr, with_middle, arguments_on, with_arguments, under_more, under_arguments, with_value, type_at_words, leaves_in, taken_in, taken_above, with_leaves, declaring, token_of}
 use Rattle.row_laws.proofs.Idle.{same_first}
 use Rattle.row_laws.proofs.Rules.{Ruled, ruling, ruled_from, left, list_runs}
 
@@ -74,12 +80,12 @@ own_skel_of w true it = own_skeleton w it
 own_skel_of w false it = None
 
 pub param_rows : (w : World) (own bare : Bool) (it : Option Named) (i : ℕ) →
-    naming_row w (nth_naming (own && bare) (token_of it) i) ≡ param_kind (own_skel_of w own it) bare i
-param_rows w false bare it i = refl
-param_rows w true false None i = refl
-param_rows w true false (Some it) i = refl
-param_rows w true true None i = refl
-param_rows w true true (Some it) i = refl
+    (token : ℕ) → naming_row w (nth_naming (own && bare) (token_of it) i) token ≡ param_kind (own_skel_of w own it) bare i
+param_rows w false bare it i token = refl
+param_rows w true false None i token = refl
+param_rows w true false (Some it) i token = refl
+param_rows w true true None i token = refl
+param_rows w true true (Some it) i token = refl
 
 -- what an operator gives behind its operands
 abbrev pub operator_rows : World → Expr → Operator → ℕ → Expr → List Constraint
@@ -106,18 +112,18 @@ two_parts : (xs ys zs : List Constraint) → ((xs ++ []) ++ ys) ++ zs ≡ xs ++ 
 two_parts xs ys zs =
     ap (λ (rows : List Constraint). (rows ++ ys) ++ zs) (append-nil xs) ∙ group_two xs ys zs
 
-pub operation_rows : (w : World) (e : Expr) (op : Operator) (token : ℕ) (e2 : Expr) →
+pub operation_rows : (w : World) (aims : Bool) (e : Expr) (op : Operator) (token : ℕ) (e2 : Expr) →
     ((demand w e ++ middle_demand w op) ++ demand w e2) ++ operator_rows w e op token e2 ≡
-    demand w (operation e op token e2)
-operation_rows w e comma token e2 =
+    demand_in w aims (operation e op token e2)
+operation_rows w aims e comma token e2 =
     append-nil ((demand w e ++ []) ++ demand w e2)
     ∙ ap (λ (rows : List Constraint). rows ++ demand w e2) (append-nil (demand w e))
-operation_rows w e (assign p) token e2 = two_parts (demand w e) (demand w e2) (operator_rows w e (assign p) token e2)
-operation_rows w e (cond no_expr colon) token e2 =
+operation_rows w aims e (assign p) token e2 = two_parts (demand w e) (demand w e2) (operator_rows w e (assign p) token e2)
+operation_rows w aims e (cond no_expr colon) token e2 =
     two_parts (demand w e) (demand w e2) (operator_rows w e (cond no_expr colon) token e2)
-operation_rows w e (cond (some_expr m) colon) token e2 =
+operation_rows w aims e (cond (some_expr m) colon) token e2 =
     group_three (demand w e) (demand w m) (demand w e2) (operator_rows w e (cond (some_expr m) colon) token e2)
-operation_rows w e (binary p) token e2 = two_parts (demand w e) (demand w e2) (operator_rows w e (binary p) token e2)
+operation_rows w aims e (binary p) token e2 = two_parts (demand w e) (demand w e2) (operator_rows w e (binary p) token e2)
 
 module _ (k : Over) (r : Rounds) where
   -- operators
@@ -140,6 +146,120 @@ module _ (k : Over) (r : Rounds) where
       Goes k r (form (forms.StmtExpr kept token)) as_is (block_put k.world token kept) []
   stmt_expr_goes true token = one [] (λ y c s. refl) (λ c s. refl)
   stmt_expr_goes false token = one [] (λ y c s. refl) (λ c s. refl)
+
+  -- an op that comes to a place by a pointer, which is noted where that is only addressed
+
+  abbrev pub noting : Bool → Skel → Registers → Registers
+  noting aims pointer s = if aims then record s { carried = pointer } else s
+
+  noted : (aims : Bool) (pointer : Skel) (c : Stacks) (s : Registers) →
+      carrying aims pointer (state r c s) ≡ state r c (noting aims pointer s)
+  noted true pointer c s = refl
+  noted false pointer c s = refl
+
+  pub index_goes : (e : Expr) (opening : ℕ) (e2 : Expr) (closing : ℕ) (aims : Bool) →
+      Goes k r (expr (exprs.Index opening (first_token e) closing aims)) (λ c. with_expr k e2 (with_expr k e c))
+      (with_expr k (index e opening e2 closing))
+      (index_demand k.world (value (val k.world e)) (value (val k.world e2)) aims (where_is k.world (index e opening e2 closing)))
+  index_goes e opening e2 closing aims =
+      one_at (with_expr k (index e opening e2 closing)) (λ c s. noting aims by s)
+      (index_demand k.world (value (val k.world e)) (value (val k.world e2)) aims (where_is k.world (index e opening e2 closing)))
+      (λ y c s. refl)
+      (λ c s. ap (put_over (with_expr k e2 (with_expr k e c)) s) (noted aims by (with_expr k e2 (with_expr k e c)) s))
+    where
+      by : Skel
+      by = if is_ref (value (val k.world e)) then value (val k.world e) else value (val k.world e2)
+
+      put_over : Stacks → Registers → State → State
+      put_over c s st = with_round_step (state r c s) (ops.Expr (exprs.Index opening (first_token e) closing aims))
+          (put 2 (val k.world (index e opening e2 closing)) st)
+
+  pub arrow_goes : (e : Expr) (token : ℕ) (name : Identifier) (aims : Bool) →
+      Goes k r (expr (exprs.Arrow token (first_token e) name.token aims)) (with_expr k e)
+      (with_val 0 (a_value (contents (value (val k.world e)))))
+      (dereferenced k.world (value (val k.world e)) aims (where_is k.world (arrow e token name)))
+  arrow_goes e token name aims =
+      one_at (with_val 0 (a_value (contents (value (val k.world e))))) (λ c s. noting aims (value (val k.world e)) s)
+      (dereferenced k.world (value (val k.world e)) aims (where_is k.world (arrow e token name)))
+      (λ y c s. refl)
+      (λ c s. ap (put_over (with_expr k e c) s) (noted aims (value (val k.world e)) (with_expr k e c) s))
+    where
+      put_over : Stacks → Registers → State → State
+      put_over c s st = with_round_step (state r c s) (ops.Expr (exprs.Arrow token (first_token e) name.token aims))
+          (put 1 (a_value (contents (value (val k.world e)))) st)
+
+  -- `&`, whose operand came to its place by a pointer or did not
+  address_goes : (token : ℕ) (e : Expr) {addressed : List Op} {fs : List Constraint} →
+      Goes k r addressed as_is (with_expr k e) fs →
+      (comes_by_pointer false e ≡ true → (c : Stacks) (s : Registers) →
+      (run k.world (state r c s) addressed).carried ≡ pointer_to k.world e) →
+      (comes : Bool) → comes_by_pointer false e ≡ comes →
+      Goes k r (addressed ++ expr (exprs.Prefix signs.Ampersand token (last_token e) comes)) as_is
+      (with_val 0 (prefix_of k.world token signs.Ampersand (val k.world e) comes))
+      (fs ++ (if comes && has_access k.world.lattices
+      then carried k.world (val k.world e).skel (pointer_to k.world e) (own k.world token) (span k.world token token) else []))
+  address_goes token e p by true is =
+      carried_on (ops.Expr (exprs.Prefix signs.Ampersand token (last_token e) true)) (pointer_to k.world e)
+      (if has_access k.world.lattices
+      then carried k.world (val k.world e).skel (pointer_to k.world e) (own k.world token) (span k.world token token) else [])
+      p (by is)
+      (λ y c s same. ap (λ (pointer : Skel). unless (is_quiet r) (if has_access k.world.lattices
+      then carried k.world (val k.world e).skel pointer (own k.world token) (span k.world token token) else [])) same)
+      (λ c s. refl)
+  address_goes token e p by false is = join p (one [] (λ y c s. refl) (λ c s. refl))
+
+  -- an operator before its operand, by what the tape of that does where it is only addressed and where it is taken
+  pub prefix_goes : (token : ℕ) (p : Punct) (e : Expr) (aims : Bool) {addressed taken : List Op} {fs gs : List Constraint} →
+      Goes k r addressed as_is (with_expr k e) fs →
+      (comes_by_pointer false e ≡ true → (c : Stacks) (s : Registers) →
+      (run k.world (state r c s) addressed).carried ≡ pointer_to k.world e) →
+      Goes k r taken as_is (with_expr k e) gs →
+      Goes k r (prefix_tape token p e aims addressed taken) as_is (with_expr k (prefix token p e))
+      (prefix_demand k.world aims token p e fs gs)
+  prefix_goes token signs.Ampersand e aims p by q = address_goes token e p by (comes_by_pointer false e) refl
+  prefix_goes token sign e aims p by q =
+      join q (one_at (with_expr k (prefix token sign e)) (λ c s. noting (aims && is_star sign) (value (val k.world e)) s)
+      (prefixed k.world sign (zero_at k.world e) (val k.world e) (own k.world token) aims (where_is k.world (prefix token sign e)))
+      (λ y c s. refl)
+      (λ c s. ap (λ (st : State). with_round_step (state r (with_expr k e c) s) (ops.Expr (exprs.Prefix sign token (last_token e) aims))
+      (put 1 (prefix_of k.world token sign (val k.world e) aims) st))
+      (noted (aims && is_star sign) (value (val k.world e)) (with_expr k e c) s)))
+
+  -- selections
+
+  pub generic_goes : (keyword opening : ℕ) (e : Expr) (xs : Assocs) (closing : ℕ) →
+      Goes k r (form (forms.Generic keyword (assoc_count xs))) (λ c. with_assocs k xs (with_expr k e c))
+      (with_expr k (generic keyword opening e xs closing))
+      (picked k.world (left_of (candidates_of k.world keyword 0 xs)) (own k.world keyword) (span k.world keyword keyword))
+  generic_goes keyword opening e xs closing =
+      one_at (with_expr k (generic keyword opening e xs closing)) (λ c s. s)
+      (picked k.world (left_of (candidates_of k.world keyword 0 xs)) (own k.world keyword) (span k.world keyword keyword))
+      found kept
+    where
+      found : k.asked ≡ true → (c : Stacks) (s : Registers) →
+          op_row k.world (state r (with_assocs k xs (with_expr k e c)) s) (ops.Form (forms.Generic keyword (assoc_count xs))) ≡
+          unless (is_quiet r) (picked k.world (left_of (candidates_of k.world keyword 0 xs)) (own k.world keyword)
+          (span k.world keyword keyword))
+      found y c s = ap (λ (all : List Candidate). unless (is_quiet r) (picked k.world (left_of all) (own k.world keyword)
+          (span k.world keyword keyword)))
+          (assocs_kept k xs keyword 0 (operand_of k e ∷ c.operands) (state r (with_assocs k xs (with_expr k e c)) s) refl)
+
+      kept : (c : Stacks) (s : Registers) → state r (record c {
+        operands = expression (pick_of (own k.world keyword)
+            (selected k.world keyword 0 (assoc_count xs) (state r (with_assocs k xs (with_expr k e c)) s))) false
+            ∷ drop (suc (twice (assoc_count xs))) (assocs_on k xs (operand_of k e ∷ c.operands));
+      }) s ≡ state r (with_expr k (generic keyword opening e xs closing) c) s
+      kept c s =
+          ap (λ (all : List Candidate). state r (record c {
+            operands = expression (pick_of (own k.world keyword) all) false
+                ∷ drop (suc (twice (assoc_count xs))) (assocs_on k xs (operand_of k e ∷ c.operands));
+          }) s)
+          (assocs_kept k xs keyword 0 (operand_of k e ∷ c.operands) (state r (with_assocs k xs (with_expr k e c)) s) refl)
+          ∙ ap (λ (operands : List Operand). state r (record c {
+            operands = expression (pick_of (own k.world keyword) (candidates_of k.world keyword 0 xs)) false ∷ operands;
+          }) s)
+          (drop_one_more (twice (assoc_count xs)) (assocs_on k xs (operand_of k e ∷ c.operands)) (operand_of k e) c.operands
+          (under_assocs k xs (operand_of k e ∷ c.operands)))
 
   -- calls
 
@@ -200,7 +320,7 @@ module _ (k : Over) (r : Rounds) where
           operand_of k f ∷ c.operands
       below c = under_arguments k es (operand_of k f ∷ c.operands)
 
-      result_left : (c : Stacks) (s : Skel) → state r (record c {
+      result_left : (c : Stacks) (s : Registers) → state r (record c {
         operands = expression (a_value (result (contents (top_value
             (drop (count es) (arguments_on k es (operand_of k f ∷ c.operands))))))) false
             ∷ drop (suc (count es)) (arguments_on k es (operand_of k f ∷ c.operands));
@@ -235,9 +355,9 @@ module _ (k : Over) (r : Rounds) where
   abbrev filled : List Operand → Stacks → Stacks
   filled operands c = record c { operands = operands ++ c.operands; bases = length c.operands ∷ c.bases }
 
-  -- behind its list, with this skeleton of a literal
-  abbrev gone : InitList → (Stacks → Stacks) → Stacks → Skel → Ruled
-  gone list f c s = record { core = filled (leaves_in k list) (f c); rest = []; literal = s }
+  -- behind its list, with these registers
+  abbrev gone : InitList → (Stacks → Stacks) → Stacks → Registers → Ruled
+  gone list f c s = record { core = filled (leaves_in k list) (f c); rest = []; registers = s }
 
   -- a compound literal
   pub literal_goes : {types tape : List Op} {fs gs : List Constraint} (t : Option CType) (opening : ℕ)
@@ -249,8 +369,8 @@ module _ (k : Over) (r : Rounds) where
       ++ list_rule k.world (contents (own k.world opening)) list)))
   literal_goes {types} {tape} {fs} {gs} t opening list p q =
       record {
-        runs = giving (ending_at _ (λ c s. own k.world opening) (chain (chain behind_type
-            (ruled_from (taken_in k list) left (λ c s. gone list (with_value t) c (own k.world opening))
+        runs = giving (ending_at _ (λ c s. literal_at s) (chain (chain behind_type
+            (ruled_from (taken_in k list) left (λ c s. gone list (with_value t) c (literal_at s))
             (list_runs k r list (whole (Some (contents (own k.world opening))))))) (op_runs [] (λ y c s. refl))) put_there)
             (λ y. append-nil (((fs ++ gs) ++ literal_row k.world opening t) ++
             list_rule k.world (contents (own k.world opening)) list)
@@ -258,6 +378,9 @@ module _ (k : Over) (r : Rounds) where
             (list_rule k.world (contents (own k.world opening)) list));
       }
     where
+      literal_at : Registers → Registers
+      literal_at s = record s { literal = own k.world opening }
+
       below : (c : Stacks) → drop
           (length (leaves_in k list ++ (with_value t c).operands) - length (with_value t c).operands)
           (leaves_in k list ++ (with_value t c).operands) ≡ (with_value t c).operands
@@ -266,7 +389,7 @@ module _ (k : Over) (r : Rounds) where
       behind_type : Runs k (is_quiet r) Stacks (types ++ init inits.Begin ++ tape ++ init (inits.Literal opening))
           (λ c s. state r c s)
           (λ c s. ruling r (whole (Some (contents (own k.world opening)))) (taken_in k list)
-          (gone list (with_value t) c (own k.world opening)) s)
+          (gone list (with_value t) c (literal_at s)) s)
           ((fs ++ gs) ++ literal_row k.world opening t)
       behind_type =
           ending _ (chain (next (without p (one [] (λ y c s. refl) (λ c s. refl))) q).runs
@@ -274,18 +397,18 @@ module _ (k : Over) (r : Rounds) where
           (λ y c s. ap (λ (operands : List Operand). unless (is_quiet r)
           (literal_row k.world opening (type_of_operand (first_operand operands)))) (below c))))
           (λ c s. ap (λ (operands : List Operand). ruling r (whole (Some (contents (own k.world opening))))
-          (λ rest. operands) (gone list (with_value t) c (own k.world opening)) s)
+          (λ rest. operands) (gone list (with_value t) c (literal_at s)) s)
           (taken_above k list (with_value t c).operands))
 
-      put_there : (c : Stacks) (s : Skel) → state r (record c {
+      put_there : (c : Stacks) (s : Registers) → state r (record c {
         operands = expression (a_place (own k.world opening)) false ∷ drop 1 (drop
             (length (leaves_in k list ++ (with_value t c).operands) - length (with_value t c).operands)
             (leaves_in k list ++ (with_value t c).operands));
-      }) (own k.world opening) ≡ state r (with_val 0 (a_place (own k.world opening)) c) (own k.world opening)
+      }) (literal_at s) ≡ state r (with_val 0 (a_place (own k.world opening)) c) (literal_at s)
       put_there c s =
           ap (λ (operands : List Operand). state r (record c {
             operands = expression (a_place (own k.world opening)) false ∷ drop 1 operands;
-          }) (own k.world opening)) (below c)
+          }) (literal_at s)) (below c)
 
   -- the initialiser in braces of a name
   pub braced_goes : {tape : List Op} {gs : List Constraint} (declared : Option ℕ) (list : InitList) →
@@ -357,6 +480,27 @@ module _ (k : Over) (r : Rounds) where
       Goes k r (stmt stmts.Quiet ++ tape ++ form (forms.Sizeof token)) as_is
       (with_val 0 (a_value (own k.world token))) []
   sizeof_goes it token p =
+      record {
+        runs = chain (chain (op_runs [] (λ y c s. refl)) (silent_runs p))
+            (op_runs [] (λ y c s. sym (unless_none (is_quiet r))));
+      }
+
+  -- of two types' names
+  pub compat_goes : {types others : List Op} {fs gs : List Constraint} (t t2 : Option CType) (token : ℕ) →
+      Goes k (silenced r) types as_is (with_value t) fs → Goes k (silenced r) others as_is (with_value t2) gs →
+      Goes k r (stmt stmts.Quiet ++ types ++ others ++ form (forms.Compat token)) as_is
+      (with_val 0 (a_value (own k.world token))) []
+  compat_goes t t2 token p q =
+      record {
+        runs = chain (chain (chain (op_runs [] (λ y c s. refl)) (silent_runs p)) (silent_runs (from (with_value t) q)))
+            (op_runs [] (λ y c s. sym (unless_none (is_quiet r))));
+      }
+
+  -- the control of a selection, whose value is left
+  pub control_goes : {tape : List Op} {rows : List Constraint} (e : Expr) →
+      Goes k (silenced r) tape as_is (with_expr k e) rows →
+      Goes k r (stmt stmts.Quiet ++ tape ++ form forms.Control) as_is (with_expr k e) []
+  control_goes e p =
       record {
         runs = chain (chain (op_runs [] (λ y c s. refl)) (silent_runs p))
             (op_runs [] (λ y c s. sym (unless_none (is_quiet r))));

@@ -4,7 +4,7 @@ use Rattle.std.proofs.lemmas.List.{append-nil}
 use Rattle.flow_graph.specs.declared.constraint.Constraint.{Constraint}
 use Rattle.tape_ops.specs.declared.op.Op.{Op}
 use Rattle.c_tree.specs.Ends.{first_token, last_token}
-use Rattle.c_tree.specs.Tree.{Expr, Init, init_value, init_braced, InitList, init_list, InitItems, no_init_items, more_init_items, Desigs, no_desigs, more_desigs, Desig, member_desig, index_desig}
+use Rattle.c_tree.specs.Tree.{Expr, Init, init_value, init_braced, InitList, init_list, InitItems, no_init_items, more_init_items, Desigs, no_desigs, more_desigs, Desig, member_desig, index_desig, range_desig, old_desig}
 use Rattle.c_tape.specs.Tape.{desig_tape, desigs_tape, rule, rule_of_list, rule_of_items}
 use Rattle.qual_types.specs.declared.look.Kind.TheVariants as kinds
 use Rattle.qual_types.specs.Skel.{Skel, flat, ref, fun}
@@ -15,21 +15,21 @@ use Rattle.row_steps.specs.Rounds.{Rounds, is_quiet}
 use Rattle.row_steps.specs.State.{Operand, Braces, untargeted, listed, State}
 use Rattle.row_steps.specs.OpRows.{into_target}
 use Rattle.row_steps.specs.Steps.{target_in, list_of, with_item}
-use Rattle.row_laws.proofs.Goes.{Over, unless, Stacks, state, Runs, stay, op_runs, chain, started_from, giving, ending}
+use Rattle.row_laws.proofs.Goes.{Registers, Over, unless, Stacks, state, Runs, stay, op_runs, chain, started_from, giving, ending}
 use Rattle.row_laws.proofs.Stacks.{operand_of, taken, taken_in, taken_of}
 
--- stacks, with the operands that are left for what comes behind, and the skeleton of the compound literal
+-- stacks, with the operands that are left for what comes behind, and the registers
 pub record Ruled : Type 0 where
   pub core : Stacks
   pub rest : List Operand
-  pub literal : Skel
+  pub registers : Registers
 
 -- in the midst of an initialiser in braces
-abbrev pub ruling : Rounds → Braces → (List Operand → List Operand) → Ruled → Skel → State
-ruling r it q a s = record (state r a.core a.literal) { braces = it ∷ a.core.braces; leaves = q a.rest }
+abbrev pub ruling : Rounds → Braces → (List Operand → List Operand) → Ruled → Registers → State
+ruling r it q a s = record (state r a.core a.registers) { braces = it ∷ a.core.braces; leaves = q a.rest }
 
 pub ruled_from : {k : Over} {quiet : Bool} {B : Type 0} {tape : List Op} {r : Rounds} {it it2 : Braces}
-    {rows : List Constraint} (q q2 : List Operand → List Operand) (m : B → Skel → Ruled) →
+    {rows : List Constraint} (q q2 : List Operand → List Operand) (m : B → Registers → Ruled) →
     Runs k quiet Ruled tape (ruling r it q) (ruling r it2 q2) rows
     → Runs k quiet B tape (λ b s. ruling r it q (m b s) s) (λ b s. ruling r it2 q2 (m b s) s) rows
 ruled_from q q2 m p =
@@ -56,6 +56,8 @@ module _ (k : Over) (r : Rounds) where
       Runs k (is_quiet r) Ruled (desig_tape d) (ruling r untargeted q) (ruling r untargeted q) []
   desig_untargeted (member_desig dot name) q = op_runs [] (λ y a s. refl)
   desig_untargeted (index_desig opening e closing) q = op_runs [] (λ y a s. refl)
+  desig_untargeted (range_desig opening e dots e2 closing) q = op_runs [] (λ y a s. refl)
+  desig_untargeted (old_desig name colon) q = op_runs [] (λ y a s. refl)
 
   desigs_untargeted : (ds : Desigs) (q : List Operand → List Operand) →
       Runs k (is_quiet r) Ruled (desigs_tape ds) (ruling r untargeted q) (ruling r untargeted q) []
@@ -67,6 +69,8 @@ module _ (k : Over) (r : Rounds) where
       (ruling r (listed t is_first next (Some (desig_skel k.world now d))) q) []
   desig_further (member_desig dot name) t is_first next now q = op_runs [] (λ y a s. refl)
   desig_further (index_desig opening e closing) t is_first next now q = op_runs [] (λ y a s. refl)
+  desig_further (range_desig opening e dots e2 closing) t is_first next now q = op_runs [] (λ y a s. refl)
+  desig_further (old_desig name colon) t is_first next now q = op_runs [] (λ y a s. refl)
 
   desigs_further : (ds : Desigs) (t : Skel) (is_first : Bool) (next : ℕ) (now : Skel)
       (q : List Operand → List Operand) →
@@ -91,6 +95,10 @@ module _ (k : Over) (r : Rounds) where
   desigs_listed (more_desigs (member_desig dot name) ds) t is_first next q =
       chain (op_runs [] (λ y a s. refl)) (desigs_further ds t is_first _ _ q)
   desigs_listed (more_desigs (index_desig opening e closing) ds) t is_first next q =
+      chain (op_runs [] (λ y a s. refl)) (desigs_further ds t is_first _ _ q)
+  desigs_listed (more_desigs (range_desig opening e dots e2 closing) ds) t is_first next q =
+      chain (op_runs [] (λ y a s. refl)) (desigs_further ds t is_first _ _ q)
+  desigs_listed (more_desigs (old_desig name colon) ds) t is_first next q =
       chain (op_runs [] (λ y a s. refl)) (desigs_further ds t is_first _ _ q)
 
   target_behind : (ds : Desigs) (t : Skel) (is_first : Bool) (next : ℕ) →

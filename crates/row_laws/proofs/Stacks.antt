@@ -2,9 +2,9 @@
 use Rattle.std.proofs.Common.{◌≡◌, ℕ, zero, suc, ◌-◌, ◌+◌, Bool, true, false, List, [], ◌∷◌, ◌++◌, length, drop, Option, None, Some, refl, sym, ◌∙◌, ap, append_assoc, arith, length-append}
 use Rattle.std.specs.Prelude.{◌&&◌, if◌then◌else◌, take, reverse}
 use Rattle.std.proofs.lemmas.List.{reverse-append, append-nil}
-use Rattle.c_tree.specs.Tree.{Expr, Operator, comma, assign, cond, binary, SomeExpr, no_expr, some_expr, Exprs, no_exprs, more_exprs, SpecWords, Declr, SomeDeclr, Init, init_value, init_braced, InitList, init_list, InitItems, no_init_items, more_init_items, InitDeclrs, no_init_declrs, more_init_declrs, BlockItems, no_block_items, more_block_items, BlockItem, block_decl, block_stmt, Stmt, block, expr_stmt, attr_stmt, label, case_stmt, default_stmt, if_stmt, switch_stmt, while_stmt, do_stmt, for_stmt, goto_stmt, continue_stmt, break_stmt, return_stmt, asm_stmt}
+use Rattle.c_tree.specs.Tree.{Expr, Operator, comma, assign, cond, binary, SomeExpr, no_expr, some_expr, Exprs, no_exprs, more_exprs, SpecWords, Declr, SomeDeclr, Init, init_value, init_braced, InitList, init_list, InitItems, no_init_items, more_init_items, InitDeclrs, no_init_declrs, more_init_declrs, BlockItems, no_block_items, more_block_items, BlockItem, block_decl, block_stmt, Stmt, block, expr_stmt, attr_stmt, label, case_stmt, default_stmt, if_stmt, switch_stmt, while_stmt, do_stmt, for_stmt, goto_stmt, continue_stmt, break_stmt, return_stmt, asm_stmt, case_range, goto_value, block_labels, Assocs, no_assocs, more_assocs, Assoc, typed_assoc, default_assoc}
 use Rattle.c_tape.specs.Tests.{is_end, ends_in_value}
-use Rattle.c_tape.specs.Tape.{count}
+use Rattle.c_tape.specs.Tape.{count, assoc_count}
 use Rattle.type_table.specs.Types.{CType}
 use Rattle.name_rules.specs.Spellings.{Named}
 use Rattle.name_rules.specs.Uses.{type_named_at}
@@ -12,11 +12,12 @@ use Rattle.type_rules.specs.Tokens.{first_word, declared_name, some_declared_nam
 use Rattle.type_rules.specs.Shapes.{is_zero}
 use Rattle.qual_types.specs.Skel.{Skel}
 use Rattle.row_rules.specs.Worlds.{World, at}
-use Rattle.row_rules.specs.Vals.{Val, a_value, value, own}
+use Rattle.row_rules.specs.Vals.{Val, Candidate, a_value, value, own}
 use Rattle.row_rules.specs.Rows.{initialised}
-use Rattle.constraint_rules.specs.Values.{val, items_value}
-use Rattle.row_steps.specs.State.{Operand, expression, named_type, first_operand, val_of_operand}
-use Rattle.row_steps.specs.Steps.{initialised_by}
+use Rattle.constraint_rules.specs.Values.{val, candidate_in, candidates_of, items_value}
+use Rattle.row_steps.specs.State.{State, Operand, expression, named_type, first_operand, val_of_operand}
+use Rattle.shape_steps.specs.Steps.{twice}
+use Rattle.row_steps.specs.Steps.{initialised_by, selected, candidate_at}
 use Rattle.row_laws.proofs.Goes.{Over, Stacks}
 
 -- lists
@@ -113,6 +114,61 @@ module _ (k : Over) where
   abbrev pub type_at_words : SpecWords → Option CType
   type_at_words ws = type_named_at k.world.names.type_names (at k.world (first_word ws))
 
+  -- associations: of each its type, and above that its expression
+
+  abbrev pub assoc_on : Assoc → List Operand → List Operand
+  assoc_on (typed_assoc ws d colon e) operands = operand_of e ∷ named_type (type_at_words ws) ∷ operands
+  assoc_on (default_assoc keyword colon e) operands = operand_of e ∷ named_type None ∷ operands
+
+  abbrev pub assocs_on : Assocs → List Operand → List Operand
+  assocs_on no_assocs operands = operands
+  assocs_on (more_assocs x xs) operands = assocs_on xs (assoc_on x operands)
+
+  abbrev pub with_assoc : Assoc → Stacks → Stacks
+  with_assoc x c = record c { operands = assoc_on x c.operands }
+
+  abbrev pub with_assocs : Assocs → Stacks → Stacks
+  with_assocs xs c = record c { operands = assocs_on xs c.operands }
+
+  under_assoc : (x : Assoc) (n : ℕ) (all operands : List Operand) → drop (twice n) all ≡ assoc_on x operands →
+      drop (twice (suc n)) all ≡ operands
+  under_assoc (typed_assoc ws d colon e) n all operands h =
+      let two_more : twice (suc n) ≡ suc (suc (twice n)) = omega arith in
+      ap (λ (m : ℕ). drop m all) two_more
+      ∙ drop_one_more (suc (twice n)) all _ operands (drop_one_more (twice n) all _ _ h)
+  under_assoc (default_assoc keyword colon e) n all operands h =
+      let two_more : twice (suc n) ≡ suc (suc (twice n)) = omega arith in
+      ap (λ (m : ℕ). drop m all) two_more
+      ∙ drop_one_more (suc (twice n)) all _ operands (drop_one_more (twice n) all _ _ h)
+
+  -- the control lies under the associations
+  pub under_assocs : (xs : Assocs) (operands : List Operand) → drop (twice (assoc_count xs)) (assocs_on xs operands) ≡ operands
+  under_assocs no_assocs operands = refl
+  under_assocs (more_assocs x xs) operands =
+      under_assoc x (assoc_count xs) (assocs_on xs (assoc_on x operands)) operands (under_assocs xs (assoc_on x operands))
+
+  assoc_kept : (x : Assoc) (n : ℕ) (operands : List Operand) (st : State) → drop (twice n) st.operands ≡ assoc_on x operands →
+      candidate_at (twice n) st ≡ candidate_in k.world x
+  assoc_kept (typed_assoc ws d colon e) n operands st h = rw h refl
+  assoc_kept (default_assoc keyword colon e) n operands st h = rw h refl
+
+  candidate_more : (is : Bool) (it : Candidate) (all : List Candidate) →
+      (if is then it ∷ [] else []) ++ all ≡ (if is then it ∷ all else all)
+  candidate_more true it all = refl
+  candidate_more false it all = refl
+
+  -- the candidates of a selection, as they lie on the stack
+  pub assocs_kept : (xs : Assocs) (token i : ℕ) (operands : List Operand) (st : State) → st.operands ≡ assocs_on xs operands →
+      selected k.world token i (assoc_count xs) st ≡ candidates_of k.world token i xs
+  assocs_kept no_assocs token i operands st is = refl
+  assocs_kept (more_assocs x xs) token i operands st is =
+      ap (λ (it : Candidate). (if k.world.candidate (at k.world token) i then it ∷ [] else [])
+      ++ selected k.world token (suc i) (assoc_count xs) st)
+      (assoc_kept x (assoc_count xs) operands st (ap (drop (twice (assoc_count xs))) is ∙ under_assocs xs (assoc_on x operands)))
+      ∙ (ap (λ (all : List Candidate). (if k.world.candidate (at k.world token) i then candidate_in k.world x ∷ [] else []) ++ all)
+      (assocs_kept xs token (suc i) (assoc_on x operands) st is)
+      ∙ candidate_more (k.world.candidate (at k.world token) i) (candidate_in k.world x) (candidates_of k.world token (suc i) xs))
+
   -- initialisers: the operands of one as they lie on the stack, the last one first
 
   abbrev mutual
@@ -188,10 +244,13 @@ module _ (k : Over) where
   with_stmt kept (break_stmt keyword semi) c = c
   with_stmt kept (return_stmt keyword e semi) c = c
   with_stmt kept (asm_stmt keyword words group semi) c = c
+  with_stmt kept (case_range keyword e dots e2 colon s) c = c
+  with_stmt kept (goto_value keyword star e semi) c = c
 
   abbrev pub with_block_item : Bool → BlockItem → Stacks → Stacks
   with_block_item kept (block_decl d) c = c
   with_block_item kept (block_stmt s) c = with_stmt kept s c
+  with_block_item kept (block_labels keyword names semi) c = c
 
   abbrev pub with_items : Bool → BlockItems → Stacks → Stacks
   with_items kept no_block_items c = c
@@ -215,10 +274,13 @@ module _ (k : Over) where
   no_stmt_kept (break_stmt keyword semi) c = refl
   no_stmt_kept (return_stmt keyword e semi) c = refl
   no_stmt_kept (asm_stmt keyword words group semi) c = refl
+  no_stmt_kept (case_range keyword e dots e2 colon s) c = refl
+  no_stmt_kept (goto_value keyword star e semi) c = refl
 
   pub no_item_kept : (item : BlockItem) (c : Stacks) → with_block_item false item c ≡ c
   no_item_kept (block_decl d) c = refl
   no_item_kept (block_stmt s) c = no_stmt_kept s c
+  no_item_kept (block_labels keyword names semi) c = refl
 
   pub none_kept : (items : BlockItems) (c : Stacks) → with_items false items c ≡ c
   none_kept no_block_items c = refl
@@ -249,6 +311,9 @@ module _ (k : Over) where
   value_kept token (more_block_items (block_stmt (break_stmt keyword semi)) no_block_items) c = refl
   value_kept token (more_block_items (block_stmt (return_stmt keyword e semi)) no_block_items) c = refl
   value_kept token (more_block_items (block_stmt (asm_stmt keyword words group semi)) no_block_items) c = refl
+  value_kept token (more_block_items (block_stmt (case_range keyword e dots e2 colon s)) no_block_items) c = refl
+  value_kept token (more_block_items (block_stmt (goto_value keyword star e semi)) no_block_items) c = refl
+  value_kept token (more_block_items (block_labels keyword names semi) no_block_items) c = refl
   value_kept token (more_block_items item (more_block_items item2 items)) c =
       ap (λ (it : Stacks). block_put k.world token (ends_in_value (more_block_items item2 items))
       (with_items true (more_block_items item2 items) it)) (no_item_kept item c) ∙

@@ -1,7 +1,9 @@
 -- What annotation words and the marks of lattices give: constants and bounds.
-use Rattle.std.specs.Prelude.{ℕ, suc, ◌+◌, ◌^◌, nat_eq, nat_lt, Bool, true, false, ◌&&◌, ◌||◌, List, [], ◌∷◌, ◌++◌, slice_get, Option, None, Some, if◌then◌else◌}
+use Rattle.std.specs.Prelude.{ℕ, suc, ◌+◌, ◌^◌, nat_eq, nat_lt, Bool, true, false, ◌&&◌, ◌||◌, not, List, [], ◌∷◌, ◌++◌, slice_get, Option, None, Some, if◌then◌else◌}
 use Rattle.qual_base.specs.declared.places.Span.{Span}
 use Rattle.lattice_core.specs.declared.Entry.{Entry}
+use Rattle.lattice_core.specs.declared.Deref.{Deref}
+use Rattle.lattice_core.specs.declared.Deref.TheVariants as derefs
 use Rattle.lattice_core.specs.declared.Level.{Level}
 use Rattle.lattice_core.specs.declared.Level.TheVariants as levels
 use Rattle.lattice_core.specs.declared.Sign.{Sign}
@@ -150,8 +152,44 @@ bounds_from has v where_ n (view ∷ views) = bounds_of has v where_ n 0 view.en
 abbrev pub write_bounds : World → ℕ → Span → List Constraint
 write_bounds w v where_ = bounds_from (λ entry. entry.write) v where_ 0 w.lattices
 
-abbrev pub deref_bounds : World → ℕ → Span → List Constraint
-deref_bounds w v where_ = bounds_from (λ entry. entry.deref) v where_ 0 w.lattices
+abbrev pub is_deref : Deref → Bool
+is_deref derefs.No = false
+is_deref derefs.Yes = true
+is_deref derefs.Access = false
+
+abbrev pub is_deref_or_access : Deref → Bool
+is_deref_or_access derefs.No = false
+is_deref_or_access derefs.Yes = true
+is_deref_or_access derefs.Access = true
+
+-- where its place is only addressed, those do not bound it that bound accesses
+abbrev pub derefs_where : Bool → Deref → Bool
+derefs_where true it = is_deref it
+derefs_where false it = is_deref_or_access it
+
+abbrev pub deref_bounds : World → ℕ → Bool → Span → List Constraint
+deref_bounds w v aims where_ = bounds_from (λ entry. derefs_where aims entry.deref) v where_ 0 w.lattices
+
+-- the lattices with an element that bounds accesses, a bit for each
+
+abbrev pub is_access : Deref → Bool
+is_access derefs.No = false
+is_access derefs.Yes = false
+is_access derefs.Access = true
+
+abbrev pub bounds_accesses : List Entry → Bool
+bounds_accesses [] = false
+bounds_accesses (entry ∷ entries) = is_access entry.deref || bounds_accesses entries
+
+abbrev pub access_from : ℕ → List LatticeView → ℕ
+access_from n [] = 0
+access_from n (view ∷ views) = (if bounds_accesses view.entries then 2 ^ n else 0) + access_from (suc n) views
+
+abbrev pub access_lattices : List LatticeView → ℕ
+access_lattices views = access_from 0 views
+
+abbrev pub has_access : List LatticeView → Bool
+has_access views = not (nat_eq (access_lattices views) 0)
 
 -- the lattices of which no word is written on a type
 abbrev pub names_lattice : World → ℕ → Words → Bool

@@ -13,20 +13,20 @@ use Rattle.name_rules.specs.Spellings.{Place, Named}
 use Rattle.name_rules.specs.Scopes.{Role, typedef_role, object_role, function_role, parameter_role, field_role, enumerator_role, Declared, declared_at, Use, means, called, missing, Known, Own, is_place}
 use Rattle.name_rules.specs.Linking.{link_of}
 use Rattle.name_rules.specs.Values.{is_additive, own_of, own_number}
-use Rattle.row_rules.specs.Annotations.{annotating, deref_bounds, further, parameters, uncut, write_bounds}
+use Rattle.row_rules.specs.Annotations.{access_lattices, annotating, deref_bounds, further, parameters, uncut, write_bounds}
 use Rattle.row_rules.specs.Indexing.{indexing}
 use Rattle.row_rules.specs.Forming.{formed}
 use Rattle.row_rules.specs.Starting.{is_some_function}
-use Rattle.row_rules.specs.Vals.{Val, contents, is_empty, is_fun, is_nothing, is_ref, own, result, value}
-use Rattle.row_rules.specs.Worlds.{World, all_lattices, at, constraints, in_all, site_number, skeleton, span, word_span}
+use Rattle.row_rules.specs.Vals.{Val, Candidate, is_vector_index, contents, is_empty, is_fun, is_nothing, is_ref, own, result, value}
+use Rattle.row_rules.specs.Worlds.{World, all_lattices, at, constraint, constraints, in_all, site_number, skeleton, span, word_span}
 
 -- An expression's value flows into a skeleton: nothing where it is a zero, or where either is void or is no skeleton.
 abbrev pub flowing : Bool → Skel → Skel → ℕ → Span → List Constraint
 flowing is_zero a t lattices where_ = if is_zero || (is_empty a || is_empty t) then [] else constraints lattices where_ (flow Flow true a t)
 
 -- what is dereferenced is bounded, but where it points to a function
-abbrev pub dereferenced : World → Skel → Span → List Constraint
-dereferenced w s where_ = if is_fun (contents s) then [] else deref_bounds w (root s) where_
+abbrev pub dereferenced : World → Skel → Bool → Span → List Constraint
+dereferenced w s aims where_ = if is_fun (contents s) then [] else deref_bounds w (root s) aims where_
 
 abbrev pub is_plus_or_minus : Punct → Bool
 is_plus_or_minus signs.PlusEqual = true
@@ -64,14 +64,41 @@ abbrev pub chosen : World → Bool → Bool → Skel → Skel → Skel → Span 
 chosen w first_is_zero last_is_zero a b t where_ =
     if first_is_zero || last_is_zero then [] else formed w where_ t ++ branched w a b t where_
 
-abbrev pub prefixed : World → Punct → Bool → Val → Skel → Span → List Constraint
-prefixed w signs.PlusPlus is_zero e t where_ = write_bounds w (root e.skel) where_
-prefixed w signs.MinusMinus is_zero e t where_ = write_bounds w (root e.skel) where_
-prefixed w signs.Star is_zero e t where_ = dereferenced w (value e) where_
-prefixed w signs.Plus is_zero e t where_ = flowing is_zero (value e) t (all_lattices w) where_
-prefixed w signs.Minus is_zero e t where_ = flowing is_zero (value e) t (all_lattices w) where_
-prefixed w signs.Tilde is_zero e t where_ = flowing is_zero (value e) t (all_lattices w) where_
-prefixed w p is_zero e t where_ = []
+-- what is left of the candidates of a pick flows into its fresh value
+abbrev pub picking : World → List Candidate → Skel → Span → List Constraint
+picking w [] t where_ = []
+picking w (it ∷ others) t where_ = flowing it.is_zero (value it.val) t (all_lattices w) where_ ++ picking w others t where_
+
+-- so, where there is one: where several are left
+abbrev pub picked : World → List Candidate → Skel → Span → List Constraint
+picked w [] t where_ = []
+picked w (it ∷ []) t where_ = []
+picked w (it ∷ other ∷ others) t where_ = formed w where_ t ++ picking w (it ∷ other ∷ others) t where_
+
+-- an index, but where it takes an element of a vector
+abbrev pub index_demand : World → Skel → Skel → Bool → Span → List Constraint
+index_demand w a b aims where_ =
+    if is_vector_index w.spelling.wide a b then [] else dereferenced w (if is_ref a then a else b) aims where_
+
+-- A pointer that `&` makes to a place that was come to by a pointer: it points at the place, and is at least that pointer in the
+-- lattices that bound accesses.
+abbrev pub carrying : World → Skel → Skel → Span → List Constraint
+carrying w by t where_ =
+    if is_nothing by || is_nothing t then []
+    else constraint (access_lattices w.lattices) where_ (Le (root by) (root t)) ∷ []
+
+abbrev pub carried : World → Skel → Skel → Skel → Span → List Constraint
+carried w place by t where_ =
+    formed w where_ t ++ (flowing false place t (all_lattices w) where_ ++ carrying w by t where_)
+
+abbrev pub prefixed : World → Punct → Bool → Val → Skel → Bool → Span → List Constraint
+prefixed w signs.PlusPlus is_zero e t aims where_ = write_bounds w (root e.skel) where_
+prefixed w signs.MinusMinus is_zero e t aims where_ = write_bounds w (root e.skel) where_
+prefixed w signs.Star is_zero e t aims where_ = dereferenced w (value e) aims where_
+prefixed w signs.Plus is_zero e t aims where_ = flowing is_zero (value e) t (all_lattices w) where_
+prefixed w signs.Minus is_zero e t aims where_ = flowing is_zero (value e) t (all_lattices w) where_
+prefixed w signs.Tilde is_zero e t aims where_ = flowing is_zero (value e) t (all_lattices w) where_
+prefixed w p is_zero e t aims where_ = []
 
 -- an argument: into its parameter, or past the parameters into what stands for all further arguments
 abbrev pub passed : World → Bool → Skel → Option Skel → Option ℕ → Span → List Constraint
@@ -188,6 +215,27 @@ abbrev pub param_kind : Option Skel → Bool → ℕ → RowKind
 param_kind None bare i = no_row
 param_kind (Some own) true i = row_of_param own i
 param_kind (Some own) false i = no_row
+
+abbrev pub some_param_kind : Option Skel → ℕ → RowKind
+some_param_kind None i = no_row
+some_param_kind (Some own) i = row_of_param own i
+
+-- the number of a parameter by its identifier is that of its declaration
+abbrev pub numbered_row : Option Skel → Role → RowKind
+numbered_row own typedef_role = no_row
+numbered_row own object_role = no_row
+numbered_row own function_role = no_row
+numbered_row own (parameter_role i) = some_param_kind own i
+numbered_row own (field_role n i) = no_row
+numbered_row own enumerator_role = no_row
+
+abbrev pub identified_by : Option Skel → Option Declared → RowKind
+identified_by own None = no_row
+identified_by own (Some d) = numbered_row own d.role
+
+abbrev pub identified_kind : World → Option Skel → Option Named → RowKind
+identified_kind w own None = no_row
+identified_kind w own (Some it) = identified_by own (declared_at w.names.declared (at w it.token))
 
 -- a returned value flows into the result of the function around it
 abbrev pub returned : World → Option Skel → Bool → Skel → Span → List Constraint

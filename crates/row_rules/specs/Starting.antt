@@ -1,12 +1,12 @@
 -- Where a skeleton begins: what stands at one declared name, and what is fresh at one expression.
-use Rattle.std.specs.Prelude.{ℕ, Bool, true, false, ◌||◌, not, List, [], ◌∷◌, Option, None, Some, if◌then◌else◌}
+use Rattle.std.specs.Prelude.{ℕ, Bool, true, false, ◌||◌, not, List, [], ◌∷◌, Option, None, Some, if◌then◌else◌, slice_get, unwrap_or}
 use Rattle.c_words.specs.declared.kinds.Punct.{Punct}
 use Rattle.c_words.specs.declared.kinds.Punct.TheVariants as signs
 use Rattle.type_table.specs.Types.{CType, base, pointer}
 use Rattle.name_rules.specs.Spellings.{Place, Spelling, place, Named}
-use Rattle.name_rules.specs.Scopes.{Role, typedef_role, object_role, function_role, parameter_role, field_role, enumerator_role, Declared, declared_at, Use, means, called, missing, Names}
+use Rattle.name_rules.specs.Scopes.{Role, typedef_role, object_role, function_role, parameter_role, field_role, enumerator_role, Declared, declared_at, Use, means, called, missing, Names, is_place}
 use Rattle.name_rules.specs.Linking.{link_of}
-use Rattle.name_rules.specs.Values.{is_pointer, is_additive, undeclared_function}
+use Rattle.name_rules.specs.Values.{is_pointer, is_additive, undeclared_function, Shape, address, Candidate, Association, selected, is_of_type}
 
 -- A skeleton: where it begins, its type, the function that its variables belong to. At a function's name in an expression it is
 -- an instance of the function that was first declared at `calls`: a call site. Functions go by their links, the same in all units.
@@ -22,6 +22,8 @@ pub record Around : Type 0 where
   pub names : Names
   pub enclosing : Option Place
   pub is_quiet : Bool
+  -- whether some lattice bounds accesses
+  pub access : Bool
 
 abbrev pub quiet : Around → Around
 quiet a = record a { is_quiet = true }
@@ -147,3 +149,30 @@ first_of s (Some d) = Some (link_of s d.first)
 abbrev pub declared_function : Spelling → Names → Option Named → Option Place
 declared_function u s None = None
 declared_function u s (Some it) = first_of s (declared_at s.declared (place u it.token))
+
+-- what an operator before its operand begins; `carries`: the pointer that `&` makes is to carry the one by which its operand came to its
+-- place
+abbrev pub prefix_starts : Punct → Bool → Around → ℕ → Shape → List Start
+prefix_starts signs.Ampersand carries a token e = fresh_where carries (some_fresh a token (address e))
+prefix_starts sign carries a token e = fresh_where (is_fresh_prefix sign) (fresh a token (base []))
+
+-- the candidates of a selection, by the type of the control's value
+abbrev pub selected_by : Option CType → List Association → List Candidate
+selected_by None all = []
+selected_by (Some t) all = selected t all
+
+-- Which associations of a selection are candidates: those of the type, or all where there are none. Without a type of the control there
+-- are none of the type.
+abbrev pub candidate_flags : Bool → Option CType → List Association → List Bool
+candidate_flags has_some t [] = []
+candidate_flags has_some t (it ∷ others) = (not has_some || is_of_type t it.type) ∷ candidate_flags has_some t others
+
+-- the flags of the associations of a selection, at its first token
+pub record Selection : Type 0 where
+  pub at : Place
+  pub flags : List Bool
+
+-- the flag of a number, of the first selection at a place
+abbrev pub flag_among : List Selection → Place → ℕ → Bool
+flag_among [] p n = false
+flag_among (it ∷ others) p n = if is_place it.at p then unwrap_or (slice_get it.flags n) false else flag_among others p n

@@ -1,6 +1,6 @@
 -- The skeleton of an operand, that of a place, which is a reference to what is in it, or that of a value (Foster et al. 2006), and
 -- what each operator makes of its operands.
-use Rattle.std.specs.Prelude.{ℕ, Bool, true, false, Option, None, Some, if◌then◌else◌}
+use Rattle.std.specs.Prelude.{ℕ, Bool, true, false, ◌&&◌, not, List, [], ◌∷◌, Option, None, Some, if◌then◌else◌}
 use Rattle.c_words.specs.declared.kinds.Punct.{Punct}
 use Rattle.c_words.specs.declared.kinds.Punct.TheVariants as signs
 use Rattle.qual_types.specs.declared.look.Kind.TheVariants as kinds
@@ -8,6 +8,7 @@ use Rattle.qual_types.specs.Skel.{Skel, flat, ref, fun, no_skeleton, struct_of}
 use Rattle.name_rules.specs.Spellings.{Place}
 use Rattle.name_rules.specs.Scopes.{Role, typedef_role, object_role, function_role, parameter_role, field_role, enumerator_role, Declared, declared_at, Use, means, called, missing, Known, body_of}
 use Rattle.name_rules.specs.Values.{is_additive, member_in}
+use Rattle.row_rules.specs.Annotations.{has_access}
 use Rattle.row_rules.specs.Worlds.{World, at, skeleton}
 
 pub record Val : Type 0 where
@@ -91,12 +92,18 @@ sum_of false false a b own = own
 abbrev pub binary_of : Punct → Skel → Skel → Skel → Skel
 binary_of p a b own = if is_additive p then sum_of (is_ref a) (is_ref b) a b own else own
 
-abbrev pub prefix_of : World → ℕ → Punct → Val → Val
-prefix_of w token signs.Ampersand e = a_value e.skel
-prefix_of w token signs.Star e = a_place (value e)
-prefix_of w token signs.PlusPlus e = a_value (value e)
-prefix_of w token signs.MinusMinus e = a_value (value e)
-prefix_of w token p e = a_value (skeleton w (at w token))
+-- the value of a `&` before a place that was come to by a pointer is fresh, where some lattice bounds accesses
+abbrev pub prefix_of : World → ℕ → Punct → Val → Bool → Val
+prefix_of w token signs.Ampersand e aims =
+    if aims && has_access w.lattices then a_value (skeleton w (at w token)) else a_value e.skel
+prefix_of w token signs.Star e aims = a_place (value e)
+prefix_of w token signs.PlusPlus e aims = a_value (value e)
+prefix_of w token signs.MinusMinus e aims = a_value (value e)
+prefix_of w token p e aims = a_value (skeleton w (at w token))
+
+abbrev pub is_carrying : World → Punct → Bool → Bool
+is_carrying w signs.Ampersand aims = aims && has_access w.lattices
+is_carrying w p aims = false
 
 abbrev pub used_by_role : World → ℕ → Place → Role → Val
 used_by_role w token p enumerator_role = a_value (skeleton w (at w token))
@@ -123,3 +130,43 @@ module _ (w : World) where
   -- of a condition: a zero takes the value of the other branch
   abbrev pub branch : Bool → Bool → ℕ → Skel → Skel → Skel
   branch first last token a b = if last then a else if first then b else own token
+
+-- picks
+
+-- an expression that may be picked
+pub record Candidate : Type 0 where
+  pub val : Val
+  pub is_zero : Bool
+
+abbrev pub no_zeros : List Candidate → List Candidate
+no_zeros [] = []
+no_zeros (it ∷ others) = if it.is_zero then no_zeros others else it ∷ no_zeros others
+
+abbrev pub or_all : List Candidate → List Candidate → List Candidate
+or_all [] others = others
+or_all (it ∷ some) others = it ∷ some
+
+-- zeros aside, where not all are zeros
+abbrev pub left_of : List Candidate → List Candidate
+left_of all = or_all (no_zeros all) all
+
+-- of those that are left: the value of one, or else a fresh one
+abbrev pub value_of_left : Skel → List Candidate → Skel
+value_of_left own [] = own
+value_of_left own (it ∷ []) = value it.val
+value_of_left own (it ∷ other ∷ others) = own
+
+-- one candidate is picked, place and value
+abbrev pub pick_of : Skel → List Candidate → Val
+pick_of own [] = a_value own
+pick_of own (it ∷ []) = it.val
+pick_of own (it ∷ other ∷ others) = a_value (value_of_left own (left_of (it ∷ other ∷ others)))
+
+-- `[ ]` of wider C: where neither operand is a reference it takes an element of a vector, the left operand
+abbrev pub is_vector_index : Bool → Skel → Skel → Bool
+is_vector_index wide a b = wide && (not (is_ref a) && not (is_ref b))
+
+abbrev pub index_of : Bool → Val → Val → Val
+index_of wide e e2 =
+    if is_vector_index wide (value e) (value e2) then e
+    else a_place (if is_ref (value e) then value e else value e2)

@@ -1,6 +1,6 @@
 -- What the constraints of an expression are read from: names, numbered skeletons, call sites, lattices, and the function around
 -- it.
-use Rattle.std.specs.Prelude.{ℕ, suc, ◌+◌, ◌-◌, ◌^◌, List, [], ◌∷◌, length, Option, if◌then◌else◌}
+use Rattle.std.specs.Prelude.{ℕ, suc, ◌+◌, ◌-◌, ◌^◌, Bool, List, [], ◌∷◌, length, Option, if◌then◌else◌}
 use Rattle.qual_base.specs.declared.places.Span.{Span}
 use Rattle.lattice_core.specs.View.{LatticeView}
 use Rattle.flow_graph.specs.declared.constraint.Link.{Link}
@@ -31,6 +31,8 @@ pub record World : Type 0 where
   pub mark : Place → Option (ℕ × ℕ)
   -- the numbers of an index word of a prelude, and none where there is no such word
   pub index : Place → List ℕ
+  -- whether an association of the selection by a type at a place is a candidate, by its number
+  pub candidate : Place → ℕ → Bool
   -- the function whose body this is in: what its own name is declared with there
   pub own : Option Skel
 

@@ -1,5 +1,5 @@
 -- The constraints that each op of a tape gives by itself, by what is on the stacks before it: a line an op.
-use Rattle.std.specs.Prelude.{ℕ, suc, ◌+◌, List, [], ◌++◌, Option, None, Some, if◌then◌else◌}
+use Rattle.std.specs.Prelude.{ℕ, suc, ◌+◌, List, [], Option, None, Some, if◌then◌else◌}
 use Rattle.qual_base.specs.declared.places.Span.{Span}
 use Rattle.flow_graph.specs.declared.constraint.Constraint.{Constraint}
 use Rattle.tape_ops.specs.declared.op.Op.{Op}
@@ -21,12 +21,14 @@ use Rattle.qual_types.specs.Skel.{Skel, root, param_at}
 use Rattle.shape_steps.specs.State.{declared_last}
 use Rattle.row_rules.specs.Worlds.{World, at, all_lattices, span}
 use Rattle.row_rules.specs.Annotations.{parameters, further, write_bounds}
-use Rattle.row_rules.specs.Vals.{contents, is_ref, own}
-use Rattle.row_rules.specs.Rows.{flowing, dereferenced, assigned, computed, chosen, prefixed, passed, use_demand, formed_here, taken_fresh, literal_row, cast_demand, RowKind, no_row, row_of_name, row_of_param, row_at, returned, started}
+use Rattle.row_rules.specs.Vals.{contents, is_carrying, left_of, own}
+use Rattle.row_rules.specs.Rows.{flowing, dereferenced, index_demand, carried, picked, assigned, computed, chosen, prefixed, passed, use_demand, formed_here, taken_fresh, literal_row, cast_demand, RowKind, no_row, row_of_name, row_of_param, row_at, returned, started, identified_by}
 use Rattle.row_rules.specs.Worlds.{skeleton}
-use Rattle.row_steps.specs.Rounds.{Naming, a_name, own_param, other_param, naming, is_quiet}
+use Rattle.row_steps.specs.Rounds.{Naming, a_name, own_param, other_param, identified_param, naming, is_quiet}
 use Rattle.row_steps.specs.State.{Operand, State, first_operand, val_of_operand, is_zero_operand, type_of_operand, val_at, value_at, is_zero_at, type_at, operands_below, first_braces}
-use Rattle.row_steps.specs.Steps.{target_in, initialised_by}
+use Rattle.row_steps.specs.Steps.{target_in, initialised_by, selected}
+use Rattle.row_steps.specs.Steps as steps
+use Rattle.name_rules.specs.Scopes.{declared_at}
 use Rattle.row_rules.specs.Vals as vals
 
 -- the skeleton of the function whose name is at a token
@@ -39,10 +41,15 @@ abbrev pub some_param_row : Option Skel → ℕ → RowKind
 some_param_row None n = no_row
 some_param_row (Some f) n = row_of_param f n
 
-abbrev pub naming_row : World → Naming → RowKind
-naming_row w a_name = row_of_name
-naming_row w (own_param f n) = some_param_row (function_skeleton w f) n
-naming_row w other_param = no_row
+abbrev pub identified_row : World → Option Skel → ℕ → RowKind
+identified_row w own token = identified_by own (declared_at w.names.declared (at w token))
+
+-- of the name at a token
+abbrev pub naming_row : World → Naming → ℕ → RowKind
+naming_row w a_name token = row_of_name
+naming_row w (own_param f n) token = some_param_row (function_skeleton w f) n
+naming_row w other_param token = no_row
+naming_row w (identified_param f) token = identified_row w (function_skeleton w f) token
 
 -- an operand flows into what it initialises
 abbrev pub into_target : World → Option Skel → Operand → Span → List Constraint
@@ -68,17 +75,19 @@ expr_row w st (exprs.Cond has_middle token first last) =
 expr_row w st (exprs.Binary sign token first last) =
     computed w sign (is_zero_at 1 st) (is_zero_at 0 st) (value_at 1 st) (value_at 0 st) (own w token)
     (span w first last)
-expr_row w st (exprs.Prefix sign token last) =
-    prefixed w sign (is_zero_at 0 st) (val_at 0 st) (own w token) (span w token last)
+expr_row w st (exprs.Prefix sign token last aims) =
+    if is_carrying w sign aims then carried w (val_at 0 st).skel st.carried (own w token) (span w token token)
+    else prefixed w sign (is_zero_at 0 st) (val_at 0 st) (own w token) aims (span w token last)
 expr_row w st (exprs.Post sign token first) = write_bounds w (root (val_at 0 st).skel) (span w first token)
-expr_row w st (exprs.Index token first last) =
-    dereferenced w (if is_ref (value_at 1 st) then value_at 1 st else value_at 0 st) (span w first last)
+expr_row w st (exprs.Index token first last aims) =
+    index_demand w (value_at 1 st) (value_at 0 st) aims (span w first last)
 expr_row w st (exprs.Arg behind first last) =
     passed w (is_zero_at behind st) (value_at behind st) (param_at (parameters (called_at behind st)) st.passed)
     (further (called_at behind st)) (span w first last)
 expr_row w st (exprs.Call token count) = []
-expr_row w st (exprs.Arrow token first last) = dereferenced w (value_at 0 st) (span w first last)
+expr_row w st (exprs.Arrow token first last aims) = dereferenced w (value_at 0 st) aims (span w first last)
 expr_row w st (exprs.Dot token member name) = []
+expr_row w st (exprs.Label token) = formed_here w token
 
 abbrev pub form_row : World → State → FormOp → List Constraint
 form_row w st (forms.Cast token last) =
@@ -93,6 +102,12 @@ form_row w st (forms.VaCopy token last) =
 form_row w st (forms.OffsetMember token name) = []
 form_row w st (forms.OffsetIndex token) = []
 form_row w st (forms.Offset token) = []
+form_row w st (forms.Compat token) = []
+form_row w st forms.Control = []
+form_row w st forms.NoType = []
+form_row w st (forms.Choose token) = picked w (left_of (steps.chosen st)) (own w token) (span w token token)
+form_row w st (forms.Generic token count) =
+    picked w (left_of (selected w token 0 count st)) (own w token) (span w token token)
 
 abbrev pub init_row : World → State → InitOp → List Constraint
 init_row w st (inits.Value first last) =
@@ -122,10 +137,13 @@ spec_row w (specs.Untagged kind token) = []
 spec_row w specs.BodyEnd = []
 spec_row w (specs.Enumerator token name) = []
 spec_row w (specs.UnnamedMember token) = formed_here w token
+spec_row w specs.PartBegin = []
+spec_row w (specs.TypeofEnd token) = []
+spec_row w specs.TypeEnd = []
 spec_row w specs.SpecsEnd = []
 
 abbrev pub declr_row : World → State → DeclrOp → List Constraint
-declr_row w st (declrs.DeclName token name) = row_at w (naming_row w (naming st.rounds)) token
+declr_row w st (declrs.DeclName token name) = row_at w (naming_row w (naming st.rounds) token) token
 declr_row w st (declrs.ParamsBegin is_own) = []
 declr_row w st declrs.Param = []
 declr_row w st declrs.ParamsEnd = []
@@ -133,6 +151,10 @@ declr_row w st declrs.Pointer = []
 declr_row w st declrs.Array = []
 declr_row w st (declrs.Function has_ellipsis) = []
 declr_row w st declrs.Declare = []
+declr_row w st declrs.AutoBegin = []
+declr_row w st (declrs.AutoEnd token) = []
+declr_row w st (declrs.Identifier token name) = []
+declr_row w st declrs.OldParam = []
 declr_row w st declrs.Member = []
 declr_row w st (declrs.TypeName first) = []
 declr_row w st declrs.DeclarationEnd = []

@@ -18,6 +18,8 @@ pub data Naming : Type 0 where
   a_name : Naming
   own_param : Option ℕ → ℕ → Naming
   other_param : Naming
+  -- a parameter, by its identifier, of the function with a body whose name is at a token
+  identified_param : Option ℕ → Naming
 
 -- what is begun and not at its end: a scope, a body, a list of parameters, or what gives no constraint
 pub record Round : Type 0 where
@@ -28,10 +30,12 @@ pub record Round : Type 0 where
 pub record Rounds : Type 0 where
   pub around : List Round
   pub body : Option ℕ
+  -- whether some lattice bounds accesses
+  pub access : Bool
 
 -- a unit begins with nothing around it
-abbrev pub file : Rounds
-file = record { around = []; body = None }
+abbrev pub file : Bool → Rounds
+file access = record { around = []; body = None; access = access }
 
 abbrev pub innermost : List Round → Round
 innermost [] = record { naming = a_name; is_quiet = false }
@@ -69,12 +73,27 @@ abbrev pub next_naming : Naming → Naming
 next_naming a_name = a_name
 next_naming (own_param f n) = own_param f (suc n)
 next_naming other_param = other_param
+next_naming (identified_param f) = identified_param f
+
+-- in a list of identifiers
+abbrev pub identified_naming : Naming → Naming
+identified_naming a_name = a_name
+identified_naming (own_param f n) = identified_param f
+identified_naming other_param = other_param
+identified_naming (identified_param f) = identified_param f
 
 abbrev pub next_round : Round → Round
 next_round it = record it { naming = next_naming it.naming }
 
 abbrev pub next_param : Rounds → Rounds
 next_param r = record r { around = changed next_round r.around }
+
+abbrev pub identified_round : Round → Round
+identified_round it = record it { naming = identified_naming it.naming }
+
+-- the innermost list is one of identifiers
+abbrev pub identified : Rounds → Rounds
+identified r = record r { around = changed identified_round r.around }
 
 -- by the declarations that are open
 
@@ -88,6 +107,11 @@ form_round r (forms.VaCopy token last) = r
 form_round r (forms.OffsetMember token name) = r
 form_round r (forms.OffsetIndex token) = r
 form_round r (forms.Offset token) = left r
+form_round r (forms.Compat token) = left r
+form_round r forms.Control = left r
+form_round r forms.NoType = r
+form_round r (forms.Choose token) = r
+form_round r (forms.Generic token count) = r
 
 abbrev pub spec_round : Rounds → SpecOp → Rounds
 spec_round r (specs.Word token) = r
@@ -101,6 +125,9 @@ spec_round r (specs.Untagged kind token) = entered r
 spec_round r specs.BodyEnd = left r
 spec_round r (specs.Enumerator token name) = r
 spec_round r (specs.UnnamedMember token) = r
+spec_round r specs.PartBegin = r
+spec_round r (specs.TypeofEnd token) = r
+spec_round r specs.TypeEnd = r
 spec_round r specs.SpecsEnd = r
 
 abbrev pub declr_round : List OpenDeclaration → Rounds → DeclrOp → Rounds
@@ -112,6 +139,10 @@ declr_round ds r declrs.Pointer = r
 declr_round ds r declrs.Array = r
 declr_round ds r (declrs.Function has_ellipsis) = r
 declr_round ds r declrs.Declare = r
+declr_round ds r declrs.AutoBegin = r
+declr_round ds r (declrs.AutoEnd token) = r
+declr_round ds r (declrs.Identifier token name) = identified r
+declr_round ds r declrs.OldParam = r
 declr_round ds r declrs.Member = r
 declr_round ds r (declrs.TypeName first) = r
 declr_round ds r declrs.DeclarationEnd = r

@@ -1,5 +1,5 @@
 -- Where skeletons begin along a tape, in the order of its ops, by what the loop of shapes knows before each op.
-use Rattle.std.specs.Prelude.{ℕ, not, ◌&&◌, List, [], ◌∷◌, ◌++◌, Option, None, Some}
+use Rattle.std.specs.Prelude.{ℕ, Bool, not, ◌&&◌, List, [], ◌∷◌, ◌++◌, Option, None, Some}
 use Rattle.tape_ops.specs.declared.op.Op.{Op}
 use Rattle.tape_ops.specs.declared.op.Op.TheVariants as ops
 use Rattle.tape_ops.specs.declared.expression.ExprOp.{ExprOp}
@@ -15,11 +15,12 @@ use Rattle.tape_ops.specs.declared.declarator.DeclrOp.TheVariants as declrs
 use Rattle.type_table.specs.Types.{base, void, pointer}
 use Rattle.name_rules.specs.Spellings.{Spelling, Place, place}
 use Rattle.name_rules.specs.Scopes.{Names, declared_at}
+use Rattle.name_rules.specs.Values.{Candidate, pick_shape, is_fresh_pick, has_of_type}
 use Rattle.name_rules.specs.Uses.{use_at, text_type}
 use Rattle.shape_steps.specs.State.{State, nothing, value_at, is_zero_at, type_at, shape_at, type_of_operand, first_operand, operands_below}
-use Rattle.shape_steps.specs.Steps.{step, expr_step}
-use Rattle.row_rules.specs.Starting.{Start, Around, fresh, some_fresh, name_start, use_start, some_place, is_some_pointer, is_fresh_binary, is_fresh_prefix, fresh_where, Having, with_skeleton, of_function, without_skeleton, had_name, first_of}
-use Rattle.row_steps.specs.Rounds.{Naming, a_name, own_param, other_param, Rounds, file, is_quiet, naming, left, round_step}
+use Rattle.shape_steps.specs.Steps.{step, expr_step, twice, chosen, associations}
+use Rattle.row_rules.specs.Starting.{Start, Around, fresh, some_fresh, name_start, use_start, some_place, is_some_pointer, is_fresh_binary, prefix_starts, fresh_where, Having, with_skeleton, of_function, without_skeleton, had_name, first_of, selected_by, candidate_flags, Selection}
+use Rattle.row_steps.specs.Rounds.{Naming, a_name, own_param, other_param, identified_param, Rounds, file, is_quiet, naming, left, round_step}
 
 -- the function that was declared where the name at a token was
 abbrev pub function_at : Spelling → Names → Option ℕ → Option Place
@@ -27,13 +28,14 @@ function_at u s None = None
 function_at u s (Some token) = first_of s (declared_at s.declared (place u token))
 
 abbrev pub around : Spelling → Names → Rounds → Around
-around u s r = record { spelling = u; names = s; enclosing = function_at u s r.body; is_quiet = is_quiet r }
+around u s r = record { spelling = u; names = s; enclosing = function_at u s r.body; is_quiet = is_quiet r; access = r.access }
 
 -- parameters of functions without a body have no skeleton
 abbrev pub naming_has : Spelling → Names → Naming → Having
 naming_has u s a_name = with_skeleton
 naming_has u s (own_param f n) = of_function (function_at u s f)
 naming_has u s other_param = without_skeleton
+naming_has u s (identified_param f) = of_function (function_at u s f)
 
 abbrev pub expr_op_starts : Spelling → Names → State → Rounds → ExprOp → List Start
 expr_op_starts u s st r (exprs.Name is_called token name) = use_start (around u s r) token (use_at s.uses (place u token))
@@ -50,14 +52,53 @@ expr_op_starts u s st r (exprs.Cond has_middle token first last) =
 expr_op_starts u s st r (exprs.Binary sign token first last) =
     fresh_where (is_fresh_binary sign (is_some_pointer (value_at 1 st)) (is_some_pointer (value_at 0 st)))
     (fresh (around u s r) token (base []))
-expr_op_starts u s st r (exprs.Prefix sign token last) =
-    fresh_where (is_fresh_prefix sign) (fresh (around u s r) token (base []))
+expr_op_starts u s st r (exprs.Prefix sign token last aims) =
+    prefix_starts sign (aims && r.access) (around u s r) token (shape_at 0 st)
 expr_op_starts u s st r (exprs.Post sign token first) = []
-expr_op_starts u s st r (exprs.Index token first last) = []
+expr_op_starts u s st r (exprs.Index token first last aims) = []
 expr_op_starts u s st r (exprs.Arg behind first last) = []
 expr_op_starts u s st r (exprs.Call token count) = []
-expr_op_starts u s st r (exprs.Arrow token first last) = []
+expr_op_starts u s st r (exprs.Arrow token first last aims) = []
 expr_op_starts u s st r (exprs.Dot token member name) = []
+expr_op_starts u s st r (exprs.Label token) = fresh (around u s r) token (pointer [] (void []))
+
+abbrev pub selected_among : ℕ → State → List Candidate
+selected_among count st = selected_by (value_at (twice count) st) (associations count st)
+
+abbrev pub selection_at : Spelling → State → ℕ → ℕ → Selection
+selection_at u st token count = record {
+  at = place u token;
+  flags = candidate_flags (has_of_type (value_at (twice count) st) (associations count st)) (value_at (twice count) st) (associations count st);
+}
+
+abbrev pub form_op_selections : Spelling → State → FormOp → List Selection
+form_op_selections u st (forms.Cast token last) = []
+form_op_selections u st (forms.Sizeof token) = []
+form_op_selections u st (forms.StmtExpr has_value token) = []
+form_op_selections u st (forms.VaArg token last) = []
+form_op_selections u st (forms.VaStart token last) = []
+form_op_selections u st (forms.VaCopy token last) = []
+form_op_selections u st (forms.OffsetMember token name) = []
+form_op_selections u st (forms.OffsetIndex token) = []
+form_op_selections u st (forms.Offset token) = []
+form_op_selections u st (forms.Compat token) = []
+form_op_selections u st forms.Control = []
+form_op_selections u st forms.NoType = []
+form_op_selections u st (forms.Choose token) = []
+form_op_selections u st (forms.Generic token count) = selection_at u st token count ∷ []
+
+abbrev pub op_selections : Spelling → State → Op → List Selection
+op_selections u st (ops.Expr op) = []
+op_selections u st (ops.Form op) = form_op_selections u st op
+op_selections u st (ops.Init op) = []
+op_selections u st (ops.Spec op) = []
+op_selections u st (ops.Declr op) = []
+op_selections u st (ops.Stmt op) = []
+
+-- along a tape
+abbrev pub selections_found : Spelling → Names → State → List Op → List Selection
+selections_found u s st [] = []
+selections_found u s st (op ∷ tape) = op_selections u st op ++ selections_found u s (step u s st op) tape
 
 abbrev pub form_op_starts : Spelling → Names → State → Rounds → FormOp → List Start
 form_op_starts u s st r (forms.Cast token last) = some_fresh (around u s r) token (type_at 1 st)
@@ -70,6 +111,13 @@ form_op_starts u s st r (forms.VaCopy token last) = fresh (around u s r) token (
 form_op_starts u s st r (forms.OffsetMember token name) = []
 form_op_starts u s st r (forms.OffsetIndex token) = []
 form_op_starts u s st r (forms.Offset token) = fresh (around u s (left r)) token (base [])
+form_op_starts u s st r (forms.Compat token) = fresh (around u s (left r)) token (base [])
+form_op_starts u s st r forms.Control = []
+form_op_starts u s st r forms.NoType = []
+form_op_starts u s st r (forms.Choose token) =
+    fresh_where (is_fresh_pick (chosen st)) (some_fresh (around u s r) token (pick_shape (chosen st)).type)
+form_op_starts u s st r (forms.Generic token count) =
+    fresh_where (is_fresh_pick (selected_among count st)) (some_fresh (around u s r) token (pick_shape (selected_among count st)).type)
 
 abbrev pub init_op_starts : Spelling → Names → State → Rounds → InitOp → List Start
 init_op_starts u s st r (inits.Value first last) = []
@@ -97,6 +145,9 @@ spec_op_starts u s r (specs.Untagged kind token) = []
 spec_op_starts u s r specs.BodyEnd = []
 spec_op_starts u s r (specs.Enumerator token name) = []
 spec_op_starts u s r (specs.UnnamedMember token) = name_start (around u s r) token
+spec_op_starts u s r specs.PartBegin = []
+spec_op_starts u s r (specs.TypeofEnd token) = []
+spec_op_starts u s r specs.TypeEnd = []
 spec_op_starts u s r specs.SpecsEnd = []
 
 abbrev pub declr_op_starts : Spelling → Names → Rounds → DeclrOp → List Start
@@ -108,6 +159,10 @@ declr_op_starts u s r declrs.Pointer = []
 declr_op_starts u s r declrs.Array = []
 declr_op_starts u s r (declrs.Function has_ellipsis) = []
 declr_op_starts u s r declrs.Declare = []
+declr_op_starts u s r declrs.AutoBegin = []
+declr_op_starts u s r (declrs.AutoEnd token) = []
+declr_op_starts u s r (declrs.Identifier token name) = []
+declr_op_starts u s r declrs.OldParam = []
 declr_op_starts u s r declrs.Member = []
 declr_op_starts u s r (declrs.TypeName first) = []
 declr_op_starts u s r declrs.DeclarationEnd = []
@@ -126,5 +181,5 @@ starts_found u s st r [] = []
 starts_found u s st r (op ∷ tape) =
     op_starts u s st r op ++ starts_found u s (step u s st op) (round_step st.declarations r op) tape
 
-abbrev pub unit_starts : Spelling → Names → List Op → List Start
-unit_starts u s tape = starts_found u s nothing file tape
+abbrev pub unit_starts : Bool → Spelling → Names → List Op → List Start
+unit_starts access u s tape = starts_found u s nothing (file access) tape

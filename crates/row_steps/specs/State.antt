@@ -28,6 +28,8 @@ pub record State : Type 0 where
   pub leaves : List Operand
   -- of the compound literal whose items are gone through
   pub literal : Skel
+  -- the pointer by which the place was come to that is only addressed
+  pub carried : Skel
   -- those that are open, each from its specifiers on
   pub declarations : List OpenDeclaration
   pub rounds : Rounds
@@ -43,8 +45,9 @@ nothing =
       braces = [];
       leaves = [];
       literal = no_skeleton;
+      carried = no_skeleton;
       declarations = [];
-      rounds = file;
+      rounds = file false;
       passed = 0;
     }
 

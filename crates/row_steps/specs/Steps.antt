@@ -1,5 +1,5 @@
 -- What each op of a tape does to the stacks of skeletons: a line an op.
-use Rattle.std.specs.Prelude.{ℕ, suc, Bool, true, false, ◌&&◌, List, [], ◌∷◌, length, drop, Option, None, Some, if◌then◌else◌}
+use Rattle.std.specs.Prelude.{ℕ, zero, suc, Bool, true, false, ◌&&◌, List, [], ◌∷◌, ◌++◌, length, drop, Option, None, Some, if◌then◌else◌}
 use Rattle.tape_ops.specs.declared.op.Op.{Op}
 use Rattle.tape_ops.specs.declared.op.Op.TheVariants as ops
 use Rattle.tape_ops.specs.declared.expression.ExprOp.{ExprOp}
@@ -19,9 +19,11 @@ use Rattle.name_rules.specs.Scopes.{declared_at}
 use Rattle.name_rules.specs.Uses.{use_at, type_named_at}
 use Rattle.qual_types.specs.declared.look.Kind.TheVariants as kinds
 use Rattle.qual_types.specs.Skel.{Skel, flat, ref, fun, struct_of}
+use Rattle.shape_steps.specs.Steps.{twice}
+use Rattle.name_rules.specs.Checks.{is_star}
 use Rattle.shape_steps.specs.State.{OpenDeclaration, changed, without_innermost, declared_last, with_name, with_declared, without_name}
 use Rattle.row_rules.specs.Worlds.{World, at}
-use Rattle.row_rules.specs.Vals.{a_value, a_place, contents, is_ref, result, member_of, member_skel, own, binary_of, branch, prefix_of, used}
+use Rattle.row_rules.specs.Vals.{Candidate, pick_of, index_of, a_value, a_place, contents, is_ref, result, member_of, member_skel, own, binary_of, branch, prefix_of, used}
 use Rattle.row_rules.specs.Rows.{initialised_at, next_of_struct, first_alone, behind_known}
 use Rattle.row_steps.specs.Rounds.{round_step}
 use Rattle.row_steps.specs.State.{Operand, expression, named_type, Braces, whole, untargeted, listed, State, val_at, value_at, is_zero_at, type_at, dropped, operand_put, put, operands_below, operands_within, first_braces}
@@ -124,6 +126,10 @@ closed st = record st { declarations = without_innermost st.declarations }
 
 -- steps
 
+-- a place that is only addressed is come to by this pointer
+abbrev pub carrying : Bool → Skel → State → State
+carrying aims pointer st = if aims then record st { carried = pointer } else st
+
 abbrev pub expr_step : World → State → ExprOp → State
 expr_step w st (exprs.Name is_called token name) = put 0 (used w token (use_at w.names.uses (at w token))) st
 expr_step w st (exprs.Number token) =
@@ -139,15 +145,34 @@ expr_step w st (exprs.Cond has_middle token first last) =
     (a_value (branch w (is_zero_at 1 st) (is_zero_at 0 st) token (value_at 1 st) (value_at 0 st))) st
 expr_step w st (exprs.Binary sign token first last) =
     put 2 (a_value (binary_of sign (value_at 1 st) (value_at 0 st) (own w token))) st
-expr_step w st (exprs.Prefix sign token last) = put 1 (prefix_of w token sign (val_at 0 st)) st
+expr_step w st (exprs.Prefix sign token last aims) =
+    put 1 (prefix_of w token sign (val_at 0 st) aims) (carrying (aims && is_star sign) (value_at 0 st) st)
 expr_step w st (exprs.Post sign token first) = put 1 (a_value (value_at 0 st)) st
-expr_step w st (exprs.Index token first last) =
-    put 2 (a_place (if is_ref (value_at 1 st) then value_at 1 st else value_at 0 st)) st
+expr_step w st (exprs.Index token first last aims) =
+    put 2 (index_of w.spelling.wide (val_at 1 st) (val_at 0 st))
+    (carrying aims (if is_ref (value_at 1 st) then value_at 1 st else value_at 0 st) st)
 expr_step w st (exprs.Arg behind first last) = record st { passed = suc st.passed }
 expr_step w st (exprs.Call token count) =
     put (suc count) (a_value (result (contents (value_at count st)))) (record st { passed = 0 })
-expr_step w st (exprs.Arrow token first last) = put 1 (a_value (contents (value_at 0 st))) st
+expr_step w st (exprs.Arrow token first last aims) =
+    put 1 (a_value (contents (value_at 0 st))) (carrying aims (value_at 0 st) st)
 expr_step w st (exprs.Dot token member name) = put 1 (a_place (member_skel w (value_at 0 st) name)) st
+expr_step w st (exprs.Label token) = put 0 (a_value (own w token)) st
+
+-- picks
+
+abbrev pub candidate_at : ℕ → State → Candidate
+candidate_at n st = record { val = val_at n st; is_zero = is_zero_at n st }
+
+-- of a choice
+abbrev pub chosen : State → List Candidate
+chosen st = candidate_at 1 st ∷ candidate_at 0 st ∷ []
+
+-- of the selection at a token those associations, of which so many are left, that are candidates; the first of these has this number
+abbrev pub selected : World → ℕ → ℕ → ℕ → State → List Candidate
+selected w token i zero st = []
+selected w token i (suc n) st =
+    (if w.candidate (at w token) i then candidate_at (twice n) st ∷ [] else []) ++ selected w token (suc i) n st
 
 abbrev pub form_step : World → State → FormOp → State
 form_step w st (forms.Cast token last) =
@@ -162,6 +187,12 @@ form_step w st (forms.VaCopy token last) = put 2 (a_value (own w token)) st
 form_step w st (forms.OffsetMember token name) = st
 form_step w st (forms.OffsetIndex token) = dropped 1 st
 form_step w st (forms.Offset token) = put 1 (a_value (own w token)) st
+form_step w st (forms.Compat token) = put 2 (a_value (own w token)) st
+form_step w st forms.Control = st
+form_step w st forms.NoType = operand_put 0 (named_type None) st
+form_step w st (forms.Choose token) = put 2 (pick_of (own w token) (chosen st)) st
+form_step w st (forms.Generic token count) =
+    put (suc (twice count)) (pick_of (own w token) (selected w token 0 count st)) st
 
 abbrev pub init_step : World → State → InitOp → State
 init_step w st (inits.Value first last) = dropped 1 st
@@ -189,6 +220,9 @@ spec_step st (specs.Untagged kind token) = st
 spec_step st specs.BodyEnd = st
 spec_step st (specs.Enumerator token name) = st
 spec_step st (specs.UnnamedMember token) = st
+spec_step st specs.PartBegin = st
+spec_step st (specs.TypeofEnd token) = st
+spec_step st specs.TypeEnd = dropped 1 st
 spec_step st specs.SpecsEnd = opened st
 
 abbrev pub declr_step : World → State → DeclrOp → State
@@ -200,6 +234,10 @@ declr_step w st declrs.Pointer = st
 declr_step w st declrs.Array = st
 declr_step w st (declrs.Function has_ellipsis) = st
 declr_step w st declrs.Declare = with_declarations (changed with_declared) st
+declr_step w st declrs.AutoBegin = st
+declr_step w st (declrs.AutoEnd token) = with_declarations (changed with_declared) st
+declr_step w st (declrs.Identifier token name) = st
+declr_step w st declrs.OldParam = with_declarations (changed with_declared) st
 declr_step w st declrs.Member = with_declarations (changed without_name) st
 declr_step w st (declrs.TypeName first) =
     operand_put 0 (named_type (type_named_at w.names.type_names (at w first))) (closed st)

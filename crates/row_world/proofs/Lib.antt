@@ -1,2 +1,3 @@
+mod Accessing
 mod Past
 mod Showing

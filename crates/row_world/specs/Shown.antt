@@ -14,9 +14,10 @@ use Rattle.place_map.specs.Values.{number_at, value_at}
 use Rattle.index_words.specs.Marks.{index_in}
 use Rattle.row_rules.specs.Worlds.{World, skeleton, site_number}
 use Rattle.row_rules.specs.Vals.{Val}
-use Rattle.row_rules.specs.Annotations.{entry_of_view}
+use Rattle.row_rules.specs.Annotations.{entry_of_view, access_lattices}
 use Rattle.row_world.specs.declared.known.Known.{Known}
 use Rattle.row_world.specs.declared.operand.Operand.{Operand}
+use Rattle.place_flags.specs.Flags.{flag_at}
 
 -- a number past every table, which stands for no skeleton
 abbrev pub or_nowhere : Option ℕ → ℕ
@@ -49,6 +50,8 @@ pub record Shows (known : Known) (w : World) : Type 0 where
   pub lattices : w.lattices ≡ known.lattices.now
   pub marks : (p : Place) → value_at known.marks.now p ≡ w.mark p
   pub index : (p : Place) → w.index p ≡ index_in known.prelude.now p
+  pub candidates : (p : Place) (n : ℕ) → flag_at known.candidates.now p n ≡ w.candidate p n
+  pub access : known.access ≡ access_lattices w.lattices
 
 -- the element that a mark names in some lattices, with its attributes
 abbrev pub entry_of : List LatticeView → ℕ × ℕ → Option Entry

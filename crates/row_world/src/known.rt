@@ -5,11 +5,13 @@ ghost use Rattle.name_rules.specs.Spellings.{place};
 ghost use Rattle.row_rules.specs.Worlds.{World, at, skeleton, site_number, all_lattices, span};
 ghost use Rattle.row_rules.specs.Vals.{own};
 ghost use Rattle.row_world.specs.Shown.{Shows, skel};
+ghost use Rattle.row_rules.specs.Annotations.{access_lattices, has_access};
 
 use found_names::FoundNames;
 use index_words::Prelude;
 use lattice_core::Lattices;
 use name_scopes::Place;
+use place_flags::PlaceFlags;
 use place_map::{PlaceIndex, PlaceMap};
 use qual_base::{Elem, LatticeNo, Numbered, SiteId, SkelId, Span, TokenId};
 use qual_types::VarTable;
@@ -29,7 +31,11 @@ pub struct Known<'a> {
     pub starts: &'a PlaceIndex,
     /// The call site at a place.
     pub sites: &'a PlaceMap<SiteId>,
+    /// Which associations of the selection at a place are candidates.
+    pub candidates: &'a PlaceFlags,
     pub lattices: &'a Lattices,
+    /// The lattices with an element that bounds accesses, a bit for each.
+    pub access: u16,
     /// The lattice and the element that the annotation word at a place names.
     pub marks: &'a PlaceMap<(LatticeNo, Elem)>,
     /// The index words of unit 0, where that is a prelude.
@@ -78,6 +84,27 @@ impl<'a> Known<'a> {
             MatchOption result (Unit {0}) (λ site. site ≡ site_number w at.now) }
     {
         self.sites.get(at)
+    }
+
+    /// Whether an association of the selection at a token is a candidate, by its number. Constant time.
+    pub fn is_candidate(&self, token: TokenId, number: usize) -> bool
+        ensures { (w : World) → Shows self.now w → result ≡ w.candidate (at w token) number }
+    {
+        self.candidates.get(&self.place(token), number)
+    }
+
+    /// The lattices with an element that bounds accesses, a bit for each. Constant time.
+    pub fn access_lattices(&self) -> u16
+        ensures { (w : World) → Shows self.now w → result ≡ access_lattices w.lattices }
+    {
+        self.access
+    }
+
+    /// Whether some lattice has an element that bounds accesses. Constant time.
+    pub fn has_access(&self) -> bool
+        ensures { (w : World) → Shows self.now w → result ≡ has_access w.lattices }
+    {
+        self.access != 0
     }
 
     /// All lattices, a bit for each. Constant time.

@@ -11,6 +11,7 @@ mod targets;
 mod values;
 
 pub use known::Known;
+pub use lattices::access_lattices;
 pub use operand::Operand;
 pub use skels::{
     contents, further, is_empty, is_fun, is_nothing, is_ref, nowhere, outcome, parameter, read,

@@ -1,9 +1,10 @@
 //! What operators make of the skeletons of their operands.
 
-ghost use Rattle.std.specs.Prelude.{◌≡◌};
+ghost use Rattle.std.specs.Prelude.{◌≡◌, ◌&&◌, if◌then◌else◌};
 ghost use Rattle.name_rules.specs.Values as rules;
 ghost use Rattle.qual_types.specs.Rows.{skel_of};
 ghost use Rattle.row_rules.specs.Worlds.{World};
+ghost use Rattle.row_rules.specs.Annotations.{has_access};
 ghost use Rattle.row_rules.specs.Vals as vals;
 ghost use Rattle.row_world.specs.Shown.{Shows, skel, val, val_in};
 
@@ -78,13 +79,27 @@ impl<'a> Known<'a> {
         }
     }
 
-    /// The operand that a sign before an operand makes. Constant time.
-    pub fn prefix(&self, token: TokenId, sign: Punct, it: &Operand) -> Operand
+    /// The pointer that `&` makes to a place: fresh, where that was come to by a pointer and some lattice bounds accesses. Constant time.
+    fn address(&self, token: TokenId, it: &Operand, aims: bool) -> Operand
+        ensures { (w : World) → Shows self.now w → val self.now result
+            ≡ if aims && has_access w.lattices then vals.a_value (vals.own w token)
+            else vals.a_value (skel self.now it.now.skel) }
+    {
+        if aims && self.has_access() {
+            Operand::a_value(self.own(token))
+        } else {
+            Operand::a_value(it.skel)
+        }
+    }
+
+    /// The operand that a sign before an operand makes; `aims`: the place of `*` is only addressed, the operand of `&` came to its place
+    /// by a pointer. Constant time.
+    pub fn prefix(&self, token: TokenId, sign: Punct, it: &Operand, aims: bool) -> Operand
         ensures { (w : World) → Shows self.now w →
-            val self.now result ≡ vals.prefix_of w token sign (val self.now it.now) }
+            val self.now result ≡ vals.prefix_of w token sign (val self.now it.now) aims }
     {
         match sign {
-            Punct::Ampersand => Operand::a_value(it.skel),
+            Punct::Ampersand => self.address(token, it, aims),
             Punct::Star => Operand::a_place(value(self.vars, it)),
             Punct::PlusPlus => Operand::a_value(value(self.vars, it)),
             Punct::MinusMinus => Operand::a_value(value(self.vars, it)),

@@ -1,7 +1,8 @@
 -- Declarations are at different places, and at no token of an expression, where the places at which skeletons may begin differ.
-use Rattle.std.proofs.Common.{◌≡◌, ◌⊎◌, inl, inr, ℕ, Bool, true, false, List, [], ◌∷◌, ◌++◌, map, length, Option, None, Some, refl, sym, ap, subst, append_assoc, append-nil}
-use Rattle.std.specs.Prelude.{if◌then◌else◌}
+use Rattle.std.proofs.Common.{◌≡◌, ◌⊎◌, inl, inr, ℕ, Bool, true, false, List, [], ◌∷◌, ◌++◌, map, length, Option, None, Some, refl, sym, ◌∙◌, ap, subst, append_assoc, append-nil}
+use Rattle.std.specs.Prelude.{slice_get, if◌then◌else◌}
 use Rattle.std.specs.List.{last_or}
+use Rattle.c_words.specs.declared.kinds.Keyword.TheVariants as keywords
 use Rattle.tape_ops.specs.declared.op.Op.{Op}
 use Rattle.tape_ops.specs.declared.op.Op.TheVariants as ops
 use Rattle.tape_ops.specs.declared.specifier.SpecOp.{SpecOp}
@@ -10,14 +11,17 @@ use Rattle.tape_ops.specs.declared.declarator.DeclrOp.{DeclrOp}
 use Rattle.tape_ops.specs.declared.declarator.DeclrOp.TheVariants as declrs
 use Rattle.tape_ops.specs.declared.statement.StmtOp.{StmtOp}
 use Rattle.tape_ops.specs.declared.statement.StmtOp.TheVariants as stmts
-use Rattle.type_table.specs.Types.{CType}
+use Rattle.type_table.specs.Types.{CType, words_of}
 use Rattle.name_rules.specs.Spellings.{Spelling, Place, place, Named}
-use Rattle.name_rules.specs.Scopes.{Declared, declared_at, Names, is_place}
-use Rattle.name_rules.specs.Pieces.{decayed}
-use Rattle.name_rules.specs.Declaring.{untagged_number}
+use Rattle.name_rules.specs.Faults.{no_type, defined_twice, fault_where}
+use Rattle.name_rules.specs.Scopes.{Declared, declared_at, Names, is_place, with_faults}
+use Rattle.name_rules.specs.Values.{value}
+use Rattle.name_rules.specs.Pieces.{decayed, with_words}
+use Rattle.name_rules.specs.Declaring.{untagged_number, has_word}
+use Rattle.name_rules.specs.Identifiers.{is_typed, is_unknown, number_of_identifier, old_declared, old_declared_some, old_faults}
 use Rattle.name_rules.specs.Units.{no_names, unit_begun}
 use Rattle.name_steps.specs.State.{OpenDeclaration, State, no_declaration, innermost_or, with_innermost, without_innermost, with_names}
-use Rattle.name_steps.specs.Steps.{declaration, body, parameters, expression_step, specifier_step, declarator_step, is_plain, statement_step, step, run}
+use Rattle.name_steps.specs.Steps.{declaration, body, parameters, expression_step, specifier_step, declarator_step, shape_of_part, bare_or_base, olds, with_olds, name_ended, name_declared, auto_typed, is_counted, is_plain, statement_step, step, run}
 use Rattle.name_steps.specs.Units.{tapes_named}
 use Rattle.name_laws.specs.NameLaws.{tape_of_source, NamesOfTapes}
 use Rattle.c_tape.specs.Tape.{tape_of}
@@ -27,7 +31,7 @@ use Rattle.meaning_laws.specs.Meanings.{Differ}
 use Rattle.key_laws.specs.Keys.{fresh_key, op_key, spec_key, declr_key, key_place, key_places, KeyIsApart, KeysAreApart}
 use Rattle.key_laws.specs.Differing.{keys_among}
 use Rattle.meaning_laws.proofs.Lists.{place_is, other_way}
-use Rattle.meaning_laws.proofs.Growing.{Adds, adds_some, adds_param, adds_member, names, names_kept, used_same, tag_body_same, untagged_same, keep_same, entered_same, expr_declarations, expr_same}
+use Rattle.meaning_laws.proofs.Growing.{Adds, adds_some, adds_param, adds_member, names, names_kept, used_same, tag_body_same, untagged_same, keep_same, old_faults_same, entered_same, expr_declarations, expr_same}
 use Rattle.scope_laws.specs.Apart.{AllApart, DeclarationsDiffer, NamesAreApart}
 use Rattle.scope_laws.proofs.Places.{not_same, last_or_before, tail_has, tail_has_not, head_has_not, has_not, has_not_left, has_not_right, has_left, has_right, has_itself, differ_before}
 
@@ -199,21 +203,40 @@ module _ (u : Spelling) where
         by None k = k
         by (Some it) k = without_open (place u it.token) k
 
+    name_gone : (name : Option Named) (xs : List (Option Named)) (new : List Declared) → Adds u name st.names.declared new →
+        Kept keys fresh st.names.declared (opened u (name ∷ xs)) → Kept keys fresh new (opened u xs)
+    name_gone None xs new a k = subst (λ (it : List Declared). Kept keys fresh it (opened u xs)) (sym a) k
+    name_gone (Some it) xs new a k =
+        subst (λ (new : List Declared). Kept keys fresh new (opened u xs)) (sym a.2)
+        (with_declared a.0 (subst (λ (p : Place). Kept keys fresh st.names.declared (p ∷ opened u xs)) (sym a.1) k))
+
     closing : (xs : List OpenDeclaration) (new : List Declared) →
         Adds u (innermost_or no_declaration xs).name st.names.declared new →
         Kept keys fresh st.names.declared (opened u (names xs)) →
         Kept keys fresh new (opened u (names (without_innermost xs)))
     closing [] new a k = subst (λ (it : List Declared). Kept keys fresh it []) (sym a) k
-    closing (x ∷ xs) new a k = by x.name a k
+    closing (x ∷ xs) new a k = name_gone x.name (names xs) new a k
+
+    -- a name behind a list of identifiers: where none is its own, it is not declared
+    old_closing : (own : Option Place) (t : CType) (xs : List OpenDeclaration) →
+        Kept keys fresh st.names.declared (opened u (names xs)) →
+        Kept keys fresh (old_declared_some u own (innermost_or no_declaration xs).name t (olds st)).names.declared
+        (opened u (names (without_innermost xs)))
+    old_closing own t [] k = k
+    old_closing own t (x ∷ xs) k = by x.name k
       where
-        by : (name : Option Named) → Adds u name st.names.declared new →
-            Kept keys fresh st.names.declared (opened u (name ∷ names xs)) →
-            Kept keys fresh new (opened u (names xs))
-        by None a k = subst (λ (it : List Declared). Kept keys fresh it (opened u (names xs))) (sym a) k
-        by (Some it) a k =
-            subst (λ (new : List Declared). Kept keys fresh new (opened u (names xs))) (sym a.2)
-            (with_declared a.0 (subst (λ (p : Place). Kept keys fresh st.names.declared (p ∷ opened u (names xs)))
-            (sym a.1) k))
+        numbered : (it : Named) (i : Option ℕ) →
+            Kept keys fresh st.names.declared (opened u (Some it ∷ names xs)) →
+            Kept keys fresh (old_declared u own it t i (olds st)).names.declared (opened u (names xs))
+        numbered it None k = without_open (place u it.token) k
+        numbered it (Some i) k =
+            name_gone (Some it) (names xs) _ (adds_param u (Some it) i own t
+            (with_faults (fault_where (is_typed (slice_get (olds st).list i)) (place u it.token) defined_twice) st.names)) k
+
+        by : (name : Option Named) → Kept keys fresh st.names.declared (opened u (name ∷ names xs)) →
+            Kept keys fresh (old_declared_some u own name t (olds st)).names.declared (opened u (names xs))
+        by None k = k
+        by (Some it) k = numbered it (number_of_identifier (u.key it.name) (olds st).list) k
 
     unnamed_top : (xs : List OpenDeclaration) (d : OpenDeclaration) (new : List Declared) → d.name ≡ None →
         Kept keys fresh new (opened u (names (without_innermost xs))) →
@@ -221,6 +244,25 @@ module _ (u : Spelling) where
     unnamed_top [] d new e k = k
     unnamed_top (x ∷ xs) d new e k =
         subst (λ (name : Option Named). Kept keys fresh new (opened u (name ∷ names xs))) (sym e) k
+
+    -- behind a declarator whose name is declared
+    abbrev ended : List OpenDeclaration → List OpenDeclaration
+    ended xs =
+        with_innermost (record (innermost_or no_declaration xs) {
+          is_untagged = false;
+          name = None;
+          declared = (innermost_or no_declaration xs).type;
+        }) xs
+
+    name_closed : (xs : List OpenDeclaration) (new : List Declared) →
+        Adds u (innermost_or no_declaration xs).name st.names.declared new →
+        Kept keys fresh st.names.declared (opened u (names xs)) → Kept keys fresh new (opened u (names (ended xs)))
+    name_closed xs new a k =
+        unnamed_top xs (record (innermost_or no_declaration xs) {
+          is_untagged = false;
+          name = None;
+          declared = (innermost_or no_declaration xs).type;
+        }) new refl (closing xs new a k)
 
     same_names : (new : List Declared) → new ≡ st.names.declared → Kept keys fresh new (opened u (names ds))
     same_names new e = subst (λ (it : List Declared). Kept keys fresh it (opened u (names ds))) (sym e) h
@@ -262,24 +304,56 @@ module _ (u : Spelling) where
     kept_name t =
         subst (λ (xs : List (Option Named)). Kept keys fresh st.names.declared (opened u xs)) (sym (names_kept ds t)) h
 
+    declare_kept : Kept keys fresh (name_declared u st).names.declared (opened u (names (name_declared u st).declarations))
+    declare_kept =
+        name_closed ds _ (adds_some u (untagged_number (declaration st).is_untagged (declaration st).type)
+        (declaration st).name (declaration st).storage (declaration st).declared st.names) h
+
+    auto_kept : (token : ℕ) (t : Option CType) →
+        Kept keys fresh (auto_typed u token t st).names.declared (opened u (names (auto_typed u token t st).declarations))
+    auto_kept token t =
+        name_closed open_ _ (adds_some u (untagged_number d.is_untagged d.type) d.name d.storage d.declared
+        (with_faults (fault_where (is_unknown t) (place u token) no_type) st.names)) (kept_name type)
+      where
+        type : CType
+        type = with_words (words_of (declaration st).type) (bare_or_base t)
+
+        open_ : List OpenDeclaration
+        open_ = with_innermost (record (declaration st) { declared = type }) ds
+
+        d : OpenDeclaration
+        d = innermost_or no_declaration open_
+
+    old_kept : (b : Bool) →
+        Kept keys fresh (if b then name_declared u st else name_ended (with_olds
+        (old_declared_some u (parameters st).own (declaration st).name (decayed (declaration st).declared) (olds st)) st)).names.declared
+        (opened u (names (if b then name_declared u st else name_ended (with_olds
+        (old_declared_some u (parameters st).own (declaration st).name (decayed (declaration st).declared) (olds st)) st)).declarations))
+    old_kept true = declare_kept
+    old_kept false =
+        unnamed_top ds (record (declaration st) {
+          is_untagged = false;
+          name = None;
+          declared = (declaration st).type;
+        }) _ refl (old_closing (parameters st).own (decayed (declaration st).declared) ds h)
+
     declr_kept : (op : DeclrOp) → NoKey (declr_key op) → Next (declr_key op) (declarator_step u st op)
     declr_kept (declrs.DeclName token name) none = only (name_kept token name (none token refl) ds (top_gone ds h))
     declr_kept (declrs.ParamsBegin is_own) none = plain h
     declr_kept declrs.Param none =
         plain (closing ds _ (adds_param u (declaration st).name (length (parameters st).types) (parameters st).own
         (decayed (declaration st).declared) st.names) h)
-    declr_kept declrs.ParamsEnd none = plain (same_names _ (keep_same (parameters st).own st.names))
+    declr_kept declrs.ParamsEnd none =
+        plain (same_names _ (keep_same (parameters st).own (old_faults u (parameters st).identifiers st.names)
+        ∙ old_faults_same u (parameters st).identifiers st.names))
     declr_kept declrs.Pointer none = plain (kept_name _)
     declr_kept declrs.Array none = plain (kept_name _)
     declr_kept (declrs.Function has_ellipsis) none = plain (kept_name _)
-    declr_kept declrs.Declare none =
-        plain (unnamed_top ds (record (declaration st) {
-          is_untagged = false;
-          name = None;
-          declared = (declaration st).type;
-        }) _ refl
-        (closing ds _ (adds_some u (untagged_number (declaration st).is_untagged (declaration st).type)
-        (declaration st).name (declaration st).storage (declaration st).declared st.names) h))
+    declr_kept declrs.Declare none = plain declare_kept
+    declr_kept declrs.AutoBegin none = plain h
+    declr_kept (declrs.AutoEnd token) none = plain (auto_kept token (value (shape_of_part u st)))
+    declr_kept (declrs.Identifier token name) none = plain h
+    declr_kept declrs.OldParam none = plain (old_kept (has_word keywords.Typedef (declaration st).storage))
     declr_kept declrs.Member none =
         plain (unnamed_top ds (record (declaration st) { name = None; declared = (declaration st).type }) _ refl
         (closing ds _ (adds_member u (declaration st).name (body st).members_of (declaration st).declared st.names) h))
@@ -287,7 +361,7 @@ module _ (u : Spelling) where
     declr_kept declrs.DeclarationEnd none = plain (top_gone ds h)
 
     stmt_kept : (op : StmtOp) → Next None (statement_step u st op)
-    stmt_kept stmts.FunctionBody = plain (same_names _ (entered_same (is_plain st) (last_or None st.names.declared) st.names))
+    stmt_kept stmts.FunctionBody = plain (same_names _ (entered_same (is_plain st) (is_counted u st) (last_or None st.names.declared) st.names))
     stmt_kept op = plain h
 
     op_kept : (op : Op) → NoKey (op_key op) →

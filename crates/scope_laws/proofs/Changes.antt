@@ -1,15 +1,17 @@
 -- Each change of names in an item keeps of which places they are, and what it finds is of the item or of the file.
 use Rattle.std.proofs.Common.{◌≡◌, ◌⊎◌, inl, inr, ℕ, Bool, true, false, List, [], ◌∷◌, ◌++◌, Option, None, Some, refl, sym, ◌∙◌, ap, subst, append_assoc, append-nil}
-use Rattle.std.specs.Prelude.{◌&&◌, ◌||◌, if◌then◌else◌}
+use Rattle.std.specs.Prelude.{◌&&◌, ◌||◌, slice_get, if◌then◌else◌}
 use Rattle.c_words.specs.declared.kinds.Keyword.{Keyword}
 use Rattle.c_words.specs.declared.kinds.Keyword.TheVariants as keywords
 use Rattle.tape_ops.specs.declared.specifier.TagKind.{TagKind}
 use Rattle.type_table.specs.Types.{CType, base}
 use Rattle.tape_laws.specs.Marks.{Mark}
 use Rattle.name_rules.specs.Spellings.{Spelling, place, Named, Place}
-use Rattle.name_rules.specs.Scopes.{parameter_role, meaning, sized, body_of, has_body, tag_in, tag_through, Meaning, means_type, means_thing, Scope, Role, typedef_role, object_role, function_role, enumerator_role, Declared, declared_at, Names, NameUse, is_place, thing_of, or_place, innermost, outer_scopes, inner_meaning, is_at_file, owner_at, bound, with_key}
+use Rattle.name_rules.specs.Scopes.{parameter_role, meaning, sized, body_of, has_body, tag_in, tag_through, Meaning, means_type, means_thing, Scope, Role, typedef_role, object_role, function_role, enumerator_role, Declared, declared_at, Names, NameUse, is_place, thing_of, or_place, innermost, outer_scopes, inner_meaning, is_at_file, owner_at, bound, with_key, with_faults}
 use Rattle.name_rules.specs.Pieces.{is_function}
 use Rattle.name_rules.specs.Declaring.{use_by, used, Numbered, found_or_new, tag_used, untagged, opened, tag_known, begun_in, tag_begun, untagged_begun, declared_some, declared_param, declared_member, unnamed_member, the_thing, or_at, linked, thing_where, static_where, owner_where, declaring, declared_here, declared_thing, has_word, declared_typedef, declared_by, typedef_known}
+use Rattle.name_rules.specs.Faults.{defined_twice, fault_where}
+use Rattle.name_rules.specs.Identifiers.{Olds, is_typed, number_of_identifier, old_declared, old_declared_some}
 use Rattle.row_rules.specs.Sites.{has_place}
 use Rattle.meaning_laws.specs.Meanings.{Differ, MeaningIs, ThingsAre, UseIs}
 use Rattle.scope_laws.specs.Staying.{IsOfFile, IsWithin}
@@ -377,6 +379,19 @@ module _ (S : Names) (differ : Differ S.declared) (keys : List Place) where
         by : (b : Bool) → Goes m s (if b then with_key n true name next else next)
         by true = k
         by false = k
+
+  -- a name behind a list of identifiers
+  pub old_goes : (m : List Mark) (olds : Olds) → Fits m olds.names → (u : Spelling) (own : Option Place) (it : Option Named)
+      (t : CType) → NameIn u keys it → ((q : Place) → P q → AtTop N P m q) →
+      Goes m olds.names (old_declared_some u own it t olds).names
+  old_goes m olds h u own None t key inside = (h, adds_none)
+  old_goes m olds h u own (Some it) t key inside = by (number_of_identifier (u.key it.name) olds.list)
+    where
+      by : (i : Option ℕ) → Goes m olds.names (old_declared u own it t i olds).names
+      by None = (h, adds_none)
+      by (Some i) =
+          param_goes m (with_faults (fault_where (is_typed (slice_get olds.list i)) (place u it.token) defined_twice) olds.names)
+          h u (Some it) i own t key inside
 
   pub some_goes : (m : List Mark) (s : Names) → Fits m s → (u : Spelling) (untagged : Option ℕ) (it : Option Named)
       (words : List Keyword) (t : CType) → NameIn u keys it →

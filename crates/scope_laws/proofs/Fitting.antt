@@ -1,11 +1,12 @@
 -- Names along the tape of an item, by what is begun there: of which places they are.
 use Rattle.std.proofs.Common.{◌≡◌, ℕ, Bool, true, false, List, [], ◌∷◌, ◌++◌, length, Option, None, Some, refl}
 use Rattle.std.specs.Prelude.{nat_lt}
-use Rattle.tape_laws.specs.Marks.{Mark, in_declaration, in_params, in_tag, in_scope, in_quiet, in_body}
+use Rattle.tape_laws.specs.Marks.{Mark, in_declaration, in_params, in_tag, in_scope, in_quiet, in_part, in_body}
 use Rattle.type_table.specs.Types.{CType}
 use Rattle.name_rules.specs.Spellings.{Spelling, Place, place, Named}
 use Rattle.name_rules.specs.Scopes.{Scope, Declared, innermost, outer_scopes}
 use Rattle.name_rules.specs.Declaring.{scope_kept}
+use Rattle.name_rules.specs.Identifiers.{OldParameter}
 use Rattle.name_steps.specs.State.{OpenDeclaration, OpenParameters, no_declaration, no_parameters, innermost_or, with_innermost, without_innermost}
 use Rattle.row_rules.specs.Sites.{has_place}
 use Rattle.meaning_laws.specs.Meanings.{NamesAre, ScopesAre}
@@ -22,6 +23,7 @@ module _ (N P : Place → Type 0) where
   Around (in_declaration name last own ∷ m) scopes = Around m scopes
   Around (in_tag ∷ m) scopes = Around m scopes
   Around (in_quiet ∷ m) scopes = Around m scopes
+  Around (in_part ∷ m) scopes = Around m scopes
   Around (in_params own ∷ m) [] = ⊥
   Around (in_params own ∷ m) (scope ∷ scopes) = NamesAre P scope.names × Around m scopes
   Around (in_scope ∷ m) [] = ⊥
@@ -35,6 +37,7 @@ module _ (N P : Place → Type 0) where
   AtTop (in_declaration name last own ∷ m) q = AtTop m q
   AtTop (in_tag ∷ m) q = AtTop m q
   AtTop (in_quiet ∷ m) q = AtTop m q
+  AtTop (in_part ∷ m) q = AtTop m q
   AtTop (in_params own ∷ m) q = P q
   AtTop (in_scope ∷ m) q = P q
   AtTop (in_body ∷ m) q = P q
@@ -46,6 +49,7 @@ module _ (N P : Place → Type 0) where
   around_top (in_declaration name last own ∷ m) scopes h = around_top m scopes h
   around_top (in_tag ∷ m) scopes h = around_top m scopes h
   around_top (in_quiet ∷ m) scopes h = around_top m scopes h
+  around_top (in_part ∷ m) scopes h = around_top m scopes h
   around_top (in_params own ∷ m) [] h = absurd h
   around_top (in_params own ∷ m) (scope ∷ scopes) h = h.0
   around_top (in_scope ∷ m) [] h = absurd h
@@ -61,6 +65,7 @@ module _ (N P : Place → Type 0) where
   around_with (in_declaration name last own ∷ m) scopes top h k = around_with m scopes top h k
   around_with (in_tag ∷ m) scopes top h k = around_with m scopes top h k
   around_with (in_quiet ∷ m) scopes top h k = around_with m scopes top h k
+  around_with (in_part ∷ m) scopes top h k = around_with m scopes top h k
   around_with (in_params own ∷ m) [] top h k = absurd h
   around_with (in_params own ∷ m) (scope ∷ scopes) top h k = (k, h.1)
   around_with (in_scope ∷ m) [] top h k = absurd h
@@ -73,6 +78,7 @@ module _ (N P : Place → Type 0) where
   file_at_top (in_declaration name last own ∷ m) q f h = file_at_top m q f h
   file_at_top (in_tag ∷ m) q f h = file_at_top m q f h
   file_at_top (in_quiet ∷ m) q f h = file_at_top m q f h
+  file_at_top (in_part ∷ m) q f h = file_at_top m q f h
   file_at_top (in_params own ∷ m) q f h = f h
   file_at_top (in_scope ∷ m) q f h = f h
   file_at_top (in_body ∷ m) q f h = f h
@@ -82,6 +88,7 @@ module _ (N P : Place → Type 0) where
   top_within (in_declaration name last own ∷ m) q f h = top_within m q f h
   top_within (in_tag ∷ m) q f h = top_within m q f h
   top_within (in_quiet ∷ m) q f h = top_within m q f h
+  top_within (in_part ∷ m) q f h = top_within m q f h
   top_within (in_params own ∷ m) q f h = h
   top_within (in_scope ∷ m) q f h = h
   top_within (in_body ∷ m) q f h = h
@@ -95,6 +102,7 @@ module _ (N P : Place → Type 0) where
   inside_at_top (in_declaration name last own ∷ m) scopes q h e k = inside_at_top m scopes q h e k
   inside_at_top (in_tag ∷ m) scopes q h e k = inside_at_top m scopes q h e k
   inside_at_top (in_quiet ∷ m) scopes q h e k = inside_at_top m scopes q h e k
+  inside_at_top (in_part ∷ m) scopes q h e k = inside_at_top m scopes q h e k
   inside_at_top (in_params own ∷ m) scopes q h e k = k
   inside_at_top (in_scope ∷ m) scopes q h e k = k
   inside_at_top (in_body ∷ m) scopes q h e k = k
@@ -107,6 +115,7 @@ module _ (N P : Place → Type 0) where
   around_within (in_declaration name last own ∷ m) scopes f h = around_within m scopes f h
   around_within (in_tag ∷ m) scopes f h = around_within m scopes f h
   around_within (in_quiet ∷ m) scopes f h = around_within m scopes f h
+  around_within (in_part ∷ m) scopes f h = around_within m scopes f h
   around_within (in_params own ∷ m) [] f h = absurd h
   around_within (in_params own ∷ m) (scope ∷ scopes) f h = (h.0, around_within m scopes f h.1)
   around_within (in_scope ∷ m) [] f h = absurd h
@@ -144,6 +153,7 @@ module _ (P : Place → Type 0) where
   Keeps (in_body ∷ m) kept = IsAlone m
   Keeps (in_tag ∷ m) kept = Keeps m kept
   Keeps (in_quiet ∷ m) kept = Keeps m kept
+  Keeps (in_part ∷ m) kept = Keeps m kept
   Keeps (in_params own ∷ m) kept = Keeps m kept
   Keeps (in_scope ∷ m) kept = Keeps m kept
 
@@ -159,6 +169,7 @@ module _ (P : Place → Type 0) where
   keeps_some (in_body ∷ m) old scope h k = h
   keeps_some (in_tag ∷ m) old scope h k = keeps_some m old scope h k
   keeps_some (in_quiet ∷ m) old scope h k = keeps_some m old scope h k
+  keeps_some (in_part ∷ m) old scope h k = keeps_some m old scope h k
   keeps_some (in_params own ∷ m) old scope h k = keeps_some m old scope h k
   keeps_some (in_scope ∷ m) old scope h k = keeps_some m old scope h k
 
@@ -178,6 +189,11 @@ abbrev pub owns : List OpenParameters → List (Option Place)
 owns [] = []
 owns (p ∷ ps) = p.own ∷ owns ps
 
+pub owns_same : (ps : List OpenParameters) (its : List OldParameter) →
+    owns (with_innermost (record (innermost_or no_parameters ps) { identifiers = its }) ps) ≡ owns ps
+owns_same [] its = refl
+owns_same (p ∷ ps) its = refl
+
 pub owns_kept : (ps : List OpenParameters) (ts : List CType) →
     owns (with_innermost (record (innermost_or no_parameters ps) { types = ts }) ps) ≡ owns ps
 owns_kept [] ts = refl
@@ -195,6 +211,7 @@ Owning (in_params own ∷ m) (p ∷ ps) = OwnIs own p × Owning m ps
 Owning (in_declaration name last own ∷ m) ps = Owning m ps
 Owning (in_tag ∷ m) ps = Owning m ps
 Owning (in_quiet ∷ m) ps = Owning m ps
+Owning (in_part ∷ m) ps = Owning m ps
 Owning (in_scope ∷ m) ps = Owning m ps
 Owning (in_body ∷ m) ps = Owning m ps
 
@@ -214,10 +231,20 @@ HasLast None ds = Unit {0}
 HasLast (Some token) [] = ⊥
 HasLast (Some token) (d ∷ ds) = Unit {0}
 
-last_more : (last : Option ℕ) (ds more : List Declared) → HasLast last ds → HasLast last (ds ++ more)
-last_more None ds more h = tt
-last_more (Some token) [] more h = absurd h
-last_more (Some token) (d ∷ ds) more h = tt
+-- this is asked for of a declaration of the file only
+abbrev pub HasLastIn : List Mark → Option ℕ → List Declared → Type 0
+HasLastIn [] last ds = HasLast last ds
+HasLastIn (x ∷ m) last ds = Unit {0}
+
+last_more : (m : List Mark) (last : Option ℕ) (ds more : List Declared) → HasLastIn m last ds → HasLastIn m last (ds ++ more)
+last_more (x ∷ m) last ds more h = tt
+last_more [] None ds more h = tt
+last_more [] (Some token) [] more h = absurd h
+last_more [] (Some token) (d ∷ ds) more h = tt
+
+pub last_in : (m : List Mark) (last : Option ℕ) (ds : List Declared) → HasLast last ds → HasLastIn m last ds
+last_in [] last ds h = h
+last_in (x ∷ m) last ds h = tt
 
 module _ (u : Spelling) (keys : List Place) where
   abbrev pub NameIn : Option Named → Type 0
@@ -227,10 +254,11 @@ module _ (u : Spelling) (keys : List Place) where
   abbrev pub Reading : List Mark → List (Option Named) → List Declared → Type 0
   Reading [] xs ds = Unit {0}
   Reading (in_declaration name last own ∷ m) [] ds = ⊥
-  Reading (in_declaration name last own ∷ m) (x ∷ xs) ds = HasName name x × NameIn x × HasLast last ds × Reading m xs ds
+  Reading (in_declaration name last own ∷ m) (x ∷ xs) ds = HasName name x × NameIn x × HasLastIn m last ds × Reading m xs ds
   Reading (in_params own ∷ m) xs ds = Reading m xs ds
   Reading (in_tag ∷ m) xs ds = Reading m xs ds
   Reading (in_quiet ∷ m) xs ds = Reading m xs ds
+  Reading (in_part ∷ m) xs ds = Reading m xs ds
   Reading (in_scope ∷ m) xs ds = Reading m xs ds
   Reading (in_body ∷ m) xs ds = Reading m xs ds
 
@@ -239,24 +267,25 @@ module _ (u : Spelling) (keys : List Place) where
   reading_more [] xs ds more h = tt
   reading_more (in_declaration name last own ∷ m) [] ds more h = absurd h
   reading_more (in_declaration name last own ∷ m) (x ∷ xs) ds more h =
-      (h.0, h.1, last_more last ds more h.2, reading_more m xs ds more h.3)
+      (h.0, h.1, last_more m last ds more h.2, reading_more m xs ds more h.3)
   reading_more (in_params own ∷ m) xs ds more h = reading_more m xs ds more h
   reading_more (in_tag ∷ m) xs ds more h = reading_more m xs ds more h
   reading_more (in_quiet ∷ m) xs ds more h = reading_more m xs ds more h
+  reading_more (in_part ∷ m) xs ds more h = reading_more m xs ds more h
   reading_more (in_scope ∷ m) xs ds more h = reading_more m xs ds more h
   reading_more (in_body ∷ m) xs ds more h = reading_more m xs ds more h
 
   pub reading_top : (name last : Option ℕ) (own : Bool) (m : List Mark) (xs : List OpenDeclaration) (ds : List Declared) →
       Reading (in_declaration name last own ∷ m) (names xs) ds →
       HasName name (innermost_or no_declaration xs).name × NameIn (innermost_or no_declaration xs).name
-      × HasLast last ds × Reading m (names (without_innermost xs)) ds
+      × HasLastIn m last ds × Reading m (names (without_innermost xs)) ds
   reading_top name last own m [] ds h = absurd h
   reading_top name last own m (x ∷ xs) ds h = h
 
   -- another declarator in place of the innermost one
   pub reading_with : (name last name2 last2 : Option ℕ) (own own2 : Bool) (m : List Mark) (xs : List OpenDeclaration)
       (y : OpenDeclaration) (ds : List Declared) → Reading (in_declaration name last own ∷ m) (names xs) ds →
-      HasName name2 y.name → NameIn y.name → HasLast last2 ds →
+      HasName name2 y.name → NameIn y.name → HasLastIn m last2 ds →
       Reading (in_declaration name2 last2 own2 ∷ m) (names (with_innermost y xs)) ds
   reading_with name last name2 last2 own own2 m [] y ds h a b c = absurd h
   reading_with name last name2 last2 own own2 m (x ∷ xs) y ds h a b c = (a, b, c, h.3)

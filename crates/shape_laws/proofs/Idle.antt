@@ -10,10 +10,10 @@ use Rattle.c_syntax.specs.declared.parts.ArrayWord.{ArrayWord}
 use Rattle.c_syntax.specs.declared.parts.ArrayWord.TheVariants as array_words
 use Rattle.tape_ops.specs.declared.op.Op.{Op}
 use Rattle.tape_ops.specs.declared.specifier.TagKind.{TagKind}
-use Rattle.c_tree.specs.Tree.{Exprs, no_exprs, more_exprs, SpecWords, no_words, more_words, SpecWord, storage, thread, inline_word, noreturn, qualifier, basic, struct_type, enum_type, typedef_name, attribute, EnumType, enum_of, Declr, pointer, declr_name, declr_paren, array, params, abs_pointer, abs_paren, abs_array, abs_params, SomeDeclr, no_declr, some_declr, Params, no_params, more_params, Dots}
+use Rattle.c_tree.specs.Tree.{Exprs, no_exprs, more_exprs, SpecWords, no_words, more_words, SpecWord, storage, thread, inline_word, noreturn, qualifier, basic, struct_type, enum_type, typedef_name, attribute, EnumType, enum_of, Declr, pointer, declr_name, declr_paren, array, params, abs_pointer, abs_paren, abs_array, abs_params, SomeDeclr, no_declr, some_declr, Params, no_params, more_params, Dots, identifiers, base_name, typeof_value, typeof_type, align, auto_word}
 use Rattle.c_tree.specs.Firsts as tape_tokens
 use Rattle.c_tape.specs.Tests.{is_bare_word, is_bare, says_none}
-use Rattle.c_tape.specs.Tape.{pointer_words_tape, pointer_word_tape, array_words_tape, array_word_tape, quals_tape, dots_tape, pieces, some_pieces, unnamed_tape, unnamed_word_tape, arguments, tag_tape, body_tape}
+use Rattle.c_tape.specs.Tape.{pointer_words_tape, pointer_word_tape, array_words_tape, array_word_tape, quals_tape, dots_tape, pieces, some_pieces, unnamed_tape, unnamed_word_tape, identifiers_tape, arguments, tag_tape, body_tape}
 use Rattle.c_tape.specs.Tape as tapes
 use Rattle.name_rules.specs.Faults.{Fault}
 use Rattle.type_rules.specs.Tokens as rule_tokens
@@ -71,6 +71,8 @@ module _ (k : Over) where
         both (both (array_words_idle words) (one [] (λ st. refl))) (some_pieces_idle d)
     pieces_idle (abs_params d opening ps dots closing) =
         both (both (dots_idle dots) (one [] (λ st. refl))) (some_pieces_idle d)
+    pieces_idle (identifiers d opening names closing) = both (one [] (λ st. refl)) (pieces_idle d)
+    pieces_idle (base_name token) = nowhere
 
     pub some_pieces_idle : (d : SomeDeclr) → Idle k (some_pieces d)
     some_pieces_idle no_declr = nowhere
@@ -90,10 +92,18 @@ module _ (k : Over) where
   unnamed_word_idle (enum_type e) = nowhere
   unnamed_word_idle (typedef_name name) = nowhere
   unnamed_word_idle (attribute attr) = nowhere
+  unnamed_word_idle (typeof_value keyword opening e closing) = nowhere
+  unnamed_word_idle (typeof_type word opening ws d closing) = nowhere
+  unnamed_word_idle (align attr) = nowhere
+  unnamed_word_idle (auto_word token) = nowhere
 
   pub unnamed_idle : (ws : SpecWords) → Idle k (unnamed_tape ws)
   unnamed_idle no_words = nowhere
   unnamed_idle (more_words word ws) = both (unnamed_word_idle word) (unnamed_idle ws)
+
+  pub identifiers_idle : (names : List Identifier) → Idle k (identifiers_tape names)
+  identifiers_idle [] = nowhere
+  identifiers_idle (name ∷ names) = both (one [] (λ st. refl)) (identifiers_idle names)
 
   pub tag_idle : (alone : Bool) (kind : TagKind) (tag : Option Identifier) → Idle k (tag_tape alone kind tag)
   tag_idle alone kind None = nowhere
@@ -131,6 +141,10 @@ same_word (struct_type word attrs tag body) = refl
 same_word (enum_type e) = same_enum e
 same_word (typedef_name name) = refl
 same_word (attribute attr) = refl
+same_word (typeof_value keyword opening e closing) = refl
+same_word (typeof_type word opening ws d closing) = refl
+same_word (align attr) = refl
+same_word (auto_word token) = refl
 
 pub same_first : (ws : SpecWords) → tape_tokens.first_word ws ≡ rule_tokens.first_word ws
 same_first no_words = refl
@@ -142,11 +156,11 @@ same_count (more_exprs e es) = ap suc (same_count es)
 
 -- a list of parameters that says that there are none has no fault
 
-left : (a b : Bool) → (a && b) ≡ true → a ≡ true
+pub left : (a b : Bool) → (a && b) ≡ true → a ≡ true
 left true b e = refl
 left false b e = e
 
-right : (a b : Bool) → (a && b) ≡ true → b ≡ true
+pub right : (a b : Bool) → (a && b) ≡ true → b ≡ true
 right true b e = e
 right false b e = absurd cc
 
@@ -162,6 +176,10 @@ module _ (k : Over) where
   bare_word (enum_type it) e = absurd cc
   bare_word (typedef_name name) e = refl
   bare_word (attribute attr) e = refl
+  bare_word (typeof_value keyword opening it closing) e = absurd cc
+  bare_word (typeof_type word opening ws d closing) e = absurd cc
+  bare_word (align attr) e = refl
+  bare_word (auto_word token) e = absurd cc
 
   bare_words : (ws : SpecWords) → is_bare ws ≡ true → total k.weight (words_faults k.spelling k.names ws) ≡ 0
   bare_words no_words e = refl

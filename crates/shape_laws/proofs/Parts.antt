@@ -1,29 +1,31 @@
 -- What an op makes of the operands that the tapes of its parts have left, and tapes that are made of others.
 use Rattle.std.proofs.Common.{◌≡◌, ℕ, suc, ◌-◌, Bool, false, List, [], ◌∷◌, ◌++◌, length, drop, Option, None, Some, refl, ◌∙◌, ap, arith}
+use Rattle.c_words.specs.declared.kinds.Punct.{Punct}
+use Rattle.c_words.specs.declared.kinds.Punct.TheVariants as signs
 use Rattle.tape_ops.specs.declared.op.Op.{Op}
 use Rattle.tape_ops.specs.declared.expression.ExprOp.TheVariants as exprs
 use Rattle.tape_ops.specs.declared.form.FormOp.TheVariants as forms
 use Rattle.tape_ops.specs.declared.statement.StmtOp.TheVariants as stmts
 use Rattle.tape_ops.specs.declared.initialiser.InitOp.TheVariants as inits
-use Rattle.c_tree.specs.Tree.{Expr, operation, call, arrow, Operator, comma, assign, cond, binary, no_expr, some_expr, Exprs, SpecWords, InitList, Params}
+use Rattle.c_tree.specs.Tree.{Expr, operation, call, arrow, prefix, generic, Assocs, Operator, comma, assign, cond, binary, no_expr, some_expr, Exprs, SpecWords, InitList, Params}
 use Rattle.c_syntax.specs.declared.parts.Identifier.{Identifier}
 use Rattle.c_tree.specs.Firsts as tape_tokens
 use Rattle.c_tape.specs.Tests.{says_none}
-use Rattle.c_tape.specs.Tape.{expr, form, init, stmt, count, operator_tape, type_name_with, params_with, rule_of_list, quietly}
+use Rattle.c_tape.specs.Tape.{expr, form, init, stmt, prefix_tape, assoc_count, count, operator_tape, type_name_with, params_with, rule_of_list, quietly}
 use Rattle.type_table.specs.Types.{CType, base, void, struct, pointer, function}
 use Rattle.name_rules.specs.Spellings.{place}
 use Rattle.name_rules.specs.Faults.{Fault, fault_where, not_pointer, no_member}
 use Rattle.name_rules.specs.Scopes.{Aggregate}
-use Rattle.name_rules.specs.Values.{a_value, a_place, value, some_target, some_read_from, some_result_type, member_type, lacks_member, is_no_pointer}
+use Rattle.name_rules.specs.Values.{Association, selected_shape, a_value, a_place, value, some_target, some_read_from, some_result_type, member_type, lacks_member, is_no_pointer}
 use Rattle.name_rules.specs.Uses.{type_named_at}
-use Rattle.name_rules.specs.Checks.{call_faults, member_faults}
-use Rattle.type_rules.specs.Shapes.{shape_of}
+use Rattle.name_rules.specs.Checks.{prefix_faults, call_faults, member_faults}
+use Rattle.type_rules.specs.Shapes.{shape_of, associations_of}
 use Rattle.type_rules.specs.Judging.{operator_faults, params_faults, untargeted_faults, list_faults}
 use Rattle.type_rules.specs.Judging as rules
 use Rattle.shape_steps.specs.State.{Operand, expression, shape_of_operand, type_of_operand, whole, State, put, first_operand}
-use Rattle.shape_steps.specs.Steps.{within, type_of_name, literal_put}
-use Rattle.shape_laws.proofs.Goes.{Over, total_append, Goes, as_is, nowhere, one, join, from, next, same, reaching}
-use Rattle.shape_laws.proofs.Stacks.{drop_above, drop_one_more, operand_of, with_expr, with_middle, arguments_on, with_arguments, under_arguments, with_value, type_at_words, leaves_in, with_leaves, declaring}
+use Rattle.shape_steps.specs.Steps.{within, type_of_name, literal_put, twice, associations}
+use Rattle.shape_laws.proofs.Goes.{Over, total_append, Goes, as_is, nowhere, one, join, from, next, same, reaching, swapped}
+use Rattle.shape_laws.proofs.Stacks.{drop_above, drop_one_more, operand_of, with_expr, with_middle, arguments_on, with_arguments, under_arguments, assocs_on, with_assocs, under_assocs, assocs_kept, with_value, type_at_words, leaves_in, with_leaves, declaring}
 use Rattle.shape_laws.proofs.Idle.{either, same_first, same_count, none_said}
 use Rattle.shape_laws.proofs.Rules.{list_rule_goes, list_split}
 
@@ -59,6 +61,48 @@ module _ (k : Over) where
   operator_goes e (cond no_expr colon) token e2 first last = one [] (λ st. refl)
   operator_goes e (cond (some_expr m) colon) token e2 first last = one [] (λ st. refl)
   operator_goes e (binary p) token e2 first last = one [] (λ st. refl)
+
+  -- before an operand, by what the tape of the operand only addressed does and that of it taken
+  pub prefix_goes : (token : ℕ) (p : Punct) (e : Expr) (aims : Bool) {addressed taken : List Op} {fs : List Fault} →
+      Goes k addressed as_is (with_expr k e) fs → Goes k taken as_is (with_expr k e) fs →
+      Goes k (prefix_tape token p e aims addressed taken) as_is (with_expr k (prefix token p e))
+      (prefix_faults (place k.spelling token) p (shape_of k.spelling k.names e) ++ fs)
+  prefix_goes token signs.Ampersand e aims a b =
+      swapped a (one (prefix_faults (place k.spelling token) signs.Ampersand (shape_of k.spelling k.names e)) (λ st. refl))
+  prefix_goes token p e aims a b =
+      swapped b (one (prefix_faults (place k.spelling token) p (shape_of k.spelling k.names e)) (λ st. refl))
+
+  -- selections
+
+  pub generic_goes : (keyword opening : ℕ) (e : Expr) (xs : Assocs) (closing : ℕ) →
+      Goes k (form (forms.Generic keyword (assoc_count xs))) (λ st. with_assocs k xs (with_expr k e st))
+      (with_expr k (generic keyword opening e xs closing)) []
+  generic_goes keyword opening e xs closing = reaching _ (one [] (λ st. refl)) left
+    where
+      below : (st : State) → drop (twice (assoc_count xs)) (assocs_on k xs (operand_of k e ∷ st.operands)) ≡
+          operand_of k e ∷ st.operands
+      below st = under_assocs k xs (operand_of k e ∷ st.operands)
+
+      left : (st : State) → put (suc (twice (assoc_count xs)))
+          (selected_shape (value (shape_of_operand
+          (first_operand (drop (twice (assoc_count xs)) (assocs_on k xs (operand_of k e ∷ st.operands))))))
+          (associations (assoc_count xs) (with_assocs k xs (with_expr k e st))))
+          (with_assocs k xs (with_expr k e st))
+          ≡ with_expr k (generic keyword opening e xs closing) st
+      left st =
+          ap (λ (operands : List Operand). put (suc (twice (assoc_count xs)))
+          (selected_shape (value (shape_of_operand (first_operand operands)))
+          (associations (assoc_count xs) (with_assocs k xs (with_expr k e st))))
+          (with_assocs k xs (with_expr k e st))) (below st)
+          ∙ (ap (λ (all : List Association). put (suc (twice (assoc_count xs)))
+          (selected_shape (value (shape_of k.spelling k.names e)) all) (with_assocs k xs (with_expr k e st)))
+          (assocs_kept k xs (with_expr k e st))
+          ∙ ap (λ (operands : List Operand). record st {
+            operands = expression (selected_shape (value (shape_of k.spelling k.names e))
+                (associations_of k.spelling k.names xs)) false ∷ operands;
+          })
+          (drop_one_more (twice (assoc_count xs)) (assocs_on k xs (operand_of k e ∷ st.operands)) (operand_of k e) st.operands
+          (below st)))
 
   -- calls
 
@@ -101,11 +145,13 @@ module _ (k : Over) where
 
   -- members
 
-  pub arrow_goes : (e : Expr) (token first last : ℕ) (name : Identifier) →
-      Goes k (expr (exprs.Arrow token first last)) (with_expr k e)
+  pub arrow_goes : (e : Expr) (token first last : ℕ) (aims : Bool) (name : Identifier) →
+      Goes k (expr (exprs.Arrow token first last aims)) (with_expr k e)
       (λ st. put 0 (a_place (some_target (value (shape_of k.spelling k.names e)))) st)
       (fault_where (is_no_pointer (value (shape_of k.spelling k.names e))) (place k.spelling token) not_pointer)
-  arrow_goes e token first last name = one _ (λ st. refl)
+  arrow_goes e token first last aims name =
+      one (fault_where (is_no_pointer (value (shape_of k.spelling k.names e))) (place k.spelling token) not_pointer)
+      (λ st. refl)
 
   pub arrow_member_goes : (e : Expr) (token : ℕ) (name : Identifier) →
       Goes k (expr (exprs.Dot token name.token name.name))

@@ -1,6 +1,6 @@
 -- The list of an initialiser in braces, gone through once more: the faults of designators, and what each item initialises.
 use Rattle.std.proofs.Common.{◌≡◌, ℕ, ◌+◌, Bool, true, false, List, [], ◌++◌, Option, None, Some, refl, ap, arith}
-use Rattle.c_tree.specs.Tree.{Init, init_value, init_braced, InitList, init_list, InitItems, no_init_items, more_init_items, Desigs, no_desigs, more_desigs, Desig, member_desig, index_desig}
+use Rattle.c_tree.specs.Tree.{Init, init_value, init_braced, InitList, init_list, InitItems, no_init_items, more_init_items, Desigs, no_desigs, more_desigs, Desig, member_desig, index_desig, range_desig, old_desig}
 use Rattle.c_tape.specs.Tape.{desig_tape, desigs_tape, rule, rule_of_list, rule_of_items}
 use Rattle.type_table.specs.Types.{CType}
 use Rattle.name_rules.specs.Spellings.{place}
@@ -18,6 +18,8 @@ module _ (k : Over) where
   abbrev pub own_faults : Option CType → Desig → List Fault
   own_faults t (member_desig before name) = member_faults k.spelling k.names t name.token name.name
   own_faults t (index_desig opening e closing) = fault_where (is_no_pointer t) (place k.spelling opening) not_pointer
+  own_faults t (range_desig opening e dots e2 closing) = fault_where (is_no_pointer t) (place k.spelling opening) not_pointer
+  own_faults t (old_desig name colon) = member_faults k.spelling k.names t name.token name.name
 
   abbrev pub designator_faults : Option CType → Desigs → List Fault
   designator_faults t no_desigs = []
@@ -51,6 +53,12 @@ module _ (k : Over) where
   desigs_split t (more_desigs (index_desig opening e closing) ds) =
       let others = desigs_split (desig_type k.spelling k.names t (index_desig opening e closing)) ds in
       omega (arith, total_append k.weight)
+  desigs_split t (more_desigs (range_desig opening e dots e2 closing) ds) =
+      let others = desigs_split (desig_type k.spelling k.names t (range_desig opening e dots e2 closing)) ds in
+      omega (arith, total_append k.weight)
+  desigs_split t (more_desigs (old_desig name colon) ds) =
+      let others = desigs_split (desig_type k.spelling k.names t (old_desig name colon)) ds in
+      omega (arith, total_append k.weight)
 
   mutual
     pub init_split : (i : Init) (t : Target) → total k.weight (init_faults k.spelling k.names t i) ≡
@@ -83,6 +91,8 @@ module _ (k : Over) where
   desig_untargeted : (d : Desig) → Goes k (desig_tape d) (within untargeted) (within untargeted) []
   desig_untargeted (member_desig before name) = one [] (λ st. refl)
   desig_untargeted (index_desig opening e closing) = one [] (λ st. refl)
+  desig_untargeted (range_desig opening e dots e2 closing) = one [] (λ st. refl)
+  desig_untargeted (old_desig name colon) = one [] (λ st. refl)
 
   desigs_untargeted : (ds : Desigs) → Goes k (desigs_tape ds) (within untargeted) (within untargeted) []
   desigs_untargeted no_desigs = nowhere
@@ -93,6 +103,8 @@ module _ (k : Over) where
       (within (listed t is_first next (Some (desig_type k.spelling k.names now d)))) (own_faults now d)
   desig_further (member_desig before name) t is_first next now = one _ (λ st. refl)
   desig_further (index_desig opening e closing) t is_first next now = one _ (λ st. refl)
+  desig_further (range_desig opening e dots e2 closing) t is_first next now = one _ (λ st. refl)
+  desig_further (old_desig name colon) t is_first next now = one _ (λ st. refl)
 
   desigs_further : (ds : Desigs) (t : Option CType) (is_first : Bool) (next : ℕ) (now : Option CType) →
       Goes k (desigs_tape ds) (within (listed t is_first next (Some now)))
@@ -116,6 +128,10 @@ module _ (k : Over) where
   desigs_listed (more_desigs (member_desig before name) ds) t is_first next =
       join (one _ (λ st. refl)) (desigs_further ds t is_first _ _)
   desigs_listed (more_desigs (index_desig opening e closing) ds) t is_first next =
+      join (one _ (λ st. refl)) (desigs_further ds t is_first _ _)
+  desigs_listed (more_desigs (range_desig opening e dots e2 closing) ds) t is_first next =
+      join (one _ (λ st. refl)) (desigs_further ds t is_first _ _)
+  desigs_listed (more_desigs (old_desig name colon) ds) t is_first next =
       join (one _ (λ st. refl)) (desigs_further ds t is_first _ _)
 
   target_behind : (ds : Desigs) (t : Option CType) (is_first : Bool) (next : ℕ) →

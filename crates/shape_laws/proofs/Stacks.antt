@@ -1,18 +1,18 @@
 -- The stacks behind parts of a tree.
 use Rattle.std.proofs.Common.{◌≡◌, ℕ, zero, suc, ◌-◌, ◌+◌, Bool, true, false, List, [], ◌∷◌, ◌++◌, length, drop, Option, None, Some, refl, ◌∙◌, ap, arith, length-append}
 use Rattle.std.specs.Prelude.{◌&&◌, if◌then◌else◌}
-use Rattle.c_tree.specs.Tree.{Expr, Operator, comma, assign, cond, binary, SomeExpr, no_expr, some_expr, Exprs, no_exprs, more_exprs, SpecWords, Declr, SomeDeclr, Init, init_value, init_braced, InitList, init_list, InitItems, no_init_items, more_init_items, InitDeclrs, no_init_declrs, more_init_declrs, BlockItems, no_block_items, more_block_items, BlockItem, block_decl, block_stmt, Stmt, block, expr_stmt, attr_stmt, label, case_stmt, default_stmt, if_stmt, switch_stmt, while_stmt, do_stmt, for_stmt, goto_stmt, continue_stmt, break_stmt, return_stmt, asm_stmt}
+use Rattle.c_tree.specs.Tree.{Expr, Operator, comma, assign, cond, binary, SomeExpr, no_expr, some_expr, Exprs, no_exprs, more_exprs, SpecWords, Declr, SomeDeclr, Init, init_value, init_braced, InitList, init_list, InitItems, no_init_items, more_init_items, InitDeclrs, no_init_declrs, more_init_declrs, BlockItems, no_block_items, more_block_items, BlockItem, block_decl, block_stmt, Stmt, block, expr_stmt, attr_stmt, label, case_stmt, default_stmt, if_stmt, switch_stmt, while_stmt, do_stmt, for_stmt, goto_stmt, continue_stmt, break_stmt, return_stmt, asm_stmt, Assocs, no_assocs, more_assocs, Assoc, typed_assoc, default_assoc, block_labels, case_range, goto_value}
 use Rattle.c_tape.specs.Tests.{is_end, ends_in_value}
-use Rattle.c_tape.specs.Tape.{count}
+use Rattle.c_tape.specs.Tape.{count, assoc_count}
 use Rattle.type_table.specs.Types.{CType, void}
 use Rattle.name_rules.specs.Spellings.{place, Named}
 use Rattle.name_rules.specs.Values.{a_value}
 use Rattle.name_rules.specs.Uses.{type_named_at}
 use Rattle.type_rules.specs.Tokens.{first_word, declared_name, some_declared_name}
-use Rattle.type_rules.specs.Shapes.{shape_of, is_zero, items_value}
+use Rattle.type_rules.specs.Shapes.{shape_of, is_zero, associations_of, items_value}
 use Rattle.type_rules.specs.Judging.{declared_type}
 use Rattle.shape_steps.specs.State.{Operand, expression, named_type, State, operand_put, put, value_at}
-use Rattle.shape_steps.specs.Steps.{type_of_name}
+use Rattle.shape_steps.specs.Steps.{type_of_name, twice, associations}
 use Rattle.shape_laws.proofs.Goes.{Over}
 
 -- lists
@@ -78,6 +78,59 @@ module _ (k : Over) where
   abbrev pub type_at_words : SpecWords → Option CType
   type_at_words ws = type_named_at k.names.type_names (place k.spelling (first_word ws))
 
+  -- associations: of each its type, and above that its expression
+
+  abbrev pub assoc_on : Assoc → List Operand → List Operand
+  assoc_on (typed_assoc ws d colon e) operands = operand_of e ∷ named_type (type_at_words ws) ∷ operands
+  assoc_on (default_assoc keyword colon e) operands = operand_of e ∷ named_type None ∷ operands
+
+  abbrev pub assocs_on : Assocs → List Operand → List Operand
+  assocs_on no_assocs operands = operands
+  assocs_on (more_assocs x xs) operands = assocs_on xs (assoc_on x operands)
+
+  abbrev pub with_assoc : Assoc → State → State
+  with_assoc x st = record st { operands = assoc_on x st.operands }
+
+  abbrev pub with_assocs : Assocs → State → State
+  with_assocs xs st = record st { operands = assocs_on xs st.operands }
+
+  under_assoc : (x : Assoc) (n : ℕ) (all operands : List Operand) → drop (twice n) all ≡ assoc_on x operands →
+      drop (twice (suc n)) all ≡ operands
+  under_assoc (typed_assoc ws d colon e) n all operands h =
+      let two_more : twice (suc n) ≡ suc (suc (twice n)) = omega arith in
+      ap (λ (m : ℕ). drop m all) two_more
+      ∙ drop_one_more (suc (twice n)) all _ operands (drop_one_more (twice n) all _ _ h)
+  under_assoc (default_assoc keyword colon e) n all operands h =
+      let two_more : twice (suc n) ≡ suc (suc (twice n)) = omega arith in
+      ap (λ (m : ℕ). drop m all) two_more
+      ∙ drop_one_more (suc (twice n)) all _ operands (drop_one_more (twice n) all _ _ h)
+
+  -- the control lies under the associations
+  pub under_assocs : (xs : Assocs) (operands : List Operand) → drop (twice (assoc_count xs)) (assocs_on xs operands) ≡ operands
+  under_assocs no_assocs operands = refl
+  under_assocs (more_assocs x xs) operands =
+      under_assoc x (assoc_count xs) (assocs_on xs (assoc_on x operands)) operands (under_assocs xs (assoc_on x operands))
+
+  assoc_kept : (x : Assoc) (xs : Assocs) (n : ℕ) (operands : List Operand) (st : State) →
+      drop (twice n) st.operands ≡ assoc_on x operands → associations n st ≡ associations_of k.spelling k.names xs →
+      associations (suc n) st ≡ associations_of k.spelling k.names (more_assocs x xs)
+  assoc_kept (typed_assoc ws d colon e) xs n operands st h others =
+      let type : drop (suc (twice n)) st.operands ≡ named_type (type_at_words ws) ∷ operands =
+      drop_one_more (twice n) st.operands _ _ h in
+      rw (h, type, others) refl
+  assoc_kept (default_assoc keyword colon e) xs n operands st h others =
+      let type : drop (suc (twice n)) st.operands ≡ named_type None ∷ operands =
+      drop_one_more (twice n) st.operands _ _ h in
+      rw (h, type, others) refl
+
+  -- what a selection is made from
+  pub assocs_kept : (xs : Assocs) (st : State) →
+      associations (assoc_count xs) (with_assocs xs st) ≡ associations_of k.spelling k.names xs
+  assocs_kept no_assocs st = refl
+  assocs_kept (more_assocs x xs) st =
+      assoc_kept x xs (assoc_count xs) st.operands (with_assocs (more_assocs x xs) st) (under_assocs xs (assoc_on x st.operands))
+      (assocs_kept xs (with_assoc x st))
+
   -- initialisers
 
   abbrev mutual
@@ -115,10 +168,13 @@ module _ (k : Over) where
   with_stmt kept (break_stmt keyword semi) st = st
   with_stmt kept (return_stmt keyword e semi) st = st
   with_stmt kept (asm_stmt keyword words group semi) st = st
+  with_stmt kept (case_range keyword e dots e2 colon s) st = st
+  with_stmt kept (goto_value keyword star e semi) st = st
 
   abbrev pub with_block_item : Bool → BlockItem → State → State
   with_block_item kept (block_decl d) st = st
   with_block_item kept (block_stmt s) st = with_stmt kept s st
+  with_block_item kept (block_labels keyword names semi) st = st
 
   abbrev pub with_items : Bool → BlockItems → State → State
   with_items kept no_block_items st = st
@@ -142,10 +198,13 @@ module _ (k : Over) where
   no_stmt_kept (break_stmt keyword semi) st = refl
   no_stmt_kept (return_stmt keyword e semi) st = refl
   no_stmt_kept (asm_stmt keyword words group semi) st = refl
+  no_stmt_kept (case_range keyword e dots e2 colon s) st = refl
+  no_stmt_kept (goto_value keyword star e semi) st = refl
 
   pub no_item_kept : (item : BlockItem) (st : State) → with_block_item false item st ≡ st
   no_item_kept (block_decl d) st = refl
   no_item_kept (block_stmt s) st = no_stmt_kept s st
+  no_item_kept (block_labels keyword names semi) st = refl
 
   pub none_kept : (items : BlockItems) (st : State) → with_items false items st ≡ st
   none_kept no_block_items st = refl
@@ -175,6 +234,9 @@ module _ (k : Over) where
   value_kept (more_block_items (block_stmt (break_stmt keyword semi)) no_block_items) st = refl
   value_kept (more_block_items (block_stmt (return_stmt keyword e semi)) no_block_items) st = refl
   value_kept (more_block_items (block_stmt (asm_stmt keyword words group semi)) no_block_items) st = refl
+  value_kept (more_block_items (block_stmt (case_range keyword e dots e2 colon s)) no_block_items) st = refl
+  value_kept (more_block_items (block_stmt (goto_value keyword star e semi)) no_block_items) st = refl
+  value_kept (more_block_items (block_labels keyword names semi) no_block_items) st = refl
   value_kept (more_block_items item (more_block_items item2 items)) st =
       ap (λ (it : State). block_put (ends_in_value (more_block_items item2 items))
       (with_items true (more_block_items item2 items) it)) (no_item_kept item st) ∙

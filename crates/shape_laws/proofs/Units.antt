@@ -1,23 +1,23 @@
 -- Units and programs: what the steps over tapes find are the faults that the definitions on trees say.
 use Rattle.std.proofs.Common.{◌≡◌, ℕ, ◌+◌, true, false, List, [], ◌∷◌, ◌++◌, None, refl, sym, ◌∙◌, ap, arith}
 use Rattle.tape_ops.specs.declared.op.Op.{Op}
-use Rattle.c_tree.specs.Unit.{Item, function_item, decl_item, asm_item, semi_item}
-use Rattle.c_tape.specs.Tape.{expr_tape, item_tape, tape_of}
+use Rattle.c_tree.specs.Unit.{Item, function_item, old_function_item, decl_item, asm_item, semi_item}
+use Rattle.c_tape.specs.Tape.{expr_tape, addressed_tape, old_contents, item_tape, tape_of}
 use Rattle.name_rules.specs.Spellings.{Spelling}
 use Rattle.name_rules.specs.Faults.{Fault, IsFirst}
 use Rattle.name_rules.specs.Scopes.{Names}
 use Rattle.name_rules.specs.Linking.{body_faults}
 use Rattle.type_rules.specs.Judging.{item_faults, items_faults_of}
 use Rattle.type_rules.specs.Program.{Source, names_of, judged, faults_of}
-use Rattle.shape_steps.specs.State.{nothing}
+use Rattle.shape_steps.specs.State.{nothing, opened}
 use Rattle.shape_steps.specs.Steps.{step, run}
 use Rattle.shape_steps.specs.OpFaults.{op_faults}
 use Rattle.shape_steps.specs.Found.{faults_found}
-use Rattle.shape_laws.specs.Laws.{ShapesAreLeft, UnitsLeaveNothing, FaultsAreFound, found_on, all_found, FirstFaultIsFound, NoneIsFound}
+use Rattle.shape_laws.specs.Laws.{ShapesAreLeft, AddressedAreLeft, OldNamesAreLeft, UnitsLeaveNothing, FaultsAreFound, found_on, all_found, FirstFaultIsFound, NoneIsFound}
 use Rattle.shape_laws.proofs.Goes.{Over, total, total_append, Sum, at, behind, behind_op, Goes, as_is, nowhere, one, join, from, next, same, reaching, without}
 use Rattle.shape_laws.proofs.Stacks.{declaring, token_in, none_kept}
 use Rattle.shape_laws.proofs.Idle.{pieces_idle}
-use Rattle.shape_laws.proofs.Trees.{expr_goes, words_go, contents_go, decl_goes, block_items_go}
+use Rattle.shape_laws.proofs.Trees.{expr_goes, words_go, contents_go, old_contents_go, decl_goes, block_items_go}
 use Rattle.shape_laws.proofs.Weights.{SameTotals, same_faults, no_faults}
 
 -- a tape, with states and faults apart
@@ -44,6 +44,14 @@ module _ (k : Over) where
       (one [] (λ st. refl))) (one [] (λ st. refl))) (reaching as_is (block_items_go k items false) (none_kept k items)))
       (one [] (λ st. refl))) (one [] (λ st. refl)))
       (omega (arith, total_append k.weight))
+  item_goes (old_function_item exts ws d attrs ds opening items closing) =
+      same (without (without (next
+      (without (without (without
+      (join (without (words_go k ws false) (one [] (λ st. refl))) (old_contents_go k ds d None))
+      (from (declaring (token_in d) None) (pieces_idle k d)))
+      (one [] (λ st. refl))) (one [] (λ st. refl))) (reaching as_is (block_items_go k items false) (none_kept k items)))
+      (one [] (λ st. refl))) (one [] (λ st. refl)))
+      (omega (arith, total_append k.weight))
   item_goes (decl_item d) = decl_goes k d
   item_goes (asm_item keyword group semi) = nowhere
   item_goes (semi_item semi) = nowhere
@@ -59,7 +67,19 @@ pub shapes_are_left : ShapesAreLeft
 unfolding over
 shapes_are_left u s e called st =
     sym (state_behind (over u s (λ f. 0)) (expr_tape called e) (at st 0)) ∙
-    ap (λ (it : Sum). it.state) ((expr_goes (over u s (λ f. 0)) e called).goes st 0)
+    ap (λ (it : Sum). it.state) ((expr_goes (over u s (λ f. 0)) e called false).goes st 0)
+
+pub addressed_are_left : AddressedAreLeft
+unfolding over
+addressed_are_left u s e st =
+    sym (state_behind (over u s (λ f. 0)) (addressed_tape e) (at st 0)) ∙
+    ap (λ (it : Sum). it.state) ((expr_goes (over u s (λ f. 0)) e false true).goes st 0)
+
+pub old_names_are_left : OldNamesAreLeft
+unfolding over
+old_names_are_left u s ds d st =
+    sym (state_behind (over u s (λ f. 0)) (old_contents ds d) (at (opened st) 0)) ∙
+    ap (λ (it : Sum). it.state) ((old_contents_go (over u s (λ f. 0)) ds d None).goes st 0)
 
 pub units_leave_nothing : UnitsLeaveNothing
 unfolding over

@@ -2,7 +2,7 @@
 use Rattle.std.proofs.Common.{◌≡◌, ◌↔◌, ℕ, zero, suc, ◌+◌, ◌<◌, ◌≤◌, Bool, true, false, Contains, List, [], ◌∷◌, nat_eq, refl, sym, ◌∙◌, ap, arith}
 use Rattle.std.proofs.lemmas.Bool.{eq-eqb, eqb-true}
 use Rattle.std.specs.Prelude.{◌&&◌, if◌then◌else◌, length}
-use Rattle.name_rules.specs.Faults.{Rule, undeclared, not_pointer, not_function, no_member, argument_count, not_place, defined_twice, type_too_large, number, Fault}
+use Rattle.name_rules.specs.Faults.{Rule, undeclared, not_pointer, not_function, no_member, argument_count, not_place, defined_twice, type_too_large, no_type, number, Fault}
 use Rattle.shape_laws.proofs.Goes.{total}
 
 rule_of : ℕ → Rule
@@ -14,7 +14,8 @@ rule_of (suc (suc (suc (suc zero)))) = no_member
 rule_of (suc (suc (suc (suc (suc zero))))) = argument_count
 rule_of (suc (suc (suc (suc (suc (suc zero)))))) = not_place
 rule_of (suc (suc (suc (suc (suc (suc (suc zero))))))) = defined_twice
-rule_of (suc (suc (suc (suc (suc (suc (suc (suc n)))))))) = type_too_large
+rule_of (suc (suc (suc (suc (suc (suc (suc (suc zero)))))))) = type_too_large
+rule_of (suc (suc (suc (suc (suc (suc (suc (suc (suc n))))))))) = no_type
 
 rule_numbered : (r : Rule) → rule_of (number r) ≡ r
 unfolding rule_of
@@ -26,6 +27,7 @@ rule_numbered argument_count = refl
 rule_numbered not_place = refl
 rule_numbered defined_twice = refl
 rule_numbered type_too_large = refl
+rule_numbered no_type = refl
 
 abbrev is_same : Fault → Fault → Bool
 is_same f g = nat_eq f.at.0 g.at.0 && (nat_eq f.at.1 g.at.1 && nat_eq (number f.rule) (number g.rule))

@@ -1,16 +1,17 @@
 -- The steps over a tape give each expression its shape, and find the faults of its unit, as they are said on the tree.
-use Rattle.std.specs.Prelude.{◌≡◌, ◌↔◌, Bool, Contains, List, [], ◌∷◌, ◌++◌}
-use Rattle.c_tree.specs.Tree.{Expr}
+use Rattle.std.specs.Prelude.{◌≡◌, ◌↔◌, ℕ, Bool, Contains, List, [], ◌∷◌, ◌++◌, Option, None, Some}
+use Rattle.c_tree.specs.Tree.{Expr, Declr, Declaration}
 use Rattle.c_tree.specs.Unit.{Item}
-use Rattle.c_tape.specs.Tape.{expr_tape, tape_of}
-use Rattle.name_rules.specs.Spellings.{Spelling}
+use Rattle.c_tape.specs.Tape.{expr_tape, addressed_tape, old_contents, tape_of}
+use Rattle.name_rules.specs.Spellings.{Spelling, Named}
 use Rattle.name_rules.specs.Faults.{Fault, IsFirst}
 use Rattle.name_rules.specs.Scopes.{Names}
 use Rattle.type_rules.specs.Shapes.{shape_of, is_zero}
+use Rattle.type_rules.specs.Tokens.{declared_name}
 use Rattle.name_rules.specs.Linking.{body_faults}
 use Rattle.type_rules.specs.Judging.{items_faults_of}
 use Rattle.type_rules.specs.Program.{Source, names_of, HasNoFault, IsFirstFault}
-use Rattle.shape_steps.specs.State.{expression, State, nothing, operand_put}
+use Rattle.shape_steps.specs.State.{expression, State, nothing, opened, operand_put}
 use Rattle.shape_steps.specs.Steps.{run}
 use Rattle.shape_steps.specs.Found.{faults_found}
 
@@ -19,6 +20,23 @@ abbrev pub ShapesAreLeft : Type 0
 ShapesAreLeft =
     (u : Spelling) (s : Names) (e : Expr) (called : Bool) (st : State)
     → run u s st (expr_tape called e) ≡ operand_put 0 (expression (shape_of u s e) (is_zero u s e)) st
+
+-- and so does that of an expression whose place is only addressed
+abbrev pub AddressedAreLeft : Type 0
+AddressedAreLeft =
+    (u : Spelling) (s : Names) (e : Expr) (st : State)
+    → run u s st (addressed_tape e) ≡ operand_put 0 (expression (shape_of u s e) (is_zero u s e)) st
+
+abbrev pub token_of : Option Named → Option ℕ
+token_of None = None
+token_of (Some it) = Some it.token
+
+-- the tape of a declarator with a list of identifiers, and of the declarations behind that, leaves its name in its declaration
+abbrev pub OldNamesAreLeft : Type 0
+OldNamesAreLeft =
+    (u : Spelling) (s : Names) (ds : List Declaration) (d : Declr) (st : State)
+    → run u s (opened st) (old_contents ds d) ≡
+    record st { declarations = record { name = token_of (declared_name d); declared = None } ∷ st.declarations }
 
 -- the tape of a unit leaves nothing behind
 abbrev pub UnitsLeaveNothing : Type 0

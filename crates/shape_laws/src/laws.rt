@@ -1,10 +1,20 @@
 //! Laws of the steps over tapes, on well-formed trees.
 
-ghost use Rattle.shape_laws.specs.Laws.{ShapesAreLeft, UnitsLeaveNothing, FaultsAreFound, FirstFaultIsFound, NoneIsFound};
+ghost use Rattle.shape_laws.specs.Laws.{ShapesAreLeft, AddressedAreLeft, OldNamesAreLeft, UnitsLeaveNothing, FaultsAreFound, FirstFaultIsFound, NoneIsFound};
 
 /// The tape of an expression leaves its shape, and whether it is a zero.
 pub fn shapes_are_left()
     ensures { ShapesAreLeft }
+{}
+
+/// The tape of an expression whose place is only addressed leaves the same.
+pub fn addressed_are_left()
+    ensures { AddressedAreLeft }
+{}
+
+/// The tape of a declarator with a list of identifiers leaves its name.
+pub fn old_names_are_left()
+    ensures { OldNamesAreLeft }
 {}
 
 /// The tape of a unit leaves the stacks as they were.

@@ -4,5 +4,6 @@
 mod laws;
 
 pub use laws::{
-    faults_are_found, first_fault_is_found, none_is_found, shapes_are_left, units_leave_nothing,
+    addressed_are_left, faults_are_found, first_fault_is_found, none_is_found, old_names_are_left,
+    shapes_are_left, units_leave_nothing,
 };

@@ -28,15 +28,16 @@ expr_op_faults u s st (exprs.Assign sign token first last) =
     fault_where (not (shape_at 1 st).is_place) (place u token) not_place
 expr_op_faults u s st (exprs.Cond has_middle token first last) = []
 expr_op_faults u s st (exprs.Binary sign token first last) = []
-expr_op_faults u s st (exprs.Prefix sign token last) = prefix_faults (place u token) sign (shape_at 0 st)
+expr_op_faults u s st (exprs.Prefix sign token last aims) = prefix_faults (place u token) sign (shape_at 0 st)
 expr_op_faults u s st (exprs.Post sign token first) =
     fault_where (not (shape_at 0 st).is_place) (place u token) not_place
-expr_op_faults u s st (exprs.Index token first last) = index_faults_at (place u token) (shape_at 1 st) (shape_at 0 st)
+expr_op_faults u s st (exprs.Index token first last aims) = index_faults_at u.wide (place u token) (shape_at 1 st) (shape_at 0 st)
 expr_op_faults u s st (exprs.Arg behind first last) = []
 expr_op_faults u s st (exprs.Call token count) = call_faults (place u token) (value_at count st) count
-expr_op_faults u s st (exprs.Arrow token first last) =
+expr_op_faults u s st (exprs.Arrow token first last aims) =
     fault_where (is_no_pointer (value_at 0 st)) (place u token) not_pointer
 expr_op_faults u s st (exprs.Dot token member name) = member_faults u s (value_at 0 st) member name
+expr_op_faults u s st (exprs.Label token) = []
 
 abbrev pub form_op_faults : Spelling → Names → State → FormOp → List Fault
 form_op_faults u s st (forms.Cast token last) = []
@@ -48,6 +49,11 @@ form_op_faults u s st (forms.VaCopy token last) = []
 form_op_faults u s st (forms.OffsetMember token name) = member_faults u s (type_at 0 st) token name
 form_op_faults u s st (forms.OffsetIndex token) = fault_where (is_no_pointer (type_at 1 st)) (place u token) not_pointer
 form_op_faults u s st (forms.Offset token) = []
+form_op_faults u s st (forms.Compat token) = []
+form_op_faults u s st forms.Control = []
+form_op_faults u s st forms.NoType = []
+form_op_faults u s st (forms.Choose token) = []
+form_op_faults u s st (forms.Generic token count) = []
 
 abbrev pub init_op_faults : Spelling → Names → State → InitOp → List Fault
 init_op_faults u s st (inits.Value first last) = []

@@ -2,7 +2,7 @@
 --
 -- The operands of an initialiser in braces stay on the stack until it ends. What its list says of types is judged when the
 -- list is gone through once more.
-use Rattle.std.specs.Prelude.{ℕ, suc, true, false, ◌&&◌, List, [], ◌∷◌, length, drop, Option, None, Some, if◌then◌else◌}
+use Rattle.std.specs.Prelude.{ℕ, zero, suc, ◌+◌, true, false, ◌&&◌, List, [], ◌∷◌, length, drop, Option, None, Some, if◌then◌else◌}
 use Rattle.tape_ops.specs.declared.op.Op.{Op}
 use Rattle.tape_ops.specs.declared.op.Op.TheVariants as ops
 use Rattle.tape_ops.specs.declared.expression.ExprOp.{ExprOp}
@@ -17,10 +17,10 @@ use Rattle.tape_ops.specs.declared.declarator.DeclrOp.{DeclrOp}
 use Rattle.tape_ops.specs.declared.declarator.DeclrOp.TheVariants as declrs
 use Rattle.tape_ops.specs.declared.statement.StmtOp.{StmtOp}
 use Rattle.tape_ops.specs.declared.statement.StmtOp.TheVariants as stmts
-use Rattle.type_table.specs.Types.{CType, base, void}
+use Rattle.type_table.specs.Types.{CType, base, void, pointer}
 use Rattle.name_rules.specs.Spellings.{Spelling, place}
 use Rattle.name_rules.specs.Scopes.{Aggregate, Names, declared_at}
-use Rattle.name_rules.specs.Values.{a_value, a_place, some_target, is_plain_void_pointer, binary_type, cond_type, index_type, some_result_type, member_type, Target, no_target, to, behind_member}
+use Rattle.name_rules.specs.Values.{a_value, a_place, some_target, is_plain_void_pointer, binary_type, cond_type, index_shape, Candidate, Association, pick_shape, selected_shape, some_result_type, member_type, Target, no_target, to, behind_member}
 use Rattle.name_rules.specs.Uses.{use_at, use_shape, type_named_at, prefix_shape, assigned_shape, text_type}
 use Rattle.name_rules.specs.Checks.{type_declared, target_of_item}
 use Rattle.shape_steps.specs.State.{Operand, expression, named_type, type_of_operand, Braces, whole, untargeted, listed, State, shape_at, value_at, is_zero_at, type_at, dropped, operand_put, put, first_operand, operands_below, first_braces, changed, without_innermost, declared_last, with_declarations, opened, with_name, with_declared, without_name, closed}
@@ -109,14 +109,32 @@ expr_step u s st (exprs.Cond has_middle token first last) =
     (a_value (cond_type (is_zero_at 1 st) (is_zero_at 0 st) (value_at 1 st) (value_at 0 st))) st
 expr_step u s st (exprs.Binary sign token first last) =
     put 2 (a_value (binary_type sign (value_at 1 st) (value_at 0 st))) st
-expr_step u s st (exprs.Prefix sign token last) = put 1 (prefix_shape sign (shape_at 0 st)) st
+expr_step u s st (exprs.Prefix sign token last aims) = put 1 (prefix_shape sign (shape_at 0 st)) st
 expr_step u s st (exprs.Post sign token first) = put 1 (a_value (value_at 0 st)) st
-expr_step u s st (exprs.Index token first last) = put 2 (a_place (index_type (value_at 1 st) (value_at 0 st))) st
+expr_step u s st (exprs.Index token first last aims) = put 2 (index_shape u.wide (shape_at 1 st) (shape_at 0 st)) st
 expr_step u s st (exprs.Arg behind first last) = st
 expr_step u s st (exprs.Call token count) = put (suc count) (a_value (some_result_type (value_at count st))) st
-expr_step u s st (exprs.Arrow token first last) = put 1 (a_place (some_target (value_at 0 st))) st
+expr_step u s st (exprs.Arrow token first last aims) = put 1 (a_place (some_target (value_at 0 st))) st
 expr_step u s st (exprs.Dot token member name) =
     put 1 (a_place (member_type s.aggregates (value_at 0 st) (u.key name))) st
+expr_step u s st (exprs.Label token) = put 0 (a_value (Some (pointer [] (void [])))) st
+
+-- picks
+
+abbrev pub twice : ℕ → ℕ
+twice n = n + n
+
+abbrev pub candidate_at : ℕ → State → Candidate
+candidate_at n st = record { shape = shape_at n st; is_zero = is_zero_at n st }
+
+-- of a choice
+abbrev pub chosen : State → List Candidate
+chosen st = candidate_at 1 st ∷ candidate_at 0 st ∷ []
+
+-- the associations of a selection, the last of which is on top: of each its type and its expression
+abbrev pub associations : ℕ → State → List Association
+associations zero st = []
+associations (suc n) st = record { type = type_at (suc (twice n)) st; candidate = candidate_at (twice n) st } ∷ associations n st
 
 abbrev pub form_step : Spelling → Names → State → FormOp → State
 form_step u s st (forms.Cast token last) =
@@ -131,6 +149,12 @@ form_step u s st (forms.OffsetMember token name) =
     operand_put 1 (named_type (member_type s.aggregates (type_at 0 st) (u.key name))) st
 form_step u s st (forms.OffsetIndex token) = operand_put 2 (named_type (some_target (type_at 1 st))) st
 form_step u s st (forms.Offset token) = put 1 (a_value (Some (base []))) st
+form_step u s st (forms.Compat token) = put 2 (a_value (Some (base []))) st
+form_step u s st forms.Control = st
+form_step u s st forms.NoType = operand_put 0 (named_type None) st
+form_step u s st (forms.Choose token) = put 2 (pick_shape (chosen st)) st
+form_step u s st (forms.Generic token count) =
+    put (suc (twice count)) (selected_shape (value_at (twice count) st) (associations count st)) st
 
 abbrev pub init_step : Spelling → Names → State → InitOp → State
 init_step u s st (inits.Value first last) = dropped 1 st
@@ -157,6 +181,9 @@ spec_step st (specs.Untagged kind token) = st
 spec_step st specs.BodyEnd = st
 spec_step st (specs.Enumerator token name) = st
 spec_step st (specs.UnnamedMember token) = st
+spec_step st specs.PartBegin = st
+spec_step st (specs.TypeofEnd token) = st
+spec_step st specs.TypeEnd = dropped 1 st
 spec_step st specs.SpecsEnd = opened st
 
 abbrev pub declr_step : Spelling → Names → State → DeclrOp → State
@@ -168,6 +195,10 @@ declr_step u s st declrs.Pointer = st
 declr_step u s st declrs.Array = st
 declr_step u s st (declrs.Function has_ellipsis) = st
 declr_step u s st declrs.Declare = with_declarations (changed with_declared) st
+declr_step u s st declrs.AutoBegin = st
+declr_step u s st (declrs.AutoEnd token) = with_declarations (changed with_declared) st
+declr_step u s st (declrs.Identifier token name) = st
+declr_step u s st declrs.OldParam = with_declarations (changed with_declared) st
 declr_step u s st declrs.Member = with_declarations (changed without_name) st
 declr_step u s st (declrs.TypeName first) =
     operand_put 0 (named_type (type_named_at s.type_names (place u first))) (closed st)

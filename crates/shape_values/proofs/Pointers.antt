@@ -1,5 +1,5 @@
 -- What rules say of pointers, by what these point at.
-use Rattle.std.proofs.Common.{◌≡◌, ◌≤◌, ◌<◌, ℕ, suc, nat_eq, nat_lt, not, Bool, true, false, List, [], ◌∷◌, length, Option, Some, None, refl, ap, ◌∙◌}
+use Rattle.std.proofs.Common.{◌≡◌, ℕ, suc, true, false, List, [], ◌∷◌, length, Some, None, refl, ap, ◌∙◌}
 use Rattle.type_table.specs.Types.{Words, CType, base, void, struct, pointer, function}
 use Rattle.type_table.specs.Rows.{types_at}
 use Rattle.name_rules.specs.Pieces.{is_function}

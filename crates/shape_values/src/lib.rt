@@ -4,12 +4,14 @@
 
 mod calls;
 mod operators;
+mod picks;
 mod reading;
 mod shape;
 
 pub use calls::{points_to_function, result, takes};
 pub use operators::{assigned, binary, cond, index, prefix};
+pub use picks::{Picked, is_candidate};
 pub use reading::{
-    address, is_no_pointer, is_plain_void_pointer, is_pointer, read_from, target, value,
+    address, is_base, is_no_pointer, is_plain_void_pointer, is_pointer, read_from, target, value,
 };
 pub use shape::{ExprShape, ValueType};

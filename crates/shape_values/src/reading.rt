@@ -54,6 +54,19 @@ pub fn is_no_pointer(types: &TypeTable, value: &Option<ValueType>) -> bool
     }
 }
 
+/// Whether a value is known, and a number. Constant time.
+pub fn is_base(types: &TypeTable, value: &Option<ValueType>) -> bool
+    ensures { result ≡ rules.is_base_value (some_value_type types.now value.now) }
+{
+    match value {
+        Some(ValueType::Of(ty)) => match types.shape(*ty) {
+            Shape::Base => true,
+            Shape::Void | Shape::Ref(_) | Shape::Fun { .. } | Shape::Struct(_) => false,
+        },
+        Some(ValueType::PointerTo(_)) | None => false,
+    }
+}
+
 /// The type of what a pointer points at; no other value has one. Constant time.
 pub fn target_of(types: &TypeTable, value: &ValueType) -> Option<TypeId>
     ensures { some_type types.now result ≡ rules.target (value_type types.now value.now) }

@@ -15,6 +15,7 @@ use Rattle.type_rules.specs.Program.{names_of}
 use Rattle.row_rules.specs.Starting.{is_function_role, is_some_function}
 use Rattle.row_rules.specs.Sites.{functions_of, has_place, owner_by}
 use Rattle.row_rules.specs.Worlds.{number_among, numbered_from}
+use Rattle.row_rules.specs.Annotations.{has_access}
 use Rattle.constraint_rules.specs.Systems.{Program, starts_of, system_of}
 use Rattle.key_laws.specs.Differing.{IsRead, UnitsDiffer}
 use Rattle.meaning_laws.proofs.Lists.{place_is}
@@ -106,7 +107,7 @@ module _ (law : FunctionsOwnTheirs) (units : List UnitText) (p : Program) (read 
   functions = functions_of s
 
   abbrev external : Place → External
-  external = external_in units (numbered_from 0 (starts_of p.sources))
+  external = external_in units (numbered_from 0 (starts_of (has_access p.lattices) p.sources))
 
   -- where an external function was first declared, which is its link
   record IsAt (f : External) : Type 0 where

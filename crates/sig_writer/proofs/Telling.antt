@@ -1,5 +1,5 @@
 -- What is held of nodes is what is found of them.
-use Rattle.std.proofs.Common.{◌≡◌, ℕ, ◌+◌, ◌-◌, ◌<◌, ◌≤◌, inl, inr, List, slice_get, Option, None, Some, Vec, sym, ◌∙◌}
+use Rattle.std.proofs.Common.{◌≡◌, ℕ, ◌+◌, ◌-◌, ◌<◌, ◌≤◌, inl, inr, List, slice_get, Option, Some, Vec, sym, ◌∙◌}
 use Rattle.std.proofs.Common.{ap, subst, arith}
 use Rattle.std.specs.Global.{Global}
 use Rattle.std.specs.List.{Contains}
@@ -10,24 +10,19 @@ use Rattle.sig_writer.specs.declared.says.Elements.{Elements}
 use Rattle.sig_writer.specs.declared.says.Known.{Known}
 use Rattle.sig_writer.specs.Marks.{AreIndicesOf}
 use Rattle.sig_writer.specs.Nodes.{numbers_in, AreNodes}
-use Rattle.sig_writer.specs.Refusing.{is_within}
 use Rattle.sig_writer.specs.Saying.{nothing_said, said_at, says_by, AreElements, AreHeld, AreSaid, IsKnownOf, IsOf}
 use Rattle.sig_writer.specs.Saying.{Saying}
 use Rattle.sig_writer.specs.Signatures.{Found, Says, numbers_of, unless}
 use Rattle.sig_writer.proofs.Indices.{index_is, var_place}
 use Rattle.sig_writer.proofs.Sayings.{said_else, said_here, some_at}
 
-within_of : (lattice : LatticeView) (e : Option ℕ) → IsOf lattice.order e → is_within lattice e
-within_of lattice None is = tt
-within_of lattice (Some e) is = is
-
 abbrev says_with : List ℕ → Option ℕ → Option ℕ → Says
 says_with numbers low high = record { numbers = numbers; low = low; high = high }
 
 abbrev Within : LatticeView → Says → Type 0
-Within lattice s = is_within lattice s.low × is_within lattice s.high
+Within lattice s = IsOf lattice.order s.low × IsOf lattice.order s.high
 
-said_within : (lattice : LatticeView) (s t : Says) → s ≡ t → is_within lattice t.low → is_within lattice t.high →
+said_within : (lattice : LatticeView) (s t : Says) → s ≡ t → IsOf lattice.order t.low → IsOf lattice.order t.high →
     Within lattice s
 said_within lattice s t is low high = subst (λ (s : Says). Within lattice s) (sym is) (low, high)
 
@@ -69,7 +64,7 @@ module _ (known : Known) (nodes : Nodes) (lists : List (Vec ℕ Global)) (elemen
           let said = said_of v (v - nodes.from) (omega (arith, from)) (omega (arith, from, to)) in
           let is = (found.are (v - nodes.from) said.1 said.3).within in
           said_within known.lattice.now (said_at View v) (says_with said.0.items said.1.low said.1.high) said.4
-          (within_of known.lattice.now said.1.low is.0) (within_of known.lattice.now said.1.high is.1)
+          is.0 is.1
       | inr past ↦
           silent_within known.lattice.now (said_at View v) (said_else nodes lists elements are_held v (inr past))
     ]

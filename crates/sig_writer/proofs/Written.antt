@@ -130,7 +130,7 @@ module _ (sys : System) (lattice : LatticeView) (functions : List External) (row
       found = found;
       none = subst (λ (l : LatticeView). first_refusal it l functions ≡ None) lent.lattice_is (said it is_known).0;
       is = subst (λ (l : LatticeView). text ≡ lines_of it l functions) lent.lattice_is (said it is_known).1;
-      serves = λ suits. it_serves;
+      serves = it_serves;
     }
 
   by_fault : (fault : SigFault) → FaultOr fault (first_refusal it lattice functions) →

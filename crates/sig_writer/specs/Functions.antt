@@ -4,6 +4,7 @@ use Rattle.std.specs.List.{filter}
 use Rattle.name_rules.specs.Spellings.{Place}
 use Rattle.name_rules.specs.Scopes.{Names, declared_at, is_place}
 use Rattle.name_rules.specs.Linking.{is_external, link_of}
+use Rattle.row_rules.specs.Annotations.{has_access}
 use Rattle.row_rules.specs.Starting.{is_some_function}
 use Rattle.row_rules.specs.Worlds.{Numbered, numbered_from, skeleton_among}
 use Rattle.type_rules.specs.Program.{names_of}
@@ -32,4 +33,4 @@ external_in units skeletons p = record {
 
 -- the external functions of a program, by its units
 abbrev pub externals_in : List UnitText → Program → List External
-externals_in units p = map (external_in units (numbered_from 0 (starts_of p.sources))) (functions_in (names_of p.sources))
+externals_in units p = map (external_in units (numbered_from 0 (starts_of (has_access p.lattices) p.sources))) (functions_in (names_of p.sources))

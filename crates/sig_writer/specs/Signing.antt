@@ -1,5 +1,5 @@
 -- What comes of a library that is accepted: the lines of its functions, or the first function that has no signature.
-use Rattle.std.specs.Prelude.{◌≡◌, ℕ, List, ◌∷◌, [], None, Some}
+use Rattle.std.specs.Prelude.{◌≡◌, ℕ, List, None, Some}
 use Rattle.std.specs.List.{flat_map}
 use Rattle.lattice_core.specs.View.{LatticeView}
 use Rattle.flow_graph.specs.System.{System}
@@ -8,7 +8,6 @@ use Rattle.sig_writer.specs.declared.lines.SigFault.TheVariants.{Unwritable, NoS
 use Rattle.sig_writer.specs.Found.{IsFoundAt}
 use Rattle.sig_writer.specs.Parts.{Serves}
 use Rattle.sig_writer.specs.Signatures.{External, Found, Refusal, NoPlace, NoWord, first_refusal, lines_of, nodes_of}
-use Rattle.sig_writer.specs.Suits.{Suits}
 
 -- what is right of all nodes
 abbrev pub IsFoundIn : System → LatticeView → List External → Found → Type 0
@@ -20,7 +19,7 @@ pub record IsWritten (sys : System) (lattice : LatticeView) (functions : List Ex
   pub found : IsFoundIn sys lattice functions it
   pub none : first_refusal it lattice functions ≡ None
   pub is : text ≡ lines_of it lattice functions
-  pub serves : Suits sys (lattice ∷ []) → Serves sys lattice.order it functions
+  pub serves : Serves sys lattice.order it functions
 
 pub record IsRefused (sys : System) (lattice : LatticeView) (functions : List External) (refusal : Refusal) : Type 0 where
   pub it : Found

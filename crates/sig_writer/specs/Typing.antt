@@ -2,13 +2,11 @@
 use Rattle.std.specs.Prelude.{ℕ, Bool, true, false, List, [], ◌++◌, codes}
 use Rattle.std.specs.List.{flat_map}
 use Rattle.std.specs.Fmt.{decimal}
-use Rattle.lattice_core.specs.View.{LatticeView}
 use Rattle.qual_types.specs.Skel.{Skel, flat, ref, fun}
-use Rattle.sig_writer.specs.declared.says.Elements.{Elements}
 use Rattle.sig_writer.specs.declared.types.Typed.{Typed}
 use Rattle.sig_writer.specs.declared.types.Space.{Space}
 use Rattle.sig_writer.specs.declared.types.Space.TheVariants.{Before, Behind}
-use Rattle.sig_writer.specs.Refusing.{are_within, AreAllWithin}
+use Rattle.sig_writer.specs.Refusing.{AreAllWithin}
 use Rattle.sig_writer.specs.Saying.{said_at}
 use Rattle.sig_writer.specs.Signatures.{words_of}
 
@@ -35,9 +33,6 @@ is_fun (fun v ps r e) = true
 -- the words of a variable of a function's type
 abbrev pub words_by : Typed → ℕ → List (List ℕ)
 words_by typed v = words_of typed.lattice.now (said_at typed.said.now v)
-
-abbrev pub elements_within : LatticeView → Elements → Type 0
-elements_within lattice it = are_within lattice it
 
 -- what is said are elements of the lattice
 abbrev pub AreTyped : Typed → Type 0

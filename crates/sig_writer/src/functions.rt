@@ -13,11 +13,11 @@ ghost use Rattle.name_links.specs.Tables.{AreStatics};
 ghost use Rattle.unit_names.specs.Shown.{names_of};
 
 use c_types::Program;
+use found_names::FoundNames;
 use name_scopes::Place;
 use qual_base::{NameId, NoMemory, Numbered, UnitNo};
 use std::alloc::Global;
 use std::collections::HashMap;
-use unit_shapes::FoundNames;
 use unit_starts::is_function;
 
 /// The units, and the names that a declaration there has `static` with.

@@ -4,8 +4,8 @@ ghost use Rattle.std.specs.Prelude.{◌≡◌, ◌<◌};
 ghost use Rattle.lattice_core.specs.Order.{size};
 ghost use Rattle.qual_types.specs.Rows.{params_from, skel_of};
 ghost use Rattle.sig_writer.specs.Signatures as rules;
-ghost use Rattle.sig_writer.specs.Saying.{some_says};
-ghost use Rattle.sig_writer.specs.Refusing.{are_signed, are_within, refusal_in, some_unplaced, some_unsigned};
+ghost use Rattle.sig_writer.specs.Saying.{some_says, AreOf};
+ghost use Rattle.sig_writer.specs.Refusing.{refusal_in, some_unplaced, some_unsigned, AreAllWithin};
 
 use crate::says::{Elements, Said};
 use lattice_core::{Lattice, Sign};
@@ -85,7 +85,7 @@ fn has_sign(lattice: &Lattice, sign: Sign, elem: Elem) -> bool
 
 /// Whether words by elements give the constant of the join and the bound of the meet, and nothing else.
 fn has_words(lattice: &Lattice, elements: Elements) -> bool
-    requires { are_within lattice.now elements }
+    requires { AreOf lattice.now.order elements }
     ensures { result ≡ rules.has_words lattice.now elements.low elements.high }
 {
     match (elements.low, elements.high) {
@@ -104,7 +104,7 @@ fn has_words(lattice: &Lattice, elements: Elements) -> bool
 
 /// Whether some node lacks words. Linear in the nodes.
 fn is_some_unsigned(lattice: &Lattice, said: &Said) -> bool
-    requires { are_signed lattice.now said.now }
+    requires { AreAllWithin lattice.now said.now }
     ensures { result ≡ some_unsigned lattice.now said.now }
 {
     let nodes = said.nodes();
@@ -119,7 +119,7 @@ fn is_some_unsigned(lattice: &Lattice, said: &Said) -> bool
 /// Why a function has no signature, where it has none, by its skeleton and what the nodes of that say. Linear in them, and takes no
 /// memory.
 pub fn refusal_of(lattice: &Lattice, vars: &VarTable, said: &Said, at: SkelId) -> Option<Refusal>
-    requires elements { are_signed lattice.now said.now }
+    requires elements { AreAllWithin lattice.now said.now }
     ensures { result ≡ refusal_in lattice.now said.now (skel_of vars.now at) }
 {
     if is_some_unplaced(vars, said, at) {

@@ -5,7 +5,8 @@ ghost use Rattle.lattice_core.specs.Order.{size};
 ghost use Rattle.qual_types.specs.Rows.{params_from, skel_of};
 ghost use Rattle.sig_writer.specs.Signatures as rules;
 ghost use Rattle.sig_writer.specs.Halves.{before_text, behind_text, bracket, gap};
-ghost use Rattle.sig_writer.specs.Typing.{each_in, elements_within, is_fun, numbers_text};
+ghost use Rattle.sig_writer.specs.Saying.{AreOf};
+ghost use Rattle.sig_writer.specs.Typing.{each_in, is_fun, numbers_text};
 ghost use Rattle.sig_writer.specs.Typing.{space_before, space_behind, words_by, AreTyped};
 
 use crate::says::{Elements, Said};
@@ -92,7 +93,7 @@ fn put_element_words(
     elements: Elements,
     space: Space,
 ) -> Result<(), NoMemory>
-    requires { elements_within typed.now.lattice.now elements }
+    requires { AreOf typed.now.lattice.now.order elements }
     ensures { OnOk result (out.new.items ≡ out.old.items ++ each_in space
         (rules.element_words typed.now.lattice.now elements.low elements.high)) }
 {

@@ -12,6 +12,7 @@ pub record Stacked : Type 0 where
   pub braces : List Braces
   pub leaves : List Operand
   pub literal : Option ℕ
+  pub carried : Option ℕ
   pub declarations : List OpenDeclaration
   pub rounds : Rounds
   pub passed : ℕ
@@ -24,4 +25,4 @@ is_last (braces.Listed skel is_first next named) = nat_eq next 18446744073709551
 
 abbrev pub nothing : Stacked
 nothing =
-    record { operands = []; bases = []; braces = []; leaves = []; literal = None; declarations = []; rounds = file; passed = 0 }
+    record { operands = []; bases = []; braces = []; leaves = []; literal = None; carried = None; declarations = []; rounds = file false; passed = 0 }

@@ -54,6 +54,7 @@ state_in t st =
       braces = map (braces_in t) st.braces;
       leaves = map (operand_in t) st.leaves;
       literal = literal_in t st.literal;
+      carried = literal_in t st.carried;
       declarations = map open_as st.declarations;
       rounds = st.rounds;
       passed = st.passed;

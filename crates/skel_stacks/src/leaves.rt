@@ -58,6 +58,27 @@ impl Stacks {
         }
     }
 
+    /// The pointer by which the place was come to that is only addressed. Constant time.
+    pub fn carried(&self, vars: &VarTable) -> SkelId
+        ensures { (types : List row.Row) → skel_of vars.now result
+            ≡ (state_in (tables vars.now types) self.now).carried }
+    {
+        match self.carried {
+            Some(skel) => skel,
+            None => nowhere(vars),
+        }
+    }
+
+    /// A place that is only addressed is come to by this pointer, where it is one. Constant time.
+    pub fn carry(&mut self, aims: bool, pointer: SkelId)
+        ensures { (t : Tables) → state_in t self.new
+            ≡ steps.carrying aims (skel_in t pointer) (state_in t self.old) }
+    {
+        if aims {
+            self.carried = Some(pointer);
+        }
+    }
+
     /// The next operand that an item takes. Constant time.
     #[tactic(auto, using(crate::proofs::Lists::operand_found))]
     fn leaf(&self) -> Operand

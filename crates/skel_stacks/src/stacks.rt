@@ -43,6 +43,7 @@ pub struct Stacks {
     pub(crate) braces: Stack<Braces>,
     pub(crate) leaves: Stack<Operand>,
     pub(crate) literal: Option<SkelId>,
+    pub(crate) carried: Option<SkelId>,
     pub(crate) declarations: Stack<OpenDeclaration>,
     pub(crate) rounds: Rounds,
     pub(crate) passed: u32,
@@ -59,6 +60,7 @@ impl Model for Stacks {
       braces = s.braces;
       leaves = s.leaves;
       literal = s.literal;
+      carried = s.carried;
       declarations = s.declarations;
       rounds = s.rounds;
       passed = s.passed;
@@ -76,8 +78,9 @@ impl Stacks {
             braces: Stack::new(alloc),
             leaves: Stack::new(alloc),
             literal: None,
+            carried: None,
             declarations: Stack::new(alloc),
-            rounds: Rounds::new(alloc),
+            rounds: Rounds::new(alloc, false),
             passed: 0,
         }
     }

@@ -1,5 +1,5 @@
 -- What is around an op is changed apart from the stacks.
-use Rattle.std.proofs.Common.{◌≡◌, ◌∙◌, ℕ, true, false, refl, ap}
+use Rattle.std.proofs.Common.{◌≡◌, ◌∙◌, ℕ, zero, suc, Bool, true, false, ◌&&◌, if◌then◌else◌, List, [], ◌∷◌, ◌++◌, refl, ap}
 use Rattle.tape_ops.specs.declared.op.Op.{Op}
 use Rattle.tape_ops.specs.declared.op.Op.TheVariants as ops
 use Rattle.tape_ops.specs.declared.expression.ExprOp.{ExprOp}
@@ -14,10 +14,27 @@ use Rattle.tape_ops.specs.declared.declarator.DeclrOp.{DeclrOp}
 use Rattle.tape_ops.specs.declared.declarator.DeclrOp.TheVariants as declrs
 use Rattle.tape_ops.specs.declared.statement.StmtOp.{StmtOp}
 use Rattle.tape_ops.specs.declared.statement.StmtOp.TheVariants as stmts
-use Rattle.row_rules.specs.Worlds.{World}
+use Rattle.qual_types.specs.Skel.{Skel}
+use Rattle.name_rules.specs.Checks.{is_star}
+use Rattle.shape_steps.specs.Steps.{twice}
+use Rattle.row_rules.specs.Worlds.{World, at}
+use Rattle.row_rules.specs.Vals.{Val, Candidate, a_value, contents, is_ref, index_of, own, pick_of, prefix_of}
 use Rattle.row_steps.specs.Rounds.{Rounds}
-use Rattle.row_steps.specs.State.{State}
-use Rattle.row_steps.specs.Steps.{expr_step, form_step, init_step, spec_step, declr_step, stmt_step, stack_step, with_round_step, step}
+use Rattle.row_steps.specs.State.{State, put, val_at, value_at}
+use Rattle.row_steps.specs.Steps.{expr_step, form_step, init_step, spec_step, declr_step, stmt_step, stack_step, with_round_step, step, carrying, candidate_at, selected}
+
+-- also where a pointer is kept on the way
+aside : (b : Bool) (pointer : Skel) (n : ℕ) (v : Val) (st : State) (r : Rounds) →
+    put n v (carrying b pointer (record st { rounds = r })) ≡ record (put n v (carrying b pointer st)) { rounds = r }
+aside true pointer n v st r = refl
+aside false pointer n v st r = refl
+
+selected_apart : (w : World) (token i n : ℕ) (st : State) (r : Rounds) →
+    selected w token i n (record st { rounds = r }) ≡ selected w token i n st
+selected_apart w token i zero st r = refl
+selected_apart w token i (suc n) st r =
+    ap (λ (others : List Candidate). (if w.candidate (at w token) i then candidate_at (twice n) st ∷ [] else []) ++ others)
+    (selected_apart w token (suc i) n st r)
 
 expr_apart : (w : World) (st : State) (r : Rounds) (op : ExprOp) →
     expr_step w (record st { rounds = r }) op ≡ record (expr_step w st op) { rounds = r }
@@ -31,13 +48,18 @@ expr_apart w st r (exprs.Comma a) = refl
 expr_apart w st r (exprs.Assign a b c d) = refl
 expr_apart w st r (exprs.Cond a b c d) = refl
 expr_apart w st r (exprs.Binary a b c d) = refl
-expr_apart w st r (exprs.Prefix a b c) = refl
+expr_apart w st r (exprs.Prefix a b c aims) =
+    aside (aims && is_star a) (value_at 0 st) 1 (prefix_of w b a (val_at 0 st) aims) st r
 expr_apart w st r (exprs.Post a b c) = refl
-expr_apart w st r (exprs.Index a b c) = refl
+expr_apart w st r (exprs.Index a b c aims) =
+    aside aims (if is_ref (value_at 1 st) then value_at 1 st else value_at 0 st) 2
+    (index_of w.spelling.wide (val_at 1 st) (val_at 0 st)) st r
 expr_apart w st r (exprs.Arg a b c) = refl
 expr_apart w st r (exprs.Call a b) = refl
-expr_apart w st r (exprs.Arrow a b c) = refl
+expr_apart w st r (exprs.Arrow a b c aims) =
+    aside aims (value_at 0 st) 1 (a_value (contents (value_at 0 st))) st r
 expr_apart w st r (exprs.Dot a b c) = refl
+expr_apart w st r (exprs.Label a) = refl
 
 form_apart : (w : World) (st : State) (r : Rounds) (op : FormOp) →
     form_step w (record st { rounds = r }) op ≡ record (form_step w st op) { rounds = r }
@@ -51,6 +73,13 @@ form_apart w st r (forms.VaCopy a b) = refl
 form_apart w st r (forms.OffsetMember a b) = refl
 form_apart w st r (forms.OffsetIndex a) = refl
 form_apart w st r (forms.Offset a) = refl
+form_apart w st r (forms.Compat a) = refl
+form_apart w st r forms.Control = refl
+form_apart w st r forms.NoType = refl
+form_apart w st r (forms.Choose a) = refl
+form_apart w st r (forms.Generic token count) =
+    ap (λ (all : List Candidate). put (suc (twice count)) (pick_of (own w token) all) (record st { rounds = r }))
+    (selected_apart w token 0 count st r)
 
 init_apart : (w : World) (st : State) (r : Rounds) (op : InitOp) →
     init_step w (record st { rounds = r }) op ≡ record (init_step w st op) { rounds = r }
@@ -79,6 +108,9 @@ spec_apart st r (specs.Untagged a b) = refl
 spec_apart st r specs.BodyEnd = refl
 spec_apart st r (specs.Enumerator a b) = refl
 spec_apart st r (specs.UnnamedMember a) = refl
+spec_apart st r specs.PartBegin = refl
+spec_apart st r (specs.TypeofEnd a) = refl
+spec_apart st r specs.TypeEnd = refl
 spec_apart st r specs.SpecsEnd = refl
 
 declr_apart : (w : World) (st : State) (r : Rounds) (op : DeclrOp) →
@@ -91,6 +123,10 @@ declr_apart w st r declrs.Pointer = refl
 declr_apart w st r declrs.Array = refl
 declr_apart w st r (declrs.Function a) = refl
 declr_apart w st r declrs.Declare = refl
+declr_apart w st r declrs.AutoBegin = refl
+declr_apart w st r (declrs.AutoEnd a) = refl
+declr_apart w st r (declrs.Identifier a b) = refl
+declr_apart w st r declrs.OldParam = refl
 declr_apart w st r declrs.Member = refl
 declr_apart w st r (declrs.TypeName a) = refl
 declr_apart w st r declrs.DeclarationEnd = refl

@@ -28,6 +28,12 @@ pub(crate) fn step_specifier(stacks: &mut Stacks, op: SpecOp) -> Result<(), NoMe
         SpecOp::BodyEnd => Ok(()),
         SpecOp::Enumerator { .. } => Ok(()),
         SpecOp::UnnamedMember { .. } => Ok(()),
+        SpecOp::PartBegin => Ok(()),
+        SpecOp::TypeofEnd { .. } => Ok(()),
+        SpecOp::TypeEnd => {
+            stacks.drop_operands(1);
+            Ok(())
+        }
         SpecOp::SpecsEnd => stacks.open(),
     }
 }
@@ -63,6 +69,10 @@ pub(crate) fn step_declarator(
         DeclrOp::Array => Ok(()),
         DeclrOp::Function { .. } => Ok(()),
         DeclrOp::Declare => stacks.declare(),
+        DeclrOp::AutoBegin => Ok(()),
+        DeclrOp::AutoEnd { .. } => stacks.declare(),
+        DeclrOp::Identifier { .. } => Ok(()),
+        DeclrOp::OldParam => stacks.declare(),
         DeclrOp::Member => stacks.leave_name(),
         DeclrOp::TypeName { first } => type_name(known, stacks, first),
         DeclrOp::DeclarationEnd => {

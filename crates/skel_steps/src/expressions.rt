@@ -38,12 +38,18 @@ pub(crate) fn step_expression(
             ..
         } => condition(known, stacks, has_middle, token),
         ExprOp::Binary { sign, token, .. } => binary_operator(known, stacks, sign, token),
-        ExprOp::Prefix { sign, token, .. } => prefix(known, stacks, sign, token),
+        ExprOp::Prefix {
+            sign,
+            token,
+            aims,
+            ..
+        } => prefix(known, stacks, sign, token, aims),
         ExprOp::Post { .. } => post(known, stacks),
-        ExprOp::Index { .. } => index(known, stacks),
+        ExprOp::Index { aims, .. } => index(known, stacks, aims),
         ExprOp::Arg { .. } => stacks.pass_argument(),
         ExprOp::Call { count, .. } => call(known, stacks, count),
-        ExprOp::Arrow { .. } => arrow(known, stacks),
+        ExprOp::Arrow { aims, .. } => arrow(known, stacks, aims),
         ExprOp::Dot { name, .. } => member(known, stacks, name),
+        ExprOp::Label { token } => put_own(known, stacks, 0, token),
     }
 }

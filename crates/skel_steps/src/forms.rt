@@ -12,6 +12,7 @@ ghost use Rattle.row_steps.specs.Steps as steps;
 ghost use Rattle.skel_steps.specs.Stepping.{Steps, state_of};
 
 use crate::operands::{put_own, put_value, value_at};
+use crate::picks::{choose, select};
 use qual_base::{NoMemory, TokenId, TypeId};
 use row_world::Known;
 use shape_values::{ValueType, is_plain_void_pointer};
@@ -77,7 +78,7 @@ fn statements(
     }
 }
 
-/// What an expression with a type name or a block does. Constant time.
+/// What an expression with a type name or a block does. Constant time, and linear in the associations of a selection.
 pub(crate) fn step_form(known: &Known, stacks: &mut Stacks, op: FormOp) -> Result<(), NoMemory>
     ensures { OnOk result
         (Steps known.now (λ w st. steps.form_step w st op) stacks.old stacks.new) }
@@ -95,5 +96,10 @@ pub(crate) fn step_form(known: &Known, stacks: &mut Stacks, op: FormOp) -> Resul
             Ok(())
         }
         FormOp::Offset { token } => put_own(known, stacks, 1, token),
+        FormOp::Compat { token } => put_own(known, stacks, 2, token),
+        FormOp::Control => Ok(()),
+        FormOp::NoType => stacks.put_type(0, &None),
+        FormOp::Choose { token } => choose(known, stacks, token),
+        FormOp::Generic { token, count } => select(known, stacks, token, count),
     }
 }

@@ -7,10 +7,12 @@ mod forms;
 mod initialisers;
 mod operands;
 mod operators;
+mod picks;
 mod steps;
 mod targets;
 
 pub use operands::value_at;
-pub use operators::indexed;
+pub use operators::{indexed, is_carrying, is_vector_index};
+pub use picks::{PickedVal, chosen, depth_of, selected};
 pub use steps::step;
 pub use targets::{initialised_by, target_in};

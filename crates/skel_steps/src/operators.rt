@@ -1,21 +1,23 @@
 //! Operators.
 
-ghost use Rattle.std.specs.Prelude.{◌≡◌, ℕ, OnOk, if◌then◌else◌};
+ghost use Rattle.std.specs.Prelude.{◌≡◌, ◌&&◌, ℕ, OnOk, if◌then◌else◌};
 ghost use Rattle.c_words.specs.declared.kinds.Punct.{Punct};
 ghost use Rattle.tape_ops.specs.declared.expression.ExprOp.TheVariants as exprs;
 ghost use Rattle.qual_types.specs.Rows.{skel_of};
 ghost use Rattle.row_rules.specs.Worlds.{World};
 ghost use Rattle.row_rules.specs.Vals as vals;
+ghost use Rattle.name_rules.specs.Checks.{is_star};
 ghost use Rattle.row_steps.specs.State as states;
 ghost use Rattle.row_steps.specs.Steps as steps;
-ghost use Rattle.row_world.specs.Shown.{Shows, skel};
+ghost use Rattle.row_world.specs.Shown.{Shows, skel, val};
+ghost use Rattle.row_world.specs.declared.known.Known.{Known};
 ghost use Rattle.skel_steps.specs.Stepping.{Steps, state_of};
 
 use crate::operands::{put_place, put_value, value_at};
 use c_words::Punct;
 use qual_base::{NameId, NoMemory, SkelId, TokenId};
 use qual_types::VarTable;
-use row_world::{Known, binary, contents, is_ref, outcome};
+use row_world::{Known, Operand, binary, contents, is_ref, outcome, value};
 use skel_stacks::Stacks;
 
 /// The comma. Constant time.
@@ -93,18 +95,49 @@ pub(crate) fn binary_operator(
     put_value(stacks, 2, value, false)
 }
 
+/// Whether an operator is a `&` that makes a pointer which carries another one: its operand came to its place by that, and some lattice
+/// bounds accesses. Constant time.
+pub fn is_carrying(known: &Known, sign: Punct, aims: bool) -> bool
+    ensures { (w : World) → Shows known.now w → result ≡ vals.is_carrying w sign aims }
+{
+    match sign {
+        Punct::Ampersand => aims && known.has_access(),
+        _ => false,
+    }
+}
+
+/// Whether a sign is `*`.
+fn is_star(sign: Punct) -> bool
+    ensures { result ≡ is_star sign }
+{
+    match sign {
+        Punct::Star => true,
+        _ => false,
+    }
+}
+
+/// Whether the place of an operator is one that is only addressed.
+fn is_come_by(sign: Punct, aims: bool) -> bool
+    ensures { result ≡ (aims && is_star sign) }
+{
+    aims && is_star(sign)
+}
+
 /// An operator before its operand. Constant time.
 pub(crate) fn prefix(
     known: &Known,
     stacks: &mut Stacks,
     sign: Punct,
     token: TokenId,
+    aims: bool,
 ) -> Result<(), NoMemory>
     ensures { OnOk result ((last : ℕ) → Steps known.now
-        (λ w st. steps.expr_step w st (exprs.Prefix sign token last)) stacks.old stacks.new) }
+        (λ w st. steps.expr_step w st (exprs.Prefix sign token last aims)) stacks.old stacks.new) }
 {
     let operand = stacks.val_at(known.vars, 0);
-    let val = known.prefix(token, sign, &operand);
+    let pointer = value(known.vars, &operand);
+    stacks.carry(is_come_by(sign, aims), pointer);
+    let val = known.prefix(token, sign, &operand, aims);
     stacks.put(1, &val, false)
 }
 
@@ -125,15 +158,39 @@ pub fn indexed(vars: &VarTable, first: SkelId, second: SkelId) -> SkelId
     if is_ref(vars, first) { first } else { second }
 }
 
+/// Whether `[ ]` takes an element of a vector, in wider C where neither operand is a reference. Constant time.
+pub fn is_vector_index(known: &Known, first: SkelId, second: SkelId) -> bool
+    ensures { (w : World) → Shows known.now w → result ≡ vals.is_vector_index w.spelling.wide
+        (skel known.now first) (skel known.now second) }
+{
+    known.spelling.wide && !is_ref(known.vars, first) && !is_ref(known.vars, second)
+}
+
+/// What `[ ]` makes of a vector, or of a reference.
+fn element(is_vector: bool, vector: &Operand, place: SkelId) -> Operand
+    ensures { (known : Known) → val known result
+        ≡ if is_vector then val known vector.now else vals.a_place (skel known place) }
+{
+    if is_vector {
+        *vector
+    } else {
+        Operand::a_place(place)
+    }
+}
+
 /// `[ ]`. Constant time.
-pub(crate) fn index(known: &Known, stacks: &mut Stacks) -> Result<(), NoMemory>
+pub(crate) fn index(known: &Known, stacks: &mut Stacks, aims: bool) -> Result<(), NoMemory>
     ensures { OnOk result ((token first last : ℕ) → Steps known.now
-        (λ w st. steps.expr_step w st (exprs.Index token first last)) stacks.old stacks.new) }
+        (λ w st. steps.expr_step w st (exprs.Index token first last aims)) stacks.old stacks.new) }
 {
     let first = value_at(known, stacks, 1);
     let second = value_at(known, stacks, 0);
+    let is_vector = is_vector_index(known, first, second);
     let place = indexed(known.vars, first, second);
-    put_place(stacks, 2, place)
+    let vector = stacks.val_at(known.vars, 1);
+    let val = element(is_vector, &vector, place);
+    stacks.carry(aims, place);
+    stacks.put(2, &val, false)
 }
 
 /// What the end of a call makes of what is called. Constant time.
@@ -156,11 +213,13 @@ pub(crate) fn call(known: &Known, stacks: &mut Stacks, count: u32) -> Result<(),
 }
 
 /// What a pointer before `->` points at. Constant time.
-pub(crate) fn arrow(known: &Known, stacks: &mut Stacks) -> Result<(), NoMemory>
+pub(crate) fn arrow(known: &Known, stacks: &mut Stacks, aims: bool) -> Result<(), NoMemory>
     ensures { OnOk result ((token first last : ℕ) → Steps known.now
-        (λ w st. steps.expr_step w st (exprs.Arrow token first last)) stacks.old stacks.new) }
+        (λ w st. steps.expr_step w st (exprs.Arrow token first last aims)) stacks.old stacks.new) }
 {
-    let held = contents(known.vars, value_at(known, stacks, 0));
+    let pointer = value_at(known, stacks, 0);
+    let held = contents(known.vars, pointer);
+    stacks.carry(aims, pointer);
     put_value(stacks, 1, held, false)
 }
 

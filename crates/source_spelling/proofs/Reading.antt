@@ -60,33 +60,35 @@ read_at f (x ∷ xs) zero = refl
 read_at f (x ∷ xs) (suc n) = read_at f xs n
 
 -- what is read, with the vectors in which it is
-abbrev spelled : ℕ → List Bool → List Bool → List ℕ → Spelling
-spelled unit words zeros keys =
+abbrev spelled : ℕ → Bool → List Bool → List Bool → List ℕ → Spelling
+spelled unit wide words zeros keys =
     record {
       unit = unit;
+      wide = wide;
       annotates = λ token. unwrap_or (slice_get words token) false;
       is_naught = λ token. unwrap_or (slice_get zeros token) false;
       key = λ name. unwrap_or (slice_get keys name) name;
     }
 
-abbrev spelled_by : ℕ → (ℕ → Bool) → (ℕ → Bool) → (ℕ → ℕ) → Spelling
-spelled_by unit annotates is_naught key =
-    record { unit = unit; annotates = annotates; is_naught = is_naught; key = key }
+abbrev spelled_by : ℕ → Bool → (ℕ → Bool) → (ℕ → Bool) → (ℕ → ℕ) → Spelling
+spelled_by unit wide annotates is_naught key =
+    record { unit = unit; wide = wide; annotates = annotates; is_naught = is_naught; key = key }
 
-pub spelled_is : (units : List Lexed) (lexed : Lexed) (unit : ℕ) (words zeros : List Bool) (keys : List ℕ)
-    → unit ≡ lexed.unit → words ≡ map (is_annotation lexed) lexed.tokens → zeros ≡ map (is_zero lexed) lexed.tokens
+pub spelled_is : (units : List Lexed) (lexed : Lexed) (unit : ℕ) (wide : Bool) (words zeros : List Bool) (keys : List ℕ)
+    → unit ≡ lexed.unit → wide ≡ lexed.wide → words ≡ map (is_annotation lexed) lexed.tokens → zeros ≡ map (is_zero lexed) lexed.tokens
     → ((n : ℕ) → own_or keys n ≡ key_behind units lexed n)
-    → spelled unit words zeros keys ≡ spelling_behind units lexed
-spelled_is units lexed unit words zeros keys u w z k =
+    → spelled unit wide words zeros keys ≡ spelling_behind units lexed
+spelled_is units lexed unit wide words zeros keys u b w z k =
     let all_words = map (is_annotation lexed) lexed.tokens in
     let all_zeros = map (is_zero lexed) lexed.tokens in
     let word : ℕ → Bool = λ n. holds_at (is_annotation lexed) lexed.tokens n in
     let zero_there : ℕ → Bool = λ n. holds_at (is_zero lexed) lexed.tokens n in
     let read_zero : ℕ → Bool = λ n. unwrap_or (slice_get all_zeros n) false in
     let read_key : ℕ → ℕ = λ n. unwrap_or (slice_get keys n) n in
-    ap (λ (u : ℕ). spelled u words zeros keys) u ∙ ap (λ (ws : List Bool). spelled lexed.unit ws zeros keys) w
-    ∙ ap (λ (zs : List Bool). spelled lexed.unit all_words zs keys) z
-    ∙ ap (λ (f : ℕ → Bool). spelled_by lexed.unit f read_zero read_key)
+    ap (λ (u : ℕ). spelled u wide words zeros keys) u ∙ ap (λ (b : Bool). spelled lexed.unit b words zeros keys) b
+    ∙ ap (λ (ws : List Bool). spelled lexed.unit lexed.wide ws zeros keys) w
+    ∙ ap (λ (zs : List Bool). spelled lexed.unit lexed.wide all_words zs keys) z
+    ∙ ap (λ (f : ℕ → Bool). spelled_by lexed.unit lexed.wide f read_zero read_key)
     (fun_ext (λ n. read_at (is_annotation lexed) lexed.tokens n))
-    ∙ ap (λ (f : ℕ → Bool). spelled_by lexed.unit word f read_key) (fun_ext (λ n. read_at (is_zero lexed) lexed.tokens n))
-    ∙ ap (λ (f : ℕ → ℕ). spelled_by lexed.unit word zero_there f) (fun_ext (λ n. k n))
+    ∙ ap (λ (f : ℕ → Bool). spelled_by lexed.unit lexed.wide word f read_key) (fun_ext (λ n. read_at (is_zero lexed) lexed.tokens n))
+    ∙ ap (λ (f : ℕ → ℕ). spelled_by lexed.unit lexed.wide word zero_there f) (fun_ext (λ n. k n))

@@ -89,6 +89,7 @@ abbrev pub spelling_behind : List Lexed → Lexed → Spelling
 spelling_behind earlier lexed =
     record {
       unit = lexed.unit;
+      wide = lexed.wide;
       annotates = λ token. holds_at (is_annotation lexed) lexed.tokens token;
       is_naught = λ token. holds_at (is_zero lexed) lexed.tokens token;
       key = key_behind earlier lexed;

@@ -104,6 +104,7 @@ pub fn spelling_behind(
     let keys = earlier.keys(alloc, tokens)?;
     Ok(Spelling {
         unit: tokens.unit(),
+        wide: tokens.is_wide(),
         annotates,
         is_naught,
         keys,

@@ -1,3 +1,5 @@
 mod Pushing
 mod Rooms
 mod Lists
+mod Typedefs
+mod Autos

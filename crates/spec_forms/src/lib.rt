@@ -6,6 +6,7 @@ mod enums;
 mod mixed;
 mod starts;
 mod structs;
+mod typeofs;
 mod values;
 mod words;
 

@@ -3,7 +3,7 @@
 ghost use Rattle.std.specs.Prelude.{◌≡◌};
 ghost use Rattle.c_reading.specs.Specifying as specs;
 
-use c_reading::{Role, SpecStart};
+use c_reading::SpecStart;
 use c_specs::Class;
 use c_words::Keyword;
 
@@ -16,30 +16,10 @@ pub(crate) fn class_of_start(start: &SpecStart) -> Class
         SpecStart::Thread => Class::Stores(Keyword::Thread),
         SpecStart::Basic(keyword) => Class::Spells(*keyword),
         SpecStart::Struct(_) | SpecStart::Enum | SpecStart::Name(_) => Class::Named,
+        SpecStart::Typeof | SpecStart::Atomic | SpecStart::Auto => Class::Named,
         SpecStart::Inline | SpecStart::Noreturn | SpecStart::Word(_) => Class::Free,
         SpecStart::Element | SpecStart::Index | SpecStart::Attribute => Class::Free,
-        SpecStart::Nothing => Class::Free,
-    }
-}
-
-/// Whether the name of a type cannot have a word that begins so.
-fn is_declaring(start: &SpecStart) -> bool
-    ensures { result ≡ specs.is_declaring start.now }
-{
-    match start {
-        SpecStart::Storage(_) | SpecStart::Thread => true,
-        SpecStart::Inline | SpecStart::Noreturn => true,
-        _ => false,
-    }
-}
-
-/// Whether a word that begins so may stand in a role.
-pub(crate) fn may_stand(role: Role, start: &SpecStart) -> bool
-    ensures { result ≡ specs.may_stand role start.now }
-{
-    match role {
-        Role::Declaring => true,
-        Role::Naming => !is_declaring(start),
+        SpecStart::Align | SpecStart::Nothing => Class::Free,
     }
 }
 
@@ -50,6 +30,9 @@ pub(crate) fn least_of(start: &SpecStart) -> u32
     match start {
         SpecStart::Struct(_) | SpecStart::Enum => 2,
         SpecStart::Name(_) | SpecStart::Attribute => 2,
+        SpecStart::Align | SpecStart::Auto => 2,
+        SpecStart::Typeof => 3,
+        SpecStart::Atomic => 4,
         _ => 1,
     }
 }
@@ -61,5 +44,15 @@ pub(crate) fn is_start(start: &SpecStart) -> bool
     match start {
         SpecStart::Nothing => false,
         _ => true,
+    }
+}
+
+/// Whether a word that begins so is a base word.
+pub(crate) fn is_base_start(start: &SpecStart) -> bool
+    ensures { result ≡ specs.is_base_start start.now }
+{
+    match start {
+        SpecStart::Basic(Keyword::BaseWord) => true,
+        _ => false,
     }
 }

@@ -10,7 +10,7 @@ use c_nodes::{
     SizedBody, SizedMemDeclr, SizedMember, SizedMembers, SizedStructItem, SizedStructItems,
     SizedWord,
 };
-use c_reading::{Fault, Reach, turns_take_tokens};
+use c_reading::{Fault, Reach, Role, turns_take_tokens};
 use c_syntax::{Identifier, Word};
 use c_words::Keyword;
 use decl_nodes::{
@@ -219,7 +219,7 @@ where
     ensures { ReadsStructItem place.old place.new result (member_at depth room) }
 {
     let extensions = extensions(room, place)?;
-    let words = specs_here(lent, room, place, depth)?;
+    let words = specs_here(lent, Role::Typed, room, place, depth)?;
     let declrs = member_declrs(lent, room.saturating_sub(1), place, depth)?;
     let semi = semicolon(place)?;
     Ok(member(extensions, words, declrs, semi))

@@ -9,15 +9,19 @@ ghost use Rattle.spec_forms.specs.Forms.{word_at, words_with, words_at, specs_at
 
 use crate::enums::enum_word;
 use crate::mixed::Mixed;
-use crate::starts::{class_of_start, is_start, may_stand};
+use crate::starts::{class_of_start, is_start};
 use crate::structs::struct_word;
+use crate::typeofs::{atomic_word, typeof_word};
 use c_nodes::{SizedSpecs, SizedWord};
 use c_reading::{Fault, Role, SpecStart, turns_take_tokens};
 use c_syntax::{Qual, Word};
 use decl_nodes::{
-    attribute, basic, inline_word, noreturn, qualifier, storage, thread, typedef_name,
+    align, attribute, auto_word, basic, inline_word, noreturn, qualifier, storage, thread,
+    typedef_name,
 };
-use reader_base::{Answer, Ask, Place, ReadError, attr, kind_at, refused, start_at, take_one};
+use reader_base::{
+    Answer, Ask, Place, ReadError, alignment, attr, kind_at, may_stand, refused, start_at, take_one,
+};
 
 /// A word that begins so.
 #[tactic(auto, unfolding(c_reading::specs::Specifying::word_by, c_reading::specs::Reading::and_then))]
@@ -66,6 +70,10 @@ where
             let token = take_one(place)?;
             Ok(typedef_name(token, name))
         }
+        SpecStart::Typeof => typeof_word(lent, room.saturating_sub(1), place, depth),
+        SpecStart::Atomic => atomic_word(lent, room.saturating_sub(1), place, depth),
+        SpecStart::Align => Ok(align(alignment(place)?)),
+        SpecStart::Auto => Ok(auto_word(take_one(place)?)),
         SpecStart::Nothing => Err(refused(Fault::Unexpected, place.rest)),
     }
 }
@@ -116,7 +124,7 @@ where
         (word_turn (knot depth) role room) }
 {
     let start = start_at(&place.scopes, words.is_typed(), kind_at(place.rest));
-    if !is_start(&start) {
+    if words.ends_before(&start, place) || !is_start(&start) {
         return Ok(false);
     }
     push_word(lent, role, &start, words, room, place, depth)?;

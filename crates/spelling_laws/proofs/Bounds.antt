@@ -1,5 +1,5 @@
 -- The number of a name is less than how many tokens its unit has.
-use Rattle.std.proofs.Common.{◌≡◌, ◌⊎◌, inl, inr, ℕ, zero, suc, ◌+◌, ◌<◌, ◌≤◌, List, [], ◌∷◌, ◌++◌, length, Option, None, Some, take, drop, is_some, unwrap_or, position, bytes_eq, if◌then◌else◌, refl, sym, ◌∙◌, subst, arith}
+use Rattle.std.proofs.Common.{◌≡◌, ◌⊎◌, inl, inr, ℕ, Bool, zero, suc, ◌+◌, ◌<◌, ◌≤◌, List, [], ◌∷◌, ◌++◌, length, Option, None, Some, take, drop, is_some, unwrap_or, position, bytes_eq, if◌then◌else◌, refl, sym, ◌∙◌, subst, arith}
 use Rattle.std.specs.Prelude.{slice_get}
 use Rattle.std.proofs.lemmas.List.{length-append}
 use Rattle.std.proofs.lemmas.List.Quantifiers.{position-Some}
@@ -49,17 +49,17 @@ other_grown : (names : List (List ℕ)) (kind : TokenKind) → ((id : ℕ) → k
 other_grown names kind other =
     record { more = omega arith; one = omega arith; own = λ id same. absurd (other id same) }
 
-grown : (unit : ℕ) (words : Meanings) (names : List (List ℕ)) (text : List ℕ) (kind : TokenKind) →
-    IsKind unit words names text kind → Grown names (names_behind names text kind) kind
-grown unit words names text (Name id) is = name_grown names text id is.2
-grown unit words names text (Keyword word) is = other_grown names (Keyword word) (λ id e. absurd cc)
-grown unit words names text Number is = other_grown names Number (λ id e. absurd cc)
-grown unit words names text Char is = other_grown names Char (λ id e. absurd cc)
-grown unit words names text Text is = other_grown names Text (λ id e. absurd cc)
-grown unit words names text (Punct sign) is = other_grown names (Punct sign) (λ id e. absurd cc)
-grown unit words names text (Qual l e) is = other_grown names (Qual l e) (λ id h. absurd cc)
-grown unit words names text Index is = other_grown names Index (λ id e. absurd cc)
-grown unit words names text End is = absurd is
+grown : (unit : ℕ) (wide : Bool) (words : Meanings) (names : List (List ℕ)) (text : List ℕ) (kind : TokenKind) →
+    IsKind unit wide words names text kind → Grown names (names_behind names text kind) kind
+grown unit wide words names text (Name id) is = name_grown names text id is.2
+grown unit wide words names text (Keyword word) is = other_grown names (Keyword word) (λ id e. absurd cc)
+grown unit wide words names text Number is = other_grown names Number (λ id e. absurd cc)
+grown unit wide words names text Char is = other_grown names Char (λ id e. absurd cc)
+grown unit wide words names text Text is = other_grown names Text (λ id e. absurd cc)
+grown unit wide words names text (Punct sign) is = other_grown names (Punct sign) (λ id e. absurd cc)
+grown unit wide words names text (Qual l e) is = other_grown names (Qual l e) (λ id h. absurd cc)
+grown unit wide words names text Index is = other_grown names Index (λ id e. absurd cc)
+grown unit wide words names text End is = absurd is
 
 abbrev Below : List Token → ℕ → Type 0
 Below tokens n = (k : ℕ) (t : Token) (id : ℕ) → slice_get tokens k ≡ Some t → t.kind ≡ Name id → id < n
@@ -80,15 +80,15 @@ one_more tokens t old new h g =
         let less = h.below k s id there is in let more = g.more in omega (arith, less, more)
     by k s id (inr same) is = g.own id (subst (λ (it : Token). it.kind ≡ Name id) (sym same) is)
 
-reaches_few : (unit : ℕ) (words : Meanings) (bytes : List ℕ) (front : Front) → Reaches unit words bytes front →
+reaches_few : (unit : ℕ) (wide : Bool) (words : Meanings) (bytes : List ℕ) (front : Front) → Reaches unit wide words bytes front →
     Few front.tokens front.names
-reaches_few unit words bytes front begins = record { few = omega arith; below = λ k t id there is. absurd cc }
-reaches_few unit words bytes front (skips old new reached s) =
-    let before = reaches_few unit words bytes old reached in rw (s.tokens, s.names) before
-reaches_few unit words bytes front (takes old new reached t) =
-    let before = reaches_few unit words bytes old reached in
+reaches_few unit wide words bytes front begins = record { few = omega arith; below = λ k t id there is. absurd cc }
+reaches_few unit wide words bytes front (skips old new reached s) =
+    let before = reaches_few unit wide words bytes old reached in rw (s.tokens, s.names) before
+reaches_few unit wide words bytes front (takes old new reached t) =
+    let before = reaches_few unit wide words bytes old reached in
     rw (t.tokens, t.names) (one_more old.tokens _ old.names _ before
-    (grown unit words old.names (take t.n (drop old.at bytes)) t.kind t.is_kind))
+    (grown unit wide words old.names (take t.n (drop old.at bytes)) t.kind t.is_kind))
 
 -- the number of a name is less than the number of tokens
 pub name_below : (words : Meanings) (lexed : Lexed) → IsSpelled words lexed → (k : ℕ) (t : Token) (id : ℕ) →
@@ -96,7 +96,7 @@ pub name_below : (words : Meanings) (lexed : Lexed) → IsSpelled words lexed �
 name_below words lexed spelled k t id there is =
     let s = spelled.1 in
     let all = one_more s.front.tokens (record { kind = End; start = length lexed.bytes; end = length lexed.bytes })
-    s.front.names s.front.names (reaches_few lexed.unit words lexed.bytes s.front s.reached)
+    s.front.names s.front.names (reaches_few lexed.unit lexed.wide words lexed.bytes s.front s.reached)
     (other_grown s.front.names End (λ id e. absurd cc)) in
     let whole : Few lexed.tokens s.front.names = subst (λ (ts : List Token). Few ts s.front.names) (sym s.tokens_are) all in
     let few = whole.few in let less = whole.below k t id there is in omega (arith, few, less)

@@ -6,16 +6,18 @@ use Rattle.name_rules.specs.Spellings.{Spelling}
 use Rattle.name_rules.specs.Scopes.{Names}
 use Rattle.shape_steps.specs.State.{State, OpenDeclaration}
 use Rattle.shape_steps.specs.Steps.{step, run}
-use Rattle.shape_laws.specs.Laws.{ShapesAreLeft}
+use Rattle.shape_laws.specs.Laws.{ShapesAreLeft, AddressedAreLeft, OldNamesAreLeft}
 use Rattle.row_rules.specs.Starting.{Start, Around, Having}
 use Rattle.row_steps.specs.Rounds.{Rounds, naming, round_step}
 use Rattle.row_steps.specs.Starting.{around, naming_has, op_starts, starts_found}
 
--- what a tape is gone through with, and the law of the shapes that it leaves
+-- what a tape is gone through with, and the laws of the shapes that it leaves
 pub record Over : Type 0 where
   pub spelling : Spelling
   pub names : Names
   pub shaped : ShapesAreLeft
+  pub addressed : AddressedAreLeft
+  pub named : OldNamesAreLeft
 
 abbrev pub at : Over → Rounds → Around
 at k r = around k.spelling k.names r

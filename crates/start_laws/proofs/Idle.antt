@@ -14,7 +14,7 @@ use Rattle.tape_ops.specs.declared.specifier.SpecOp.TheVariants as specs
 use Rattle.tape_ops.specs.declared.expression.ExprOp.TheVariants as exprs
 use Rattle.tape_ops.specs.declared.declarator.DeclrOp.TheVariants as declrs
 use Rattle.tape_ops.specs.declared.initialiser.InitOp.TheVariants as inits
-use Rattle.c_tree.specs.Tree.{Exprs, no_exprs, more_exprs, SpecWords, no_words, more_words, SpecWord, storage, thread, inline_word, noreturn, qualifier, basic, struct_type, enum_type, typedef_name, attribute, Declr, pointer, declr_name, declr_paren, array, params, abs_pointer, abs_paren, abs_array, abs_params, SomeDeclr, no_declr, some_declr, Params, no_params, more_params, Init, init_value, init_braced, InitList, init_list, InitItems, no_init_items, more_init_items, Desigs, no_desigs, more_desigs, member_desig, index_desig, BlockItems, no_block_items, more_block_items, block_decl, block_stmt, Stmt, block, expr_stmt, attr_stmt, label, case_stmt, default_stmt, if_stmt, switch_stmt, while_stmt, do_stmt, for_stmt, goto_stmt, continue_stmt, break_stmt, return_stmt, asm_stmt, no_expr, some_expr, Dots}
+use Rattle.c_tree.specs.Tree.{Exprs, no_exprs, more_exprs, SpecWords, no_words, more_words, SpecWord, storage, thread, inline_word, noreturn, qualifier, basic, struct_type, enum_type, typedef_name, attribute, Declr, pointer, declr_name, declr_paren, array, params, abs_pointer, abs_paren, abs_array, abs_params, SomeDeclr, no_declr, some_declr, Params, no_params, more_params, Init, init_value, init_braced, InitList, init_list, InitItems, no_init_items, more_init_items, Desigs, no_desigs, more_desigs, member_desig, index_desig, BlockItems, no_block_items, more_block_items, block_decl, block_stmt, Stmt, block, expr_stmt, attr_stmt, label, case_stmt, default_stmt, if_stmt, switch_stmt, while_stmt, do_stmt, for_stmt, goto_stmt, continue_stmt, break_stmt, return_stmt, asm_stmt, no_expr, some_expr, Dots, identifiers, base_name, range_desig, old_desig, block_labels, case_range, goto_value, typeof_value, typeof_type, align, auto_word}
 use Rattle.c_tree.specs.Firsts.{qual_token}
 use Rattle.c_tree.specs.Ends.{first_token, last_token}
 use Rattle.c_tape.specs.Tests.{is_bare_word, is_name, says_none, has_ellipsis}
@@ -111,6 +111,8 @@ module _ (k : Over) where
         both (both (array_words_plain words) array_plain) (some_pieces_plain d)
     pieces_plain (abs_params d opening ps dots closing) =
         both (both (dots_plain dots) (function_plain (has_ellipsis ps dots))) (some_pieces_plain d)
+    pieces_plain (identifiers d opening names closing) = both (function_plain false) (pieces_plain d)
+    pieces_plain (base_name token) = empty
 
     pub some_pieces_plain : (d : SomeDeclr) → IsPlain k (some_pieces d)
     some_pieces_plain no_declr = empty
@@ -140,6 +142,11 @@ module _ (k : Over) where
       (desigs_none ds)
   desigs_none (more_desigs (index_desig opening e closing) ds) =
       none_both (λ h. idle (ops.Init (inits.Index opening)) (λ st r. refl) (λ ds r. refl)) (desigs_none ds)
+  desigs_none (more_desigs (range_desig opening e dots e2 closing) ds) =
+      none_both (λ h. idle (ops.Init (inits.Index opening)) (λ st r. refl) (λ ds r. refl)) (desigs_none ds)
+  desigs_none (more_desigs (old_desig name colon) ds) =
+      none_both (λ h. idle (ops.Init (inits.Member name.token name.name)) (λ st r. refl) (λ ds r. refl))
+      (desigs_none ds)
 
   mutual
     rule_none : (i : Init) → FindsNone k (rule i)
@@ -169,6 +176,8 @@ same_bare (abs_pointer star words d) = refl
 same_bare (abs_paren opening attrs d closing) = refl
 same_bare (abs_array d opening words size closing) = refl
 same_bare (abs_params d opening ps dots closing) = refl
+same_bare (identifiers d opening names closing) = refl
+same_bare (base_name token) = refl
 
 same_value : (t : Stmt) → tape_tests.is_value t ≡ starts.is_value_stmt t
 same_value (block opening items closing) = refl
@@ -188,11 +197,14 @@ same_value (continue_stmt keyword semi) = refl
 same_value (break_stmt keyword semi) = refl
 same_value (return_stmt keyword e semi) = refl
 same_value (asm_stmt keyword words group semi) = refl
+same_value (case_range keyword e dots e2 colon t) = refl
+same_value (goto_value keyword star e semi) = refl
 
 pub same_end : (items : BlockItems) → tape_tests.ends_in_value items ≡ starts.ends_in_value items
 same_end no_block_items = refl
 same_end (more_block_items (block_decl d) no_block_items) = refl
 same_end (more_block_items (block_stmt t) no_block_items) = same_value t
+same_end (more_block_items (block_labels keyword names semi) no_block_items) = refl
 same_end (more_block_items item (more_block_items item2 items)) = same_end (more_block_items item2 items)
 
 -- in a list of parameters that says that there are none, no skeleton begins
@@ -216,6 +228,10 @@ bare_word a (struct_type word attrs tag body) e = absurd cc
 bare_word a (enum_type it) e = absurd cc
 bare_word a (typedef_name name) e = refl
 bare_word a (attribute attr) e = refl
+bare_word a (typeof_value keyword opening it closing) e = absurd cc
+bare_word a (typeof_type word opening ws d closing) e = absurd cc
+bare_word a (align attr) e = refl
+bare_word a (auto_word token) e = refl
 
 bare_words : (a : Around) (ws : SpecWords) → tape_tests.is_bare ws ≡ true → words_starts a ws ≡ []
 bare_words a no_words e = refl

@@ -4,6 +4,8 @@ use Rattle.std.proofs.lemmas.List.{append-nil}
 use Rattle.std.specs.Prelude.{not, ◌&&◌, if◌then◌else◌}
 use Rattle.c_syntax.specs.declared.parts.Identifier.{Identifier}
 use Rattle.c_words.specs.declared.kinds.Punct.{Punct}
+use Rattle.c_words.specs.declared.kinds.Punct.TheVariants as signs
+use Rattle.c_tree.specs.Addresses.{comes_by_pointer}
 use Rattle.tape_ops.specs.declared.op.Op.{Op}
 use Rattle.tape_ops.specs.declared.op.Op.TheVariants as ops
 use Rattle.tape_ops.specs.declared.specifier.TagKind.{TagKind}
@@ -13,21 +15,22 @@ use Rattle.tape_ops.specs.declared.expression.ExprOp.TheVariants as exprs
 use Rattle.tape_ops.specs.declared.form.FormOp.TheVariants as forms
 use Rattle.tape_ops.specs.declared.declarator.DeclrOp.TheVariants as declrs
 use Rattle.tape_ops.specs.declared.initialiser.InitOp.TheVariants as inits
-use Rattle.c_tree.specs.Tree.{Expr, operation, Operator, comma, assign, cond, binary, no_expr, some_expr, SpecWords, Declr, SomeDeclr, InitList, Params}
+use Rattle.c_tree.specs.Tree.{Expr, prefix, Assocs, operation, Operator, comma, assign, cond, binary, no_expr, some_expr, SpecWords, Declr, SomeDeclr, InitList, Params}
 use Rattle.c_tree.specs.Ends.{first_token, last_token}
 use Rattle.c_tape.specs.Tests.{says_none}
-use Rattle.c_tape.specs.Tape.{expr_tape, middle_tape, type_name_with, body_tape, in_scope, quietly, spec, params_with, params_tape, list_tape, rule_of_list, init}
+use Rattle.c_tape.specs.Tape.{tape_in, prefix_tape, assocs_tape, assoc_count, identifiers_tape, expr_tape, middle_tape, type_name_with, body_tape, in_scope, quietly, spec, params_with, params_tape, list_tape, rule_of_list, init}
 use Rattle.type_table.specs.Types.{CType, base}
-use Rattle.name_rules.specs.Values.{value}
-use Rattle.type_rules.specs.Shapes.{shape_of, is_zero}
+use Rattle.name_rules.specs.Values.{Candidate, value}
+use Rattle.type_rules.specs.Shapes.{shape_of, is_zero, candidate_of, associations_of}
 use Rattle.type_rules.specs.Tokens.{declared_name}
-use Rattle.shape_steps.specs.State.{State, OpenDeclaration, opened}
-use Rattle.row_rules.specs.Starting.{Start, Around, Having, with_skeleton, of_function, without_skeleton, quiet, fresh, some_fresh, fresh_where, some_place, is_some_pointer, is_fresh_binary}
-use Rattle.row_steps.specs.Rounds.{Naming, a_name, own_param, other_param, Rounds, is_quiet, with_round, entered, silenced, left, next_naming, params_naming, round_step}
-use Rattle.row_steps.specs.Starting.{function_at, naming_has}
-use Rattle.constraint_rules.specs.Starts.{declr_starts, expr_starts, some_expr_starts, params_starts, type_at}
+use Rattle.shape_steps.specs.Steps.{associations}
+use Rattle.shape_steps.specs.State.{Operand, shape_of_operand, first_operand, State, opened}
+use Rattle.row_rules.specs.Starting.{Start, Around, Having, with_skeleton, of_function, without_skeleton, quiet, fresh, some_fresh, fresh_where, some_place, is_some_pointer, is_fresh_binary, prefix_starts, selected_by}
+use Rattle.row_steps.specs.Rounds.{Naming, a_name, own_param, other_param, identified_param, identified_naming, Rounds, is_quiet, with_round, entered, silenced, left, next_naming, params_naming, round_step}
+use Rattle.row_steps.specs.Starting.{function_at, naming_has, selected_among}
+use Rattle.constraint_rules.specs.Starts.{pick_starts, assocs_starts, expr_starts, some_expr_starts, params_starts, type_at}
 use Rattle.start_laws.proofs.Found.{Over, at, behind, starts_at, found, rounds_behind, found_append, rounds_append, has_at, Finds, join, same, followed, without, enclosed, around_tape, silent, of_three, of_four}
-use Rattle.start_laws.proofs.States.{declaring, token_of, operands_left, cast_type, va_arg_type, literal_type, type_name_tape}
+use Rattle.start_laws.proofs.States.{with_expr, operand_of, with_assocs, under_assocs, assocs_kept, addressed_left, choice_left, selection_tape, selection_left, declaring, token_of, operands_left, cast_type, va_arg_type, literal_type, type_name_tape}
 use Rattle.start_laws.proofs.Idle.{none_said, list_none}
 
 -- what is around a tape
@@ -57,6 +60,21 @@ pub offset_finds : {k : Over} {h : Having} {tape : List Op} {f : Around → List
     (λ a. f (quiet a) ++ fresh a token (base []))
 offset_finds token p =
     enclosed (ops.Stmt stmts.Quiet) (ops.Form (forms.Offset token)) silenced quiet (λ a. fresh a token (base []))
+    (λ st r. refl) (λ st r. refl) (λ r. refl) (λ r. refl) (λ st r. refl) (λ ds r. refl) p
+
+-- the control of a selection, whose value is left
+pub control_finds : {k : Over} {h : Having} {tape : List Op} {f : Around → List Start} → Finds k with_skeleton tape f →
+    Finds k h (ops.Stmt stmts.Quiet ∷ (tape ++ ops.Form forms.Control ∷ [])) (λ a. f (quiet a))
+control_finds p = around_tape (ops.Stmt stmts.Quiet) (ops.Form forms.Control) silenced quiet (λ st r. refl)
+    (λ st r. refl) (λ r. refl) (λ r. refl) (λ st r. refl) (λ ds r. refl) p
+
+-- two types' names, whose value is fresh
+pub compat_finds : {k : Over} {h : Having} {tape : List Op} {f : Around → List Start} (token : ℕ) →
+    Finds k with_skeleton tape f →
+    Finds k h (ops.Stmt stmts.Quiet ∷ (tape ++ ops.Form (forms.Compat token) ∷ []))
+    (λ a. f (quiet a) ++ fresh a token (base []))
+compat_finds token p =
+    enclosed (ops.Stmt stmts.Quiet) (ops.Form (forms.Compat token)) silenced quiet (λ a. fresh a token (base []))
     (λ st r. refl) (λ st r. refl) (λ r. refl) (λ r. refl) (λ st r. refl) (λ ds r. refl) p
 
 pub body_finds : {k : Over} {h : Having} {tape : List Op} {f : Around → List Start} (kind : TagKind) (keyword : ℕ)
@@ -97,31 +115,31 @@ module _ (k : Over) where
       (is_fresh_binary p (is_some_pointer (value (shape_of a.spelling a.names e)))
       (is_some_pointer (value (shape_of a.spelling a.names e2)))) (fresh a token (base []))
 
-  pub operation_finds : (e : Expr) (op : Operator) (token : ℕ) (e2 : Expr) (called : Bool) →
-      Finds k with_skeleton (expr_tape false e) (λ a. expr_starts a e) →
-      Finds k with_skeleton (middle_tape op) (λ a. middle_starts a op) →
-      Finds k with_skeleton (expr_tape false e2) (λ a. expr_starts a e2) →
-      Finds k with_skeleton (expr_tape called (operation e op token e2)) (λ a. expr_starts a (operation e op token e2))
-  operation_finds e comma token e2 called p m q =
+  pub operation_finds : {h : Having} (e : Expr) (op : Operator) (token : ℕ) (e2 : Expr) (called aims : Bool) →
+      Finds k h (expr_tape false e) (λ a. expr_starts a e) →
+      Finds k h (middle_tape op) (λ a. middle_starts a op) →
+      Finds k h (expr_tape false e2) (λ a. expr_starts a e2) →
+      Finds k h (tape_in called aims (operation e op token e2)) (λ a. expr_starts a (operation e op token e2))
+  operation_finds e comma token e2 called aims p m q =
       without (ops.Expr (exprs.Comma token)) (join (silent p m) q) (λ st r. refl) (λ ds r. refl)
-  operation_finds e (assign sign) token e2 called p m q =
+  operation_finds e (assign sign) token e2 called aims p m q =
       without (ops.Expr (exprs.Assign sign token (first_token e) (last_token e2))) (join (silent p m) q) (λ st r. refl)
       (λ ds r. refl)
-  operation_finds e (cond no_expr colon) token e2 called p m q =
+  operation_finds e (cond no_expr colon) token e2 called aims p m q =
       of_three (λ a. expr_starts a e) (λ a. expr_starts a e2)
       (cond_starts (operation e (cond no_expr colon) token e2) e e2 token)
       (followed (ops.Expr (exprs.Cond false token (first_token e) (last_token e2)))
       (cond_starts (operation e (cond no_expr colon) token e2) e e2 token) (join (silent p m) q)
       (λ st r. ap (λ (it : State). starts_at k it r (ops.Expr (exprs.Cond false token (first_token e) (last_token e2))))
       (operands_left k e (cond no_expr colon) e2 st)) (λ ds r. refl))
-  operation_finds e (cond (some_expr m) colon) token e2 called p q s =
+  operation_finds e (cond (some_expr m) colon) token e2 called aims p q s =
       of_four (λ a. expr_starts a e) (λ a. expr_starts a m) (λ a. expr_starts a e2)
       (cond_starts (operation e (cond (some_expr m) colon) token e2) m e2 token)
       (followed (ops.Expr (exprs.Cond true token (first_token e) (last_token e2)))
       (cond_starts (operation e (cond (some_expr m) colon) token e2) m e2 token) (join (join p q) s)
       (λ st r. ap (λ (it : State). starts_at k it r (ops.Expr (exprs.Cond true token (first_token e) (last_token e2))))
       (operands_left k e (cond (some_expr m) colon) e2 st)) (λ ds r. refl))
-  operation_finds e (binary sign) token e2 called p m q =
+  operation_finds e (binary sign) token e2 called aims p m q =
       of_three (λ a. expr_starts a e) (λ a. expr_starts a e2) (binary_starts sign e e2 token)
       (followed (ops.Expr (exprs.Binary sign token (first_token e) (last_token e2))) (binary_starts sign e e2 token)
       (join (silent p m) q)
@@ -130,20 +148,20 @@ module _ (k : Over) where
 
   -- forms with a type's name
 
-  pub cast_finds : (f g i : Around → List Start) (opening : ℕ) (ws : SpecWords) (d : SomeDeclr) (e : Expr) →
-      Finds k with_skeleton (type_name_tape k ws d) (λ a. f a ++ g a) →
-      Finds k with_skeleton (expr_tape false e) i →
-      Finds k with_skeleton (type_name_tape k ws d ++ expr_tape false e ++ ops.Form (forms.Cast opening (last_token e)) ∷ [])
+  pub cast_finds : {h : Having} (f g i : Around → List Start) (opening : ℕ) (ws : SpecWords) (d : SomeDeclr) (e : Expr) →
+      Finds k h (type_name_tape k ws d) (λ a. f a ++ g a) →
+      Finds k h (expr_tape false e) i →
+      Finds k h (type_name_tape k ws d ++ expr_tape false e ++ ops.Form (forms.Cast opening (last_token e)) ∷ [])
       (λ a. f a ++ (g a ++ (i a ++ some_fresh a opening (type_at a ws))))
   cast_finds f g i opening ws d e p q =
       of_four f g i (λ a. some_fresh a opening (type_at a ws))
       (followed (ops.Form (forms.Cast opening (last_token e))) (λ a. some_fresh a opening (type_at a ws)) (join p q)
       (λ st r. ap (some_fresh (at k r) opening) (cast_type k ws d e st)) (λ ds r. refl))
 
-  pub va_arg_finds : (f g i : Around → List Start) (keyword : ℕ) (e : Expr) (ws : SpecWords) (d : SomeDeclr)
-      (closing : ℕ) → Finds k with_skeleton (expr_tape false e) f →
-      Finds k with_skeleton (type_name_tape k ws d) (λ a. g a ++ i a) →
-      Finds k with_skeleton (expr_tape false e ++ type_name_tape k ws d ++ ops.Form (forms.VaArg keyword closing) ∷ [])
+  pub va_arg_finds : {h : Having} (f g i : Around → List Start) (keyword : ℕ) (e : Expr) (ws : SpecWords) (d : SomeDeclr)
+      (closing : ℕ) → Finds k h (expr_tape false e) f →
+      Finds k h (type_name_tape k ws d) (λ a. g a ++ i a) →
+      Finds k h (expr_tape false e ++ type_name_tape k ws d ++ ops.Form (forms.VaArg keyword closing) ∷ [])
       (λ a. f a ++ (g a ++ (i a ++ some_fresh a keyword (type_at a ws))))
   va_arg_finds f g i keyword e ws d closing p q =
       same (followed (ops.Form (forms.VaArg keyword closing)) (λ a. some_fresh a keyword (type_at a ws)) (join p q)
@@ -152,20 +170,73 @@ module _ (k : Over) where
       ∙ ap (λ (starts : List Start). f (at k r) ++ starts)
       (append_assoc (g (at k r)) (i (at k r)) (some_fresh (at k r) keyword (type_at (at k r) ws))))
 
-  pub literal_finds : (f g i : Around → List Start) (opening : ℕ) (ws : SpecWords) (d : SomeDeclr) (list : InitList) →
-      Finds k with_skeleton (type_name_tape k ws d) (λ a. f a ++ g a) →
-      Finds k with_skeleton (list_tape list) i →
-      Finds k with_skeleton
+  pub literal_finds : {h : Having} (f g i : Around → List Start) (opening : ℕ) (ws : SpecWords) (d : SomeDeclr) (list : InitList) →
+      Finds k h (type_name_tape k ws d) (λ a. f a ++ g a) →
+      Finds k h (list_tape list) i →
+      Finds k h
       (type_name_tape k ws d ++ init inits.Begin ++ list_tape list ++ init (inits.Literal opening) ++ rule_of_list list
       ++ init inits.LiteralEnd)
       (λ a. f a ++ (g a ++ (i a ++ some_fresh a opening (some_place (type_at a ws)))))
-  literal_finds f g i opening ws d list p q =
+  literal_finds {h = h} f g i opening ws d list p q =
       of_four f g i (λ a. some_fresh a opening (some_place (type_at a ws)))
       (without (ops.Init inits.LiteralEnd)
       (silent (followed (ops.Init (inits.Literal opening)) (λ a. some_fresh a opening (some_place (type_at a ws)))
       (join (without (ops.Init inits.Begin) p (λ st r. refl) (λ ds r. refl)) q)
       (λ st r. ap (λ (t : Option CType). some_fresh (at k r) opening (some_place t)) (literal_type k ws d list st))
-      (λ ds r. refl)) (list_none k list with_skeleton)) (λ st r. refl) (λ ds r. refl))
+      (λ ds r. refl)) (list_none k list h)) (λ st r. refl) (λ ds r. refl))
+
+  -- operators before an operand
+
+  pub prefix_finds : {h : Having} (token : ℕ) (p : Punct) (e : Expr) (aims : Bool) →
+      Finds k h (tape_in false true e) (λ a. expr_starts a e) → Finds k h (tape_in false false e) (λ a. expr_starts a e) →
+      Finds k h (prefix_tape token p e aims (tape_in false true e) (tape_in false false e)) (λ a. expr_starts a (prefix token p e))
+  prefix_finds token signs.Ampersand e aims p q =
+      followed (ops.Expr (exprs.Prefix signs.Ampersand token (last_token e) (comes_by_pointer false e)))
+      (λ a. prefix_starts signs.Ampersand (comes_by_pointer false e && a.access) a token (shape_of a.spelling a.names e)) p
+      (λ st r. ap (λ (it : State). starts_at k it r
+      (ops.Expr (exprs.Prefix signs.Ampersand token (last_token e) (comes_by_pointer false e)))) (addressed_left k e st)) (λ ds r. refl)
+  prefix_finds token sign e aims p q =
+      followed (ops.Expr (exprs.Prefix sign token (last_token e) aims))
+      (λ a. prefix_starts sign (comes_by_pointer false e && a.access) a token (shape_of a.spelling a.names e)) q
+      (λ st r. refl) (λ ds r. refl)
+
+  -- picks
+
+  pub choose_finds : {h : Having} (keyword : ℕ) (e e2 e3 : Expr) → Finds k h (quietly (expr_tape false e)) (λ a. expr_starts (quiet a) e) →
+      Finds k h (expr_tape false e2) (λ a. expr_starts a e2) → Finds k h (expr_tape false e3) (λ a. expr_starts a e3) →
+      Finds k h (quietly (expr_tape false e) ++ expr_tape false e2 ++ expr_tape false e3 ++ ops.Form (forms.Choose keyword) ∷ [])
+      (λ a. expr_starts (quiet a) e ++ (expr_starts a e2 ++ (expr_starts a e3
+      ++ pick_starts a keyword (candidate_of a.spelling a.names e2 ∷ candidate_of a.spelling a.names e3 ∷ []))))
+  choose_finds keyword e e2 e3 p q s =
+      of_four (λ a. expr_starts (quiet a) e) (λ a. expr_starts a e2) (λ a. expr_starts a e3)
+      (λ a. pick_starts a keyword (candidate_of a.spelling a.names e2 ∷ candidate_of a.spelling a.names e3 ∷ []))
+      (followed (ops.Form (forms.Choose keyword))
+      (λ a. pick_starts a keyword (candidate_of a.spelling a.names e2 ∷ candidate_of a.spelling a.names e3 ∷ []))
+      (join (join p q) s)
+      (λ st r. ap (λ (it : State). starts_at k it r (ops.Form (forms.Choose keyword))) (choice_left k e e2 e3 st)) (λ ds r. refl))
+
+  selected_kept : (e : Expr) (xs : Assocs) (st : State) →
+      selected_among (assoc_count xs) (with_assocs k xs (with_expr k e st))
+      ≡ selected_by (value (shape_of k.spelling k.names e)) (associations_of k.spelling k.names xs)
+  selected_kept e xs st =
+      ap (λ (operands : List Operand). selected_by (value (shape_of_operand (first_operand operands)))
+      (associations (assoc_count xs) (with_assocs k xs (with_expr k e st)))) (under_assocs k xs (operand_of k e ∷ st.operands))
+      ∙ ap (selected_by (value (shape_of k.spelling k.names e))) (assocs_kept k xs (with_expr k e st))
+
+  pub generic_finds : {h : Having} (keyword : ℕ) (e : Expr) (xs : Assocs) →
+      Finds k h (ops.Stmt stmts.Quiet ∷ (expr_tape false e ++ ops.Form forms.Control ∷ [])) (λ a. expr_starts (quiet a) e) →
+      Finds k h (assocs_tape xs) (λ a. assocs_starts a xs) →
+      Finds k h (selection_tape k e xs ++ ops.Form (forms.Generic keyword (assoc_count xs)) ∷ [])
+      (λ a. expr_starts (quiet a) e ++ (assocs_starts a xs
+      ++ pick_starts a keyword (selected_by (value (shape_of a.spelling a.names e)) (associations_of a.spelling a.names xs))))
+  generic_finds keyword e xs p q =
+      of_three (λ a. expr_starts (quiet a) e) (λ a. assocs_starts a xs)
+      (λ a. pick_starts a keyword (selected_by (value (shape_of a.spelling a.names e)) (associations_of a.spelling a.names xs)))
+      (followed (ops.Form (forms.Generic keyword (assoc_count xs)))
+      (λ a. pick_starts a keyword (selected_by (value (shape_of a.spelling a.names e)) (associations_of a.spelling a.names xs)))
+      (join p q)
+      (λ st r. ap (λ (it : State). starts_at k it r (ops.Form (forms.Generic keyword (assoc_count xs)))) (selection_left k e xs st)
+      ∙ ap (λ (all : List Candidate). pick_starts (at k r) keyword all) (selected_kept e xs st)) (λ ds r. refl))
 
 -- parameters
 
@@ -184,6 +255,32 @@ next_has : (k : Over) (n : Naming) →
 next_has k a_name = refl
 next_has k (own_param f n) = refl
 next_has k other_param = refl
+next_has k (identified_param f) = refl
+
+identified_has : (k : Over) (n : Naming) →
+    naming_has k.spelling k.names (identified_naming n) ≡ naming_has k.spelling k.names n
+identified_has k a_name = refl
+identified_has k (own_param f n) = refl
+identified_has k other_param = refl
+identified_has k (identified_param f) = refl
+
+-- identifiers before other ops of a list
+pub identifiers_find : {k : Over} {h : Having} {tape : List Op} {f : Around → List Start} (names : List Identifier) →
+    FindsParams k h tape f → FindsParams k h (identifiers_tape names ++ tape) f
+identifiers_find [] p = p
+identifiers_find {k} {h} {tape} {f} (name ∷ names) p =
+    let others : FindsParams k h (identifiers_tape names ++ tape) f = identifiers_find names p in
+    record {
+      finds = λ st r n q e. others.finds st r (identified_naming n) q (identified_has k n ∙ e);
+      ends = λ st r n q. others.ends st r (identified_naming n) q;
+    }
+
+-- what is found in each round, is found in a list
+pub in_list : {k : Over} {h : Having} {tape : List Op} {f : Around → List Start} → Finds k h tape f → FindsParams k h tape f
+in_list p = record {
+  finds = λ st r n q e. p.finds st (with_round n q r) e;
+  ends = λ st r n q. ap left (p.stays st (with_round n q r));
+}
 
 pub one_param : {k : Over} {h : Having} {xs ys : List Op} {f g : Around → List Start} → Finds k h xs f →
     FindsParams k h ys g → FindsParams k h (xs ++ ops.Declr declrs.Param ∷ [] ++ ys) (λ a. f a ++ g a)
@@ -232,37 +329,37 @@ listed {k} true tape empty p = record {
 }
 listed false tape empty p = p
 
+-- a list, from a state in whose declaration its names have that
+pub list_found : {k : Over} {h : Having} {list : List Op} {f : Around → List Start} (own : Bool) →
+    FindsParams k h list f → (st : State) (r : Rounds) →
+    naming_has k.spelling k.names (params_naming own st.declarations) ≡ h →
+    found k st r (ops.Declr (declrs.ParamsBegin own) ∷ (list ++ ops.Declr declrs.ParamsEnd ∷ [])) ≡ f (at k r)
+list_found {k} {list = list} own p st r e =
+    found_append k list (ops.Declr declrs.ParamsEnd ∷ []) st (with_round (params_naming own st.declarations) (is_quiet r) r)
+    ∙ (append-nil (found k st (with_round (params_naming own st.declarations) (is_quiet r) r) list)
+    ∙ p.finds st r (params_naming own st.declarations) (is_quiet r) e)
+
+pub list_stays : {k : Over} {h : Having} {list : List Op} {f : Around → List Start} (own : Bool) →
+    FindsParams k h list f → (st : State) (r : Rounds) →
+    rounds_behind k st r (ops.Declr (declrs.ParamsBegin own) ∷ (list ++ ops.Declr declrs.ParamsEnd ∷ [])) ≡ r
+list_stays {k} {list = list} own p st r =
+    rounds_append k list (ops.Declr declrs.ParamsEnd ∷ []) st
+    (with_round (params_naming own st.declarations) (is_quiet r) r)
+    ∙ p.ends st r (params_naming own st.declarations) (is_quiet r)
+
 -- from a state in whose declaration these parameters have that
 pub params_found : {k : Over} {h : Having} (own : Bool) (ps : Params) →
     FindsParams k h (params_tape ps) (λ a. params_starts a h ps) → (st : State) (r : Rounds) →
     naming_has k.spelling k.names (params_naming own st.declarations) ≡ h →
     found k st r (params_with own (says_none ps) (params_tape ps)) ≡ params_starts (at k r) h ps
 params_found {k} {h} own ps p st r e =
-    found_append k list (ops.Declr declrs.ParamsEnd ∷ []) st begun
-    ∙ (append-nil (found k st begun list) ∙ it.finds st r (params_naming own st.declarations) (is_quiet r) e)
-  where
-    list : List Op
-    list = if says_none ps then [] else params_tape ps
-
-    it : FindsParams k h list (λ a. params_starts a h ps)
-    it = listed (says_none ps) (params_tape ps) (λ none a. none_said a h ps none) p
-
-    begun : Rounds
-    begun = with_round (params_naming own st.declarations) (is_quiet r) r
+    list_found own (listed (says_none ps) (params_tape ps) (λ none a. none_said a h ps none) p) st r e
 
 pub params_stay : {k : Over} {h : Having} (own : Bool) (ps : Params) →
     FindsParams k h (params_tape ps) (λ a. params_starts a h ps) → (st : State) (r : Rounds) →
     rounds_behind k st r (params_with own (says_none ps) (params_tape ps)) ≡ r
 params_stay {k} {h} own ps p st r =
-    rounds_append k list (ops.Declr declrs.ParamsEnd ∷ []) st
-    (with_round (params_naming own st.declarations) (is_quiet r) r)
-    ∙ it.ends st r (params_naming own st.declarations) (is_quiet r)
-  where
-    list : List Op
-    list = if says_none ps then [] else params_tape ps
-
-    it : FindsParams k h list (λ a. params_starts a h ps)
-    it = listed (says_none ps) (params_tape ps) (λ none a. none_said a h ps none) p
+    list_stays own (listed (says_none ps) (params_tape ps) (λ none a. none_said a h ps none) p) st r
 
 -- parameters that are no function's own
 pub params_with_find : {k : Over} {h : Having} (ps : Params) →
@@ -275,15 +372,51 @@ params_with_find ps p =
 abbrev pub own_of : Over → Declr → Having
 own_of k d = of_function (function_at k.spelling k.names (token_of (declared_name d)))
 
-pub record OwnFinds (k : Over) (h own : Having) (tape : List Op) (d : Declr) : Type 0 where
+pub record OwnFinds (k : Over) (h : Having) (tape : List Op) (f : Around → List Start) : Type 0 where
   pub finds : (declared : Option ℕ) (st : State) (r : Rounds) → has_at k r ≡ h →
-      found k (declaring None declared st) r tape ≡ declr_starts (at k r) h own d
+      found k (declaring None declared st) r tape ≡ f (at k r)
   pub stays : (declared : Option ℕ) (st : State) (r : Rounds) → rounds_behind k (declaring None declared st) r tape ≡ r
 
+-- what is found from each state
+pub own_plain : {k : Over} {h : Having} {tape : List Op} {f : Around → List Start} → Finds k h tape f → OwnFinds k h tape f
+own_plain p =
+    record { finds = λ n st r e. p.finds (declaring None n st) r e; stays = λ n st r. p.stays (declaring None n st) r }
+
+pub own_joined : {k : Over} {h : Having} {xs ys : List Op} {f g : Around → List Start} → OwnFinds k h xs f → Finds k h ys g →
+    OwnFinds k h (xs ++ ys) (λ a. f a ++ g a)
+own_joined {k} {xs = xs} {ys = ys} {f = f} p q = record {
+  finds = λ n st r e. found_append k xs ys (declaring None n st) r
+      ∙ (ap (λ (b : Rounds). found k (declaring None n st) r xs ++ found k (behind k (declaring None n st) xs) b ys) (p.stays n st r)
+      ∙ (ap (λ (starts : List Start). starts ++ found k (behind k (declaring None n st) xs) r ys) (p.finds n st r e)
+      ∙ ap (λ (starts : List Start). f (at k r) ++ starts) (q.finds (behind k (declaring None n st) xs) r e)));
+  stays = λ n st r. rounds_append k xs ys (declaring None n st) r
+      ∙ (ap (λ (b : Rounds). rounds_behind k (behind k (declaring None n st) xs) b ys) (p.stays n st r)
+      ∙ q.stays (behind k (declaring None n st) xs) r);
+}
+
+-- a list behind a tape that leaves the name of its declarator, whose parameters have that
+pub own_listed : {k : Over} {h within : Having} {xs list : List Op} {f g : Around → List Start} (own : Bool) (name : Option ℕ) →
+    OwnFinds k h xs f → ((declared : Option ℕ) (st : State) → behind k (declaring None declared st) xs ≡ declaring name declared st) →
+    ((declared : Option ℕ) (st : State) → naming_has k.spelling k.names (params_naming own (declaring name declared st).declarations) ≡ within) →
+    FindsParams k within list g →
+    OwnFinds k h (xs ++ (ops.Declr (declrs.ParamsBegin own) ∷ (list ++ ops.Declr declrs.ParamsEnd ∷ []))) (λ a. f a ++ g a)
+own_listed {k} {xs = xs} {list = list} {f = f} own name p left has q = record {
+  finds = λ n st r e. found_append k xs tail (declaring None n st) r
+      ∙ (ap (λ (b : Rounds). found k (declaring None n st) r xs ++ found k (behind k (declaring None n st) xs) b tail) (p.stays n st r)
+      ∙ (ap (λ (starts : List Start). starts ++ found k (behind k (declaring None n st) xs) r tail) (p.finds n st r e)
+      ∙ ap (λ (starts : List Start). f (at k r) ++ starts)
+      (ap (λ (b : State). found k b r tail) (left n st) ∙ list_found own q (declaring name n st) r (has n st))));
+  stays = λ n st r. rounds_append k xs tail (declaring None n st) r
+      ∙ (ap (λ (b : Rounds). rounds_behind k (behind k (declaring None n st) xs) b tail) (p.stays n st r)
+      ∙ list_stays own q (behind k (declaring None n st) xs) r);
+} where
+  tail : List Op
+  tail = ops.Declr (declrs.ParamsBegin own) ∷ (list ++ ops.Declr declrs.ParamsEnd ∷ [])
+
 -- behind the specifiers
-pub own_behind : {k : Over} {h own : Having} {xs tape : List Op} {f : Around → List Start} {d : Declr} →
-    Finds k h xs f → ((st : State) → behind k st xs ≡ opened st) → OwnFinds k h own tape d →
-    Finds k h (xs ++ tape) (λ a. f a ++ declr_starts a h own d)
+pub own_behind : {k : Over} {h : Having} {xs tape : List Op} {f g : Around → List Start} →
+    Finds k h xs f → ((st : State) → behind k st xs ≡ opened st) → OwnFinds k h tape g →
+    Finds k h (xs ++ tape) (λ a. f a ++ g a)
 own_behind {k} {xs = xs} {tape = tape} {f = f} p left q = record {
   finds = λ st r e. found_append k xs tape st r
       ∙ (ap (λ (b : Rounds). found k st r xs ++ found k (behind k st xs) b tape) (p.stays st r)

@@ -1,5 +1,5 @@
 -- What is on the stacks of shapes behind parts of a tape, by the law that the tape of an expression leaves its shape.
-use Rattle.std.proofs.Common.{◌≡◌, ℕ, Bool, true, false, List, [], ◌∷◌, ◌++◌, drop, Option, None, Some, refl, sym, ◌∙◌, ap}
+use Rattle.std.proofs.Common.{◌≡◌, ℕ, zero, suc, arith, Bool, true, false, List, [], ◌∷◌, ◌++◌, drop, Option, None, refl, sym, ◌∙◌, ap}
 use Rattle.std.specs.Prelude.{◌&&◌, if◌then◌else◌}
 use Rattle.c_words.specs.declared.kinds.Keyword.TheVariants as keywords
 use Rattle.c_syntax.specs.declared.parts.Word.{Word}
@@ -9,19 +9,60 @@ use Rattle.tape_ops.specs.declared.initialiser.InitOp.TheVariants as inits
 use Rattle.tape_ops.specs.declared.declarator.DeclrOp.TheVariants as declrs
 use Rattle.tape_ops.specs.declared.specifier.SpecOp.TheVariants as specs
 use Rattle.tape_ops.specs.declared.statement.StmtOp.TheVariants as stmts
-use Rattle.c_tree.specs.Tree.{Expr, cast, sizeof_type, compound, va_arg, Operator, comma, assign, cond, binary, SomeExpr, no_expr, some_expr, SpecWords, Declr, pointer, declr_name, declr_paren, array, params, abs_pointer, abs_paren, abs_array, abs_params, SomeDeclr, no_declr, some_declr, SomeSize, no_size, some_size, size_value, size_star, Params, no_params, more_params, Init, init_value, init_braced, InitList, init_list, InitItems, no_init_items, more_init_items, Desigs, no_desigs, more_desigs, member_desig, index_desig}
+use Rattle.c_tree.specs.Tree.{Expr, cast, sizeof_type, compound, va_arg, Operator, comma, assign, cond, binary, SomeExpr, no_expr, some_expr, SpecWords, Declr, pointer, declr_name, declr_paren, array, params, abs_pointer, abs_paren, abs_array, abs_params, SomeDeclr, no_declr, some_declr, SomeSize, no_size, some_size, size_value, size_star, Params, no_params, more_params, Init, init_value, init_braced, InitList, init_list, InitItems, no_init_items, more_init_items, Desigs, no_desigs, more_desigs, member_desig, index_desig, identifiers, base_name, range_desig, old_desig, Assocs, no_assocs, more_assocs, Assoc, typed_assoc, default_assoc, no_words, more_words, SpecWord, storage, thread, inline_word, noreturn, qualifier, basic, struct_type, enum_type, typedef_name, attribute, typeof_value, typeof_type, align, auto_word, EnumType, enum_of}
 use Rattle.c_tree.specs.Ends.{last_token}
+use Rattle.c_syntax.specs.declared.parts.Qual.{Qual}
+use Rattle.c_syntax.specs.declared.parts.Qual.TheVariants as quals
+use Rattle.c_tree.specs.Firsts as tape_tokens
 use Rattle.c_tree.specs.Firsts.{first_word}
 use Rattle.c_tape.specs.Tests.{is_name, says_none}
-use Rattle.c_tape.specs.Tape.{expr_tape, middle_tape, some_expr_tape, words_tape, specs_with, some_declr_tape, contents, some_contents, some_size_tape, params_tape, params_with, type_name_with, list_tape, rule, rule_of_list, rule_of_items, desigs_tape, desig_tape, form, init, spec, declr, stmt}
+use Rattle.c_tape.specs.Tape.{tape_in, assocs_tape, assoc_tape, assoc_count, quietly, expr_tape, middle_tape, some_expr_tape, words_tape, specs_with, some_declr_tape, contents, some_contents, some_size_tape, params_tape, params_with, type_name_with, list_tape, rule, rule_of_list, rule_of_items, desigs_tape, desig_tape, form, init, spec, declr, stmt}
 use Rattle.type_table.specs.Types.{CType}
 use Rattle.name_rules.specs.Spellings.{place, Named}
 use Rattle.name_rules.specs.Uses.{type_named_at}
 use Rattle.type_rules.specs.Tokens.{declared_name, some_declared_name}
 use Rattle.type_rules.specs.Tokens as rule_tokens
-use Rattle.type_rules.specs.Shapes.{shape_of, is_zero}
-use Rattle.shape_steps.specs.State.{Operand, expression, State, operand_put, opened, closed, shape_at, type_at, type_of_operand, first_operand, operands_below}
+use Rattle.type_rules.specs.Shapes.{shape_of, is_zero, associations_of}
+use Rattle.shape_steps.specs.Steps.{twice, associations}
+use Rattle.shape_steps.specs.State.{Operand, named_type, expression, State, operand_put, opened, closed, shape_at, type_at, type_of_operand, first_operand, operands_below}
+use Rattle.shape_laws.specs.Laws as laws
 use Rattle.start_laws.proofs.Found.{Over, behind, run_append}
+
+-- tokens said in two ways
+
+same_qual : (q : Qual) → tape_tokens.qual_token q ≡ rule_tokens.qual_token q
+same_qual (quals.Word word) = refl
+same_qual (quals.Element token) = refl
+same_qual (quals.Index token) = refl
+
+same_enum : (e : EnumType) → tape_tokens.enum_token e ≡ rule_tokens.enum_token e
+same_enum (enum_of keyword attrs tag body) = refl
+
+same_word : (word : SpecWord) → tape_tokens.word_token word ≡ rule_tokens.word_token word
+same_word (storage word) = refl
+same_word (thread token) = refl
+same_word (inline_word token) = refl
+same_word (noreturn token) = refl
+same_word (qualifier q) = same_qual q
+same_word (basic word) = refl
+same_word (struct_type word attrs tag body) = refl
+same_word (enum_type e) = same_enum e
+same_word (typedef_name name) = refl
+same_word (attribute attr) = refl
+same_word (typeof_value keyword opening e closing) = refl
+same_word (typeof_type word opening ws d closing) = refl
+same_word (align attr) = refl
+same_word (auto_word token) = refl
+
+same_first : (ws : SpecWords) → first_word ws ≡ rule_tokens.first_word ws
+same_first no_words = refl
+same_first (more_words word ws) = same_word word
+
+drop_one_more : {A : Type 0} (n : ℕ) (xs : List A) (y : A) (ys : List A) → drop n xs ≡ y ∷ ys → drop (suc n) xs ≡ ys
+drop_one_more zero [] y ys e = absurd cc
+drop_one_more zero (x ∷ xs) y ys e = cc
+drop_one_more (suc n) [] y ys e = absurd cc
+drop_one_more (suc n) (x ∷ xs) y ys e = drop_one_more n xs y ys e
 
 -- open declarations
 
@@ -29,8 +70,7 @@ abbrev pub declaring : Option ℕ → Option ℕ → State → State
 declaring name declared st = record st { declarations = record { name = name; declared = declared } ∷ st.declarations }
 
 abbrev pub token_of : Option Named → Option ℕ
-token_of None = None
-token_of (Some it) = Some it.token
+token_of it = laws.token_of it
 
 module _ (k : Over) where
   -- expressions
@@ -54,6 +94,9 @@ module _ (k : Over) where
   pub expr_left : (e : Expr) (called : Bool) (st : State) → behind k st (expr_tape called e) ≡ with_expr e st
   expr_left e called st = k.shaped k.spelling k.names e called st
 
+  pub addressed_left : (e : Expr) (st : State) → behind k st (tape_in false true e) ≡ with_expr e st
+  addressed_left e st = k.addressed k.spelling k.names e st
+
   some_expr_left : (e : SomeExpr) (st : State) → behind k st (some_expr_tape e) ≡ with_some_expr e st
   some_expr_left no_expr st = refl
   some_expr_left (some_expr e) st = expr_left e false st
@@ -74,10 +117,60 @@ module _ (k : Over) where
       (run_append k (expr_tape false e) (middle_tape op) st
       ∙ (middle_left op (behind k st (expr_tape false e)) ∙ ap (with_middle op) (expr_left e false st))))
 
-  -- types that are named: an expression of the type has it
-
   abbrev pub type_at_words : SpecWords → Option CType
   type_at_words ws = type_named_at k.names.type_names (place k.spelling (rule_tokens.first_word ws))
+
+  -- associations: of each its type, and above that its expression
+
+  abbrev pub assoc_on : Assoc → List Operand → List Operand
+  assoc_on (typed_assoc ws d colon e) operands = operand_of e ∷ named_type (type_at_words ws) ∷ operands
+  assoc_on (default_assoc keyword colon e) operands = operand_of e ∷ named_type None ∷ operands
+
+  abbrev pub assocs_on : Assocs → List Operand → List Operand
+  assocs_on no_assocs operands = operands
+  assocs_on (more_assocs x xs) operands = assocs_on xs (assoc_on x operands)
+
+  abbrev pub with_assocs : Assocs → State → State
+  with_assocs xs st = record st { operands = assocs_on xs st.operands }
+
+  under_assoc : (x : Assoc) (n : ℕ) (all operands : List Operand) → drop (twice n) all ≡ assoc_on x operands →
+      drop (twice (suc n)) all ≡ operands
+  under_assoc (typed_assoc ws d colon e) n all operands h =
+      let two_more : twice (suc n) ≡ suc (suc (twice n)) = omega arith in
+      ap (λ (m : ℕ). drop m all) two_more
+      ∙ drop_one_more (suc (twice n)) all _ operands (drop_one_more (twice n) all _ _ h)
+  under_assoc (default_assoc keyword colon e) n all operands h =
+      let two_more : twice (suc n) ≡ suc (suc (twice n)) = omega arith in
+      ap (λ (m : ℕ). drop m all) two_more
+      ∙ drop_one_more (suc (twice n)) all _ operands (drop_one_more (twice n) all _ _ h)
+
+  -- the control lies under the associations
+  pub under_assocs : (xs : Assocs) (operands : List Operand) → drop (twice (assoc_count xs)) (assocs_on xs operands) ≡ operands
+  under_assocs no_assocs operands = refl
+  under_assocs (more_assocs x xs) operands =
+      under_assoc x (assoc_count xs) (assocs_on xs (assoc_on x operands)) operands (under_assocs xs (assoc_on x operands))
+
+  assoc_kept : (x : Assoc) (xs : Assocs) (n : ℕ) (operands : List Operand) (st : State) →
+      drop (twice n) st.operands ≡ assoc_on x operands → associations n st ≡ associations_of k.spelling k.names xs →
+      associations (suc n) st ≡ associations_of k.spelling k.names (more_assocs x xs)
+  assoc_kept (typed_assoc ws d colon e) xs n operands st h others =
+      let type : drop (suc (twice n)) st.operands ≡ named_type (type_at_words ws) ∷ operands =
+      drop_one_more (twice n) st.operands _ _ h in
+      rw (h, type, others) refl
+  assoc_kept (default_assoc keyword colon e) xs n operands st h others =
+      let type : drop (suc (twice n)) st.operands ≡ named_type None ∷ operands =
+      drop_one_more (twice n) st.operands _ _ h in
+      rw (h, type, others) refl
+
+  -- what a selection is made from
+  pub assocs_kept : (xs : Assocs) (st : State) →
+      associations (assoc_count xs) (with_assocs xs st) ≡ associations_of k.spelling k.names xs
+  assocs_kept no_assocs st = refl
+  assocs_kept (more_assocs x xs) st =
+      assoc_kept x xs (assoc_count xs) st.operands (with_assocs (more_assocs x xs) st) (under_assocs xs (assoc_on x st.operands))
+      (assocs_kept xs (record st { operands = assoc_on x st.operands }))
+
+  -- types that are named: an expression of the type has it
 
   abbrev pub type_name_tape : SpecWords → SomeDeclr → List Op
   type_name_tape ws d = type_name_with (words_tape false ws) (some_declr_tape d) (first_word ws)
@@ -108,6 +201,10 @@ module _ (k : Over) where
       desigs_keep ds (behind k st (desig_tape (member_desig before name)))
   desigs_keep (more_desigs (index_desig opening e closing) ds) st =
       desigs_keep ds (behind k st (desig_tape (index_desig opening e closing)))
+  desigs_keep (more_desigs (range_desig opening e dots e2 closing) ds) st =
+      desigs_keep ds (behind k st (desig_tape (range_desig opening e dots e2 closing)))
+  desigs_keep (more_desigs (old_desig name colon) ds) st =
+      desigs_keep ds (behind k st (desig_tape (old_desig name colon)))
 
   mutual
     rule_keeps : (i : Init) (st : State) → below (behind k st (rule i)) ≡ below st
@@ -169,6 +266,50 @@ module _ (k : Over) where
   pub words_left : (ws : SpecWords) (st : State) → behind k st (words_tape false ws) ≡ st
   words_left ws st = declared_left ws no_declr st
 
+  -- the name of a type leaves the type
+  type_name_left : (ws : SpecWords) (d : SomeDeclr) (st : State) →
+      behind k st (type_name_tape ws d) ≡ operand_put 0 (named_type (type_at_words ws)) st
+  type_name_left ws d st =
+      run_append k (specs_with (words_tape false ws) ++ some_declr_tape d) (declr (declrs.TypeName (first_word ws))) st
+      ∙ (ap (λ (it : State). operand_put 0 (named_type (type_named_at k.names.type_names (place k.spelling (first_word ws)))) (closed it))
+      (run_append k (specs_with (words_tape false ws)) (some_declr_tape d) st
+      ∙ ap (λ (it : State). behind k it (some_declr_tape d)) (run_append k (words_tape false ws) (spec specs.SpecsEnd) st))
+      ∙ (ap (operand_put 0 (named_type (type_named_at k.names.type_names (place k.spelling (first_word ws))))) (declared_left ws d st)
+      ∙ ap (λ (token : ℕ). operand_put 0 (named_type (type_named_at k.names.type_names (place k.spelling token))) st) (same_first ws)))
+
+  assoc_left : (x : Assoc) (st : State) → behind k st (assoc_tape x) ≡ record st { operands = assoc_on x st.operands }
+  assoc_left (typed_assoc ws d colon e) st =
+      run_append k (type_name_tape ws d) (expr_tape false e) st
+      ∙ (expr_left e false (behind k st (type_name_tape ws d)) ∙ ap (with_expr e) (type_name_left ws d st))
+  assoc_left (default_assoc keyword colon e) st = expr_left e false (operand_put 0 (named_type None) st)
+
+  assocs_left : (xs : Assocs) (st : State) → behind k st (assocs_tape xs) ≡ with_assocs xs st
+  assocs_left no_assocs st = refl
+  assocs_left (more_assocs x xs) st =
+      run_append k (assoc_tape x) (assocs_tape xs) st
+      ∙ (assocs_left xs (behind k st (assoc_tape x)) ∙ ap (with_assocs xs) (assoc_left x st))
+
+  -- a selection before its end
+  abbrev pub selection_tape : Expr → Assocs → List Op
+  selection_tape e xs = stmt stmts.Quiet ++ expr_tape false e ++ form forms.Control ++ assocs_tape xs
+
+  pub selection_left : (e : Expr) (xs : Assocs) (st : State) → behind k st (selection_tape e xs) ≡ with_assocs xs (with_expr e st)
+  selection_left e xs st =
+      run_append k (stmt stmts.Quiet ++ expr_tape false e ++ form forms.Control) (assocs_tape xs) st
+      ∙ (assocs_left xs (behind k st (stmt stmts.Quiet ++ expr_tape false e ++ form forms.Control))
+      ∙ ap (with_assocs xs) (run_append k (stmt stmts.Quiet ++ expr_tape false e) (form forms.Control) st ∙ expr_left e false st))
+
+  -- the operands of a choice
+  pub choice_left : (e a b : Expr) (st : State) →
+      behind k st (quietly (expr_tape false e) ++ expr_tape false a ++ expr_tape false b) ≡ with_expr b (with_expr a st)
+  choice_left e a b st =
+      run_append k (quietly (expr_tape false e) ++ expr_tape false a) (expr_tape false b) st
+      ∙ (expr_left b false (behind k st (quietly (expr_tape false e) ++ expr_tape false a))
+      ∙ ap (with_expr b) (run_append k (quietly (expr_tape false e)) (expr_tape false a) st
+      ∙ (expr_left a false (behind k st (quietly (expr_tape false e)))
+      ∙ ap (with_expr a) (run_append k (stmt stmts.Quiet ++ expr_tape false e) (stmt stmts.Loud) st
+      ∙ ap without_top (expr_left e false st)))))
+
   -- declarators
 
   params_left : (ps : Params) (st : State) → behind k st (params_tape ps) ≡ st
@@ -226,6 +367,11 @@ module _ (k : Over) where
         (declaring None declared st)
         ∙ (params_with_left false ps (behind k (declaring None declared st) (some_contents d))
         ∙ some_contents_left d declared st)
+    contents_left (identifiers d opening names closing) own declared st =
+        run_append k (contents own d ++ declr (declrs.ParamsBegin false)) (declr declrs.ParamsEnd) (declaring None declared st)
+        ∙ (run_append k (contents own d) (declr (declrs.ParamsBegin false)) (declaring None declared st)
+        ∙ contents_left d own declared st)
+    contents_left (base_name token) own declared st = refl
 
     some_contents_left : (d : SomeDeclr) (declared : Option ℕ) (st : State) →
         behind k (declaring None declared st) (some_contents d) ≡

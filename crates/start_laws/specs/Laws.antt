@@ -1,25 +1,49 @@
--- Along the tape of a unit skeletons begin where the definition on its tree says.
-use Rattle.std.specs.Prelude.{◌≡◌, List, [], ◌∷◌, ◌++◌}
-use Rattle.c_tree.specs.Unit.{Item}
+-- Along the tape of a well-formed unit skeletons begin where the definition on its tree says, and the candidates of selections are those
+-- that it says.
+use Rattle.std.specs.Prelude.{◌≡◌, All, List, [], ◌∷◌, ◌++◌, Bool}
+use Rattle.c_tree.specs.declared.lexeme.Lexeme.{Lexeme}
+use Rattle.c_tree.specs.Unit.{Item, IsUnit}
 use Rattle.c_tape.specs.Tape.{tape_of}
 use Rattle.name_rules.specs.Spellings.{Spelling}
 use Rattle.name_rules.specs.Scopes.{Names}
 use Rattle.type_rules.specs.Program.{Source, names_of}
-use Rattle.row_rules.specs.Starting.{Start}
-use Rattle.row_steps.specs.Starting.{unit_starts}
+use Rattle.shape_steps.specs.State.{nothing}
+use Rattle.row_rules.specs.Starting.{Start, Selection}
+use Rattle.row_steps.specs.Starting.{unit_starts, selections_found}
 use Rattle.constraint_rules.specs.Starts.{items_starts}
-use Rattle.constraint_rules.specs.Systems.{starts_of}
+use Rattle.constraint_rules.specs.Selections.{items_selections}
+use Rattle.constraint_rules.specs.Systems.{starts_of, selections_among}
 
 -- the skeletons of a unit, in the order of its tape
 abbrev pub StartsAreFound : Type 0
 StartsAreFound =
-    (u : Spelling) (s : Names) (items : List Item) → unit_starts u s (tape_of items) ≡ items_starts u s items
+    (access : Bool) (u : Spelling) (s : Names) (all : List Lexeme) (items : List Item) → IsUnit all items →
+    unit_starts access u s (tape_of items) ≡ items_starts access u s items
 
 -- along the tapes of several units, over what is known of names behind them all
-abbrev pub found_on : Names → List Source → List Start
-found_on s [] = []
-found_on s (it ∷ sources) = unit_starts it.spelling s (tape_of it.items) ++ found_on s sources
+abbrev pub found_on : Bool → Names → List Source → List Start
+found_on access s [] = []
+found_on access s (it ∷ sources) = unit_starts access it.spelling s (tape_of it.items) ++ found_on access s sources
+
+-- its items are those of some tokens, well formed but for scopes
+abbrev pub IsSound : Source → Type 0
+IsSound it = (all : List Lexeme) × IsUnit all it.items
 
 -- the skeletons of a program, in the order of the tapes of its units
 abbrev pub StartsOfProgramAreFound : Type 0
-StartsOfProgramAreFound = (sources : List Source) → found_on (names_of sources) sources ≡ starts_of sources
+StartsOfProgramAreFound = (access : Bool) (sources : List Source) → All IsSound sources →
+    found_on access (names_of sources) sources ≡ starts_of access sources
+
+-- the candidates of the selections of a unit, in the order of its tape
+abbrev pub SelectionsAreFound : Type 0
+SelectionsAreFound =
+    (u : Spelling) (s : Names) (items : List Item) → selections_found u s nothing (tape_of items) ≡ items_selections u s items
+
+abbrev pub selections_on : Names → List Source → List Selection
+selections_on s [] = []
+selections_on s (it ∷ sources) = selections_found it.spelling s nothing (tape_of it.items) ++ selections_on s sources
+
+-- and of a program
+abbrev pub SelectionsOfProgramAreFound : Type 0
+SelectionsOfProgramAreFound = (sources : List Source) →
+    selections_on (names_of sources) sources ≡ selections_among (names_of sources) sources

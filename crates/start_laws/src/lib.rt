@@ -4,4 +4,7 @@
 
 mod laws;
 
-pub use laws::{starts_are_found, starts_of_program_are_found};
+pub use laws::{
+    selections_are_found, selections_of_program_are_found, starts_are_found,
+    starts_of_program_are_found,
+};

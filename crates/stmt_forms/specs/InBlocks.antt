@@ -1,17 +1,17 @@
 -- Readers of blocks and of what stands in them, at a number of the knot.
-use Rattle.std.specs.Prelude.{ℕ, Result, not, List, [], map, if◌then◌else◌}
+use Rattle.std.specs.Prelude.{ℕ, ◌-◌, Result, not, List, [], map, if◌then◌else◌}
 use Rattle.c_tree.specs.Tree as trees
 use Rattle.c_tree.specs.Tree.{Stmt, BlockItem, SpecWords, block_decl, block_stmt, decl_declaration, decl_assert}
 use Rattle.c_tree.specs.View.{block_item_of}
 use Rattle.c_nodes.specs.declared.sized.SizedBlockItem.{SizedBlockItem}
 use Rattle.c_nodes.specs.declared.sized.SizedBlockItems.{SizedBlockItems}
 use Rattle.c_reading.specs.declared.kinds.Fault.TheVariants.{Unexpected}
-use Rattle.c_reading.specs.Reading.{Reader, Turn, ◌>>=◌, ends, fits, refuses, kind_at, take_one, repeated, repeated_turn}
+use Rattle.c_reading.specs.Reading.{Reader, Turn, ◌>>=◌, ends, fits, refuses, kind_at, take_one, token_at, run, repeated, repeated_turn}
 use Rattle.c_reading.specs.Expressing.{begins_expr}
 use Rattle.c_reading.specs.Specifying.{begins_specs}
-use Rattle.c_reading.specs.Tokens.{is_close_brace, assert_at}
-use Rattle.c_reading.specs.Stating.{declaration_with, declaration_from, block_item_with, block_with, expr_stmt_with}
-use Rattle.c_reading.specs.Parts.{nothing}
+use Rattle.c_reading.specs.Tokens.{is_close_brace, is_label_word, assert_at}
+use Rattle.c_reading.specs.Stating.{declaration_with, declaration_from, block_item_with, block_with, labels_with, expr_stmt_with}
+use Rattle.c_reading.specs.Parts.{Block, nothing, block_items_from}
 use Rattle.c_reading.specs.Knot.{knot}
 use Rattle.reader_base.specs.declared.fault.ReadError.{ReadError}
 use Rattle.reader_base.specs.declared.place.Place.{Place}
@@ -48,8 +48,26 @@ known_items known = map block_item_of known.items.items
 abbrev pub item_turn : ℕ → ℕ → Turn (List BlockItem)
 item_turn depth room = repeated_turn (λ kind. not (is_close_brace kind)) (block_item_with (knot depth) room)
 
-abbrev pub items_with : ℕ → ℕ → Reader (List BlockItem)
-items_with depth room s ts = repeated (λ kind. not (is_close_brace kind)) (block_item_with (knot depth) room) s ts
+-- the declarations of labels before them, as the state of their loop
+abbrev pub label_turn : ℕ → ℕ → Turn (List BlockItem)
+label_turn depth room = repeated_turn is_label_word (labels_with (knot depth) room)
+
+abbrev pub labels_at : ℕ → ℕ → Reader (List BlockItem)
+labels_at depth room s ts = repeated is_label_word (labels_with (knot depth) room) s ts
+
+-- the items of a block, labels first, in one list
+abbrev pub more_items_at : ℕ → List BlockItem → ℕ → Reader (List BlockItem)
+more_items_at depth known room s ts = run (item_turn depth room) known s ts
+
+abbrev pub items_at : ℕ → ℕ → Reader (List BlockItem)
+items_at depth room s ts = labels_at depth room s ts >>= λ labels. more_items_at depth labels.tree room labels.scopes labels.rest
+
+abbrev pub body_at : ℕ → ℕ → Reader Block
+body_at depth room s ts = do
+  opening ← take_one s ts
+  items ← items_at depth (room - 1) opening.scopes opening.rest
+  closing ← token_at is_close_brace items.scopes items.rest
+  ends (record { opening = opening.tree; items = block_items_from items.tree; closing = closing.tree }) closing.scopes closing.rest
 
 abbrev pub block_stmt_with : ℕ → ℕ → Reader Stmt
 block_stmt_with depth room s ts = block_with (knot depth) room s ts >>= λ b. ends (trees.block b.tree.opening b.tree.items b.tree.closing) b.scopes b.rest

@@ -5,15 +5,16 @@ ghost use Rattle.c_reading.specs.Stating as stating;
 ghost use Rattle.reader_base.specs.Gives.{Reads};
 ghost use Rattle.reader_base.specs.Lent.{Lends, ReadsBlock};
 ghost use Rattle.reader_base.specs.Looping.{IsLoop, Turns};
-ghost use Rattle.stmt_forms.specs.InBlocks.{item_turn, items_with, known_items};
+ghost use Rattle.stmt_forms.specs.InBlocks.{ReadsItem, body_at, item_turn, items_at, known_items};
+ghost use Rattle.stmt_forms.specs.InBlocks.{label_turn, labels_at, more_items_at};
 
 use crate::items::block_item;
-use c_nodes::{SizedBlock, SizedBlockItems};
+use c_nodes::{SizedBlock, SizedBlockItem, SizedBlockItems};
 use c_reading::{Fault, turns_take_tokens};
-use decl_nodes::block_of;
+use decl_nodes::{block_labels, block_of};
 use reader_base::{
-    Answer, Ask, Place, ReadError, close_brace, is_close_brace, is_open_brace, kind_at, refused,
-    room_for, take_one,
+    Answer, Ask, Place, ReadError, close_brace, is_close_brace, is_label_word, is_open_brace,
+    kind_at, names, refused, room_for, semicolon, take_one,
 };
 
 /// Each item that is read takes a token.
@@ -46,8 +47,77 @@ where
     Ok(true)
 }
 
-/// The items of a block, up to a closing brace.
+/// `LabelDecl = __label__ Name (, Name)* ;`.
+#[tactic(auto, unfolding(c_reading::specs::Stating::labels_with, c_reading::specs::Reading::fits, c_reading::specs::Reading::and_then))]
+fn labels_item(room: u16, place: &mut Place, depth: u32) -> Result<SizedBlockItem, ReadError>
+    ensures { ReadsItem place.old place.new result (stating.labels_with (knot depth) room) }
+{
+    room_for(1, room, place)?;
+    let keyword = take_one(place)?;
+    let names = names(place)?;
+    let semi = semicolon(place)?;
+    Ok(block_labels(keyword, names, semi))
+}
+
+/// Each declaration of labels takes a token.
+fn labels_step(room: u16, depth: u32)
+    ensures { IsLoop (label_turn depth room) }
+{
+    turns_take_tokens(depth);
+}
+
+/// A declaration of labels more, where one stands.
+#[tactic(auto, unfolding(c_reading::specs::Reading::and_then), using(crate::proofs::Rows::one_item_mapped))]
+fn label_turn(
+    known: &mut SizedBlockItems,
+    room: u16,
+    place: &mut Place,
+    depth: u32,
+) -> Result<bool, ReadError>
+    ensures { Turns (known_items known.old) (known_items known.new) place.old place.new
+        result (label_turn depth room) }
+{
+    if !is_label_word(kind_at(place.rest)) {
+        return Ok(false);
+    }
+    let item = labels_item(room, place, depth)?;
+    known.push(item)?;
+    Ok(true)
+}
+
+/// Declarations of labels, as many as stand.
 #[tactic(auto, unfolding(c_reading::specs::Reading::repeated))]
+fn labels(room: u16, place: &mut Place, depth: u32) -> Result<SizedBlockItems, ReadError>
+    ensures { Reads known_items place.old place.new result (labels_at depth room) }
+{
+    labels_step(room, depth);
+    let mut known = SizedBlockItems::new(place.alloc);
+    while label_turn(&mut known, room, place, depth)? {}
+    Ok(known)
+}
+
+/// The items behind the first ones, up to a closing brace.
+fn more_items<'a, F>(
+    lent: &F,
+    first: SizedBlockItems,
+    room: u16,
+    place: &mut Place<'a>,
+    depth: u32,
+) -> Result<SizedBlockItems, ReadError>
+where
+    F: Fn(Ask, &mut Place<'a>) -> Result<Answer, ReadError>,
+    requires { Lends F.Fn lent.now depth }
+    ensures { Reads known_items place.old place.new result
+        (more_items_at depth (known_items first) room) }
+{
+    items_step(room, depth);
+    let mut known = first;
+    while item_turn(lent, &mut known, room, place, depth)? {}
+    Ok(known)
+}
+
+/// The items of a block, up to a closing brace.
+#[tactic(auto, unfolding(c_reading::specs::Reading::and_then))]
 fn items<'a, F>(
     lent: &F,
     room: u16,
@@ -57,16 +127,33 @@ fn items<'a, F>(
 where
     F: Fn(Ask, &mut Place<'a>) -> Result<Answer, ReadError>,
     requires { Lends F.Fn lent.now depth }
-    ensures { Reads known_items place.old place.new result (items_with depth room) }
+    ensures { Reads known_items place.old place.new result (items_at depth room) }
 {
-    items_step(room, depth);
-    let mut known = SizedBlockItems::new(place.alloc);
-    while item_turn(lent, &mut known, room, place, depth)? {}
-    Ok(known)
+    let first = labels(room, place, depth)?;
+    more_items(lent, first, room, place, depth)
 }
 
-/// `{ (decl | stmt)* }` at its brace, in a scope that is open. Linear in the tokens.
-#[tactic(auto, unfolding(c_reading::specs::Stating::block_body, c_reading::specs::Reading::and_then), using(crate::proofs::Rows::items_same))]
+/// The items in their braces.
+#[tactic(auto, unfolding(c_reading::specs::Reading::and_then), using(crate::proofs::Rows::items_same))]
+fn braced<'a, F>(
+    lent: &F,
+    room: u16,
+    place: &mut Place<'a>,
+    depth: u32,
+) -> Result<SizedBlock, ReadError>
+where
+    F: Fn(Ask, &mut Place<'a>) -> Result<Answer, ReadError>,
+    requires { Lends F.Fn lent.now depth }
+    ensures { ReadsBlock place.old place.new result (body_at depth room) }
+{
+    let opening = take_one(place)?;
+    let items = items(lent, room.saturating_sub(1), place, depth)?;
+    let closing = close_brace(place)?;
+    Ok(block_of(opening, items, closing))
+}
+
+/// `{ LabelDecl* (decl | stmt)* }` at its brace, in a scope that is open. Linear in the tokens.
+#[tactic(auto, using(crate::proofs::Bodies::body_is))]
 pub fn block_body<'a, F>(
     lent: &F,
     room: u16,
@@ -78,10 +165,7 @@ where
     requires { Lends F.Fn lent.now depth }
     ensures { ReadsBlock place.old place.new result (stating.block_body (knot depth) room) }
 {
-    let opening = take_one(place)?;
-    let items = items(lent, room.saturating_sub(1), place, depth)?;
-    let closing = close_brace(place)?;
-    Ok(block_of(opening, items, closing))
+    braced(lent, room, place, depth)
 }
 
 /// `{ (decl | stmt)* }`, in a scope of its own (C99, 6.8.2).

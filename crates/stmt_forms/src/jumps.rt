@@ -9,9 +9,10 @@ ghost use Rattle.stmt_forms.specs.Statements.{ReadsSomeExpr, null_with};
 
 use c_nodes::{SizedSomeExpr, SizedStmt, no_expr, some_expr};
 use c_reading::Reach;
+use qual_base::TokenId;
 use reader_base::{
     Answer, Ask, Begun, Place, ReadError, asm_words, attrs, expr_inside, group, is_close_paren,
-    is_semicolon, kind_at, name, room_for, semicolon, take_one,
+    is_semicolon, is_star, kind_at, name, room_for, semicolon, take_one,
 };
 
 /// `;` alone (C99, 6.8.3).
@@ -25,13 +26,56 @@ pub(crate) fn null_stmt(room: u16, place: &mut Place) -> Result<SizedStmt, ReadE
     Ok(made)
 }
 
-/// `goto Name ;` (C99, 6.8.6.1).
+/// `goto Name ;` (C99, 6.8.6.1), in wider C `goto * expr ;` too.
 #[tactic(auto, unfolding(c_reading::specs::Stating::goto_with, c_reading::specs::Reading::fits, c_reading::specs::Reading::and_then))]
-pub(crate) fn goto_stmt(room: u16, place: &mut Place, depth: u32) -> Result<SizedStmt, ReadError>
+pub(crate) fn goto_stmt<'a, F>(
+    lent: &F,
+    room: u16,
+    place: &mut Place<'a>,
+    depth: u32,
+) -> Result<SizedStmt, ReadError>
+where
+    F: Fn(Ask, &mut Place<'a>) -> Result<Answer, ReadError>,
+    requires { Lends F.Fn lent.now depth }
     ensures { ReadsStmt place.old place.new result (stating.goto_with (knot depth) room) }
 {
     room_for(1, room, place)?;
     let keyword = take_one(place)?;
+    if place.scopes.is_wide() && is_star(kind_at(place.rest)) {
+        return goto_value(lent, keyword, room, place, depth);
+    }
+    goto_name(keyword, place, depth)
+}
+
+/// `* expr ;`, behind `goto`.
+#[tactic(auto, unfolding(c_reading::specs::Stating::goto_value_with, c_reading::specs::Reading::fits, c_reading::specs::Reading::and_then))]
+fn goto_value<'a, F>(
+    lent: &F,
+    keyword: TokenId,
+    room: u16,
+    place: &mut Place<'a>,
+    depth: u32,
+) -> Result<SizedStmt, ReadError>
+where
+    F: Fn(Ask, &mut Place<'a>) -> Result<Answer, ReadError>,
+    requires { Lends F.Fn lent.now depth }
+    ensures { ReadsStmt place.old place.new result
+        (stating.goto_value_with (knot depth) keyword room) }
+{
+    room_for(2, room, place)?;
+    let star = take_one(place)?;
+    let inside = room.saturating_sub(1);
+    let value = expr_inside(lent, Reach::Whole, Begun::Nothing, inside, place, depth)?;
+    let semi = semicolon(place)?;
+    let made = decl_nodes::goto_value(place.alloc, keyword, star, value, semi)?;
+    Ok(made)
+}
+
+/// `Name ;`, behind `goto`.
+#[tactic(auto, unfolding(c_reading::specs::Stating::goto_name, c_reading::specs::Reading::and_then))]
+fn goto_name(keyword: TokenId, place: &mut Place, depth: u32) -> Result<SizedStmt, ReadError>
+    ensures { ReadsStmt place.old place.new result (stating.goto_name (knot depth) keyword) }
+{
     let label = name(place)?;
     let semi = semicolon(place)?;
     let made = decl_nodes::goto_stmt(place.alloc, keyword, label, semi)?;

@@ -2,13 +2,15 @@
 
 ghost use Rattle.c_reading.specs.Knot.{knot};
 ghost use Rattle.c_reading.specs.Stating as stating;
+ghost use Rattle.c_nodes.specs.Sized.{expr};
 ghost use Rattle.reader_base.specs.Lent.{Lends, ReadsStmt};
 
-use c_nodes::SizedStmt;
+use c_nodes::{SizedExpr, SizedStmt};
 use c_reading::Reach;
+use qual_base::TokenId;
 use reader_base::{
-    Answer, Ask, Begun, Place, ReadError, attrs, colon, expr_inside, name, room_for, stmt_inside,
-    take_one,
+    Answer, Ask, Begun, Place, ReadError, attrs, colon, expr_inside, is_dots, kind_at, name,
+    room_for, stmt_inside, take_one,
 };
 
 /// `Name : Attr* stmt`.
@@ -32,7 +34,61 @@ where
     Ok(made)
 }
 
-/// `case cond : stmt`.
+/// `... cond : stmt`, behind the first value of a range.
+#[tactic(auto, unfolding(c_reading::specs::Stating::range_behind, c_reading::specs::Reading::and_then))]
+fn range_behind<'a, F>(
+    lent: &F,
+    keyword: TokenId,
+    first: SizedExpr,
+    room: u16,
+    place: &mut Place<'a>,
+    depth: u32,
+) -> Result<SizedStmt, ReadError>
+where
+    F: Fn(Ask, &mut Place<'a>) -> Result<Answer, ReadError>,
+    requires { Lends F.Fn lent.now depth }
+    ensures { ReadsStmt place.old place.new result
+        (stating.range_behind (knot depth) keyword (expr first) room) }
+{
+    let below = room.saturating_sub(1);
+    let dots = take_one(place)?;
+    let last = expr_inside(
+        lent,
+        Reach::Conditional,
+        Begun::Nothing,
+        below,
+        place,
+        depth,
+    )?;
+    let colon = colon(place)?;
+    let body = stmt_inside(lent, below, place, depth)?;
+    let made = decl_nodes::case_range(place.alloc, keyword, first, dots, last, colon, body)?;
+    Ok(made)
+}
+
+/// `: stmt`, behind the value.
+#[tactic(auto, unfolding(c_reading::specs::Stating::value_behind, c_reading::specs::Reading::and_then))]
+fn value_behind<'a, F>(
+    lent: &F,
+    keyword: TokenId,
+    value: SizedExpr,
+    room: u16,
+    place: &mut Place<'a>,
+    depth: u32,
+) -> Result<SizedStmt, ReadError>
+where
+    F: Fn(Ask, &mut Place<'a>) -> Result<Answer, ReadError>,
+    requires { Lends F.Fn lent.now depth }
+    ensures { ReadsStmt place.old place.new result
+        (stating.value_behind (knot depth) keyword (expr value) room) }
+{
+    let colon = colon(place)?;
+    let body = stmt_inside(lent, room.saturating_sub(1), place, depth)?;
+    let made = decl_nodes::case_stmt(place.alloc, keyword, value, colon, body)?;
+    Ok(made)
+}
+
+/// `case cond : stmt`, in wider C `case cond ... cond : stmt` too.
 #[tactic(auto, unfolding(c_reading::specs::Stating::case_with, c_reading::specs::Reading::fits, c_reading::specs::Reading::and_then))]
 pub(crate) fn case_stmt<'a, F>(
     lent: &F,
@@ -56,10 +112,10 @@ where
         place,
         depth,
     )?;
-    let colon = colon(place)?;
-    let body = stmt_inside(lent, below, place, depth)?;
-    let made = decl_nodes::case_stmt(place.alloc, keyword, value, colon, body)?;
-    Ok(made)
+    if place.scopes.is_wide() && is_dots(kind_at(place.rest)) {
+        return range_behind(lent, keyword, value, room, place, depth);
+    }
+    value_behind(lent, keyword, value, room, place, depth)
 }
 
 /// `default : stmt`.

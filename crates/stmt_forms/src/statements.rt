@@ -109,7 +109,7 @@ where
         StmtStart::While => while_stmt(lent, room, place, depth),
         StmtStart::Do => do_stmt(lent, room, place, depth),
         StmtStart::For => for_stmt(lent, room, place, depth),
-        StmtStart::Goto => goto_stmt(room, place, depth),
+        StmtStart::Goto => goto_stmt(lent, room, place, depth),
         StmtStart::Continue => continue_stmt(room, place, depth),
         StmtStart::Break => break_stmt(room, place, depth),
         StmtStart::Return => return_stmt(lent, room, place, depth),

@@ -1,5 +1,5 @@
 -- Blocks and their items: a name at the beginning of one is completed as a label, `__extension__` as a declaration.
-use Rattle.std.proofs.Common.{◌≡◌, ℕ, suc, ◌<◌, ◌≤◌, Bool, true, false, if◌then◌else◌, List, [], ◌∷◌, length, inl, inr, Option, Some, None, refl, ◌∙◌, ap, arith}
+use Rattle.std.proofs.Common.{◌≡◌, ℕ, suc, ◌<◌, ◌≤◌, Bool, true, false, if◌then◌else◌, List, [], ◌∷◌, ◌++◌, length, inl, inr, Option, Some, None, refl, ◌∙◌, ap, arith}
 use Rattle.std.specs.Prelude.{◌-◌, not}
 use Rattle.c_words.specs.declared.kinds.TokenKind.{TokenKind}
 use Rattle.c_words.specs.declared.kinds.TokenKind.TheVariants as kinds
@@ -8,31 +8,34 @@ use Rattle.c_words.specs.declared.kinds.Keyword.TheVariants as keywords
 use Rattle.c_tree.specs.declared.lexeme.Lexeme.{Lexeme}
 use Rattle.c_syntax.specs.declared.parts.Identifier.{Identifier}
 use Rattle.c_syntax.specs.declared.parts.Attr.{Attr}
-use Rattle.c_tree.specs.Tree.{Expr, some_expr, SpecWords, no_words, more_words, typedef_name, Declaration, decl_declaration, decl_assert, BlockItem, block_decl, block_stmt, Stmt, expr_stmt, attr_stmt, label}
-use Rattle.c_units.specs.HeldScopes.{HeldScopes, names_type, no_scope, enter}
+use Rattle.c_tree.specs.Tree.{Expr, some_expr, SpecWords, no_words, more_words, typedef_name, Declaration, decl_declaration, decl_assert, BlockItem, block_decl, block_stmt, block_labels, Stmt, expr_stmt, attr_stmt, label}
+use Rattle.c_tree.specs.WellFormed.{has_auto}
+use Rattle.c_units.specs.HeldScopes.{HeldScopes, is_wide, names_type, new_scope, enter}
 use Rattle.c_reading.specs.declared.kinds.Fault.TheVariants.{Unexpected}
 use Rattle.c_reading.specs.declared.kinds.Reach.TheVariants.{Whole}
-use Rattle.c_reading.specs.Reading.{Found, Reader, ends, refuses, fits, kind_at, behind_first, take_one, token_at, and_then, repeated}
-use Rattle.c_reading.specs.Tokens.{is_semicolon, is_colon, is_open_brace, is_close_brace, is_attribute, is_extension, is_static_assert, is_end, spelled_name, identifier_of, attrs_at, extensions_at, assert_at}
+use Rattle.c_reading.specs.Reading.{Found, Reader, ends, refuses, fits, kind_at, behind_first, take_one, token_at, and_then, repeated, is_comma}
+use Rattle.c_reading.specs.Tokens.{is_semicolon, is_colon, is_open_brace, is_close_brace, is_attribute, is_extension, is_static_assert, is_label_word, is_end, spelled_name, identifier_of, name_at, attrs_at, extensions_at, assert_at}
 use Rattle.c_reading.specs.Parts.{Inner, Begun, nothing, extensions, Block, block_items_from}
 use Rattle.c_reading.specs.Specifying.{begins_specs}
-use Rattle.c_reading.specs.Declaring.{words_of_attrs}
-use Rattle.c_reading.specs.Stating.{declaration_with, declaration_from, as_item, as_stmt, expr_stmt_with, label_with, named_item, extended_item, attr_item_by, attr_item, other_item, block_item_with, block_body, block_with}
+use Rattle.c_reading.specs.Declaring.{names_list, words_of_attrs}
+use Rattle.c_reading.specs.Stating.{declaration_with, declaration_from, as_item, as_stmt, expr_stmt_with, label_with, named_item, extended_item, attr_item_by, attr_item, other_item, block_item_with, labels_with, block_body, block_with}
 use Rattle.c_reading.proofs.Binding.{found, done, bind_ok, if_ok, token_falls}
-use Rattle.c_reading.proofs.Forms.{Falls, Shrinks, shrinks_falls}
+use Rattle.c_reading.proofs.Forms.{Falls, Shrinks, shrinks_falls, name_falls}
+use Rattle.c_reading.proofs.Rows.{repeated_falls}
 use Rattle.c_reading.proofs.Aims.{Laws}
 use Rattle.c_reading.proofs.KnotLaws.{none_tokens}
-use Rattle.c_reading.proofs.StmtFalls.{block_item_shrinks, block_shrinks}
+use Rattle.c_reading.proofs.StmtFalls.{block_item_shrinks, labels_shrinks, block_shrinks}
 use Rattle.reading_steps.specs.Steps.{first_kind, any, Good, Ready, Law}
 use Rattle.reading_steps.specs.Stops.{is_int, stops_whole, stops_stmt}
 use Rattle.reading_steps.specs.InnerLaws.{InnerLaws, BlockPlaces}
 use Rattle.reading_steps.proofs.Keeping.{kept_refl}
 use Rattle.reading_steps.proofs.Steps.{behind, kind_same, refused_here, ends_law, if_good, fits_good, ready_fits, ready_as, ready_bind, ready_take, bind_good, bind_law, take_behind, good_as, good_before, ready_before, law_before, good_weaker, law_weaker, own_good, own_ready, in_scope, tail_good}
 use Rattle.reading_steps.proofs.Lists.{repeated_law}
-use Rattle.reading_steps.proofs.Chains.{ends_falls, behind_falls, behind_shrinks, token_shrinks, take_shrinks, good_choice, token_then, closed_law}
-use Rattle.token_places.proofs.Single.{semicolon_end, colon_end, open_brace_end, close_brace_end, mapped_law, mapped_good, mapped_ready}
+use Rattle.reading_steps.proofs.Chains.{ends_falls, behind_falls, behind_shrinks, falls_shrinks, token_shrinks, take_shrinks, good_choice, token_then, closed_law}
+use Rattle.token_places.proofs.Single.{semicolon_end, colon_end, open_brace_end, close_brace_end, mapped_law, mapped_good, mapped_ready, name_law}
 use Rattle.token_places.proofs.Groups.{assert_law}
 use Rattle.token_places.proofs.Rows.{attrs_law, extensions_law}
+use Rattle.token_places.proofs.Names.{names_law}
 use Rattle.decl_places.proofs.Members.{exts_room}
 use Rattle.expr_places.proofs.Facts.{semicolon_whole}
 use Rattle.stmt_places.proofs.Declared.{semi_attribute, declaration_good, declaration_ready, declaration_shrinks, from_good, from_shrinks}
@@ -59,6 +62,26 @@ close_open kind h = rw h refl
 pub name_is : (kind : TokenKind) (name : ℕ) → spelled_name kind ≡ Some name → kind ≡ kinds.Name name
 name_is (kinds.Name n) name e = cc
 name_is kind name e = absurd cc
+
+-- no attribute is `__auto_type`
+attrs_plain : (attrs : List Attr) → has_auto (words_of_attrs attrs) ≡ false
+attrs_plain [] = refl
+attrs_plain (a ∷ attrs) = attrs_plain attrs
+
+close_label : (kind : TokenKind) → is_close_brace kind ≡ true → is_label_word kind ≡ false
+close_label (kinds.Punct puncts.CloseBrace) h = refl
+close_label kind h = absurd cc
+
+label_word_end : (kind : TokenKind) → is_label_word kind ≡ true → is_end kind ≡ false
+label_word_end kinds.End h = absurd cc
+label_word_end kind h = refl
+
+semi_comma : (kind : TokenKind) → is_semicolon kind ≡ true → is_comma kind ≡ false
+semi_comma (kinds.Punct puncts.Semicolon) h = refl
+semi_comma kind h = absurd cc
+
+name_shrinks : Shrinks name_at
+name_shrinks s ts x e = let one = name_falls s ts x e in omega (arith, one)
 
 abbrev pub semi_of : Lexeme
 semi_of = record { kind = kinds.Punct puncts.Semicolon; at = 0 }
@@ -122,9 +145,9 @@ module _ (n : ℕ) (inner : Inner) (laws : Laws [] n inner) (places : InnerLaws 
   abbrev of_decl : Declaration → BlockItem
   of_decl d = block_decl (decl_declaration d)
 
-  from_item_good : (known : SpecWords) (room : ℕ) → room < n → (stops : TokenKind → Bool) (s : HeldScopes) (ts : List Lexeme) → Good false (behind (declaration_from inner known room) (λ d. ends (of_decl d))) stops s ts
-  from_item_good known room less stops s ts =
-      mapped_good false (declaration_from inner known room) of_decl stops s ts (good_before false (declaration_from inner known room) any stops s ts (λ kind h. refl) (from_good n inner laws places known room less s ts))
+  from_item_good : (known : SpecWords) (room : ℕ) → has_auto known ≡ false → room < n → (stops : TokenKind → Bool) (s : HeldScopes) (ts : List Lexeme) → Good false (behind (declaration_from inner known room) (λ d. ends (of_decl d))) stops s ts
+  from_item_good known room plain less stops s ts =
+      mapped_good false (declaration_from inner known room) of_decl stops s ts (good_before false (declaration_from inner known room) any stops s ts (λ kind h. refl) (from_good n inner laws places known room plain less s ts))
 
   from_item_shrinks : (known : SpecWords) (room : ℕ) → Shrinks (behind (declaration_from inner known room) (λ d. ends (of_decl d)))
   from_item_shrinks known room = behind_shrinks (declaration_from inner known room) (λ d. ends (of_decl d)) (from_shrinks n inner laws places known room) (λ d. ends_falls (of_decl d))
@@ -181,7 +204,7 @@ module _ (n : ℕ) (inner : Inner) (laws : Laws [] n inner) (places : InnerLaws 
         by_type : (b : Bool) → names_type s name ≡ b → Good false (other_choice at) is_close_brace s k
         by_type true is =
             good_as false (behind (declaration_from inner (known_name at) room) (λ d. ends (of_decl d))) (other_choice at) is_close_brace s k (λ k e. rw is refl) (inr (λ k e. rw is refl))
-            (from_item_good (known_name at) room less is_close_brace s k)
+            (from_item_good (known_name at) room refl less is_close_brace s k)
         by_type false is =
             let o = expr_stmt_name room (omega (arith, less)) two s name at is in
             good_as false (λ s k. behind (expr_stmt_with inner nothing room) (λ t. ends (block_stmt t)) s (name_token at ∷ k)) (other_choice at) is_close_brace s k (λ k e. rw is refl) (inr (λ k e. rw is refl))
@@ -287,7 +310,7 @@ module _ (n : ℕ) (inner : Inner) (laws : Laws [] n inner) (places : InnerLaws 
         if_good false (λ s. is_semicolon) (semi_item attrs) (from_or_not attrs room) is_close_brace s ts
         (λ is. take_behind false (λ semi. ends (block_stmt (attr_stmt attrs semi))) is_close_brace (λ semi. ends_law false (block_stmt (attr_stmt attrs semi)) any is_close_brace (λ kind h. refl)) s ts (semicolon_end (kind_at ts) is))
         (λ is. if_good false begins_specs (behind (declaration_from inner (words_of_attrs attrs) room) (λ d. ends (of_decl d))) (λ s ts. refuses Unexpected ts) is_close_brace s ts
-        (λ is. from_item_good (words_of_attrs attrs) room less is_close_brace s ts) (λ is. refused_here false (λ s ts. refuses Unexpected ts) is_close_brace s ts Unexpected (λ k e. refl))
+        (λ is. from_item_good (words_of_attrs attrs) room (attrs_plain attrs) less is_close_brace s ts) (λ is. refused_here false (λ s ts. refuses Unexpected ts) is_close_brace s ts Unexpected (λ k e. refl))
         (λ is. inl (λ x e. from_item_shrinks (words_of_attrs attrs) room s ts x e)) (λ is. inl (λ x e. absurd cc)))
         (λ is. inl (λ x e. semi_item_shrinks attrs s ts x e)) (λ is. inl (λ x e. from_or_not_shrinks attrs room s ts x e));
     ready = λ s at. record {
@@ -360,19 +383,52 @@ module _ (n : ℕ) (inner : Inner) (laws : Laws [] n inner) (places : InnerLaws 
 
   -- Blocks.
 
+  -- `__label__` names ;
+  labels_good : (room : ℕ) (stops : TokenKind → Bool) (s : HeldScopes) (ts : List Lexeme) → is_label_word (kind_at ts) ≡ true → Good false (labels_with inner room) stops s ts
+  unfolding labels_with
+  labels_good room stops s ts is =
+      fits_good false 1 room (behind take_one listed_names) stops s ts (λ fit. take_behind false listed_names stops names_rest s ts (label_word_end (kind_at ts) is))
+    where
+      listed_names : ℕ → Reader BlockItem
+      listed_names keyword = behind (names_list name_at) (λ names. behind (token_at is_semicolon) (λ semi. ends (block_labels keyword names semi)))
+
+      names_rest : (keyword : ℕ) → Law false (listed_names keyword) any stops
+      names_rest keyword =
+          closed_law false (names_list name_at) is_semicolon (kinds.Punct puncts.Semicolon) any stops (λ names semi. ends (block_labels keyword names semi))
+          (names_law false name_at name_shrinks any is_semicolon semi_comma (name_law false any any (λ name. refl))) refl semicolon_end
+          (λ names semi. ends_law false (block_labels keyword names semi) any stops (λ kind h. refl)) (λ names semi. ends_falls (block_labels keyword names semi))
+
+  abbrev block_made : ℕ → List BlockItem → List BlockItem → ℕ → Block
+  block_made opening labels items closing = record { opening = opening; items = block_items_from (labels ++ items); closing = closing }
+
+  abbrev items_rest : ℕ → ℕ → List BlockItem → Reader Block
+  items_rest room opening labels =
+      behind (repeated (λ kind. not (is_close_brace kind)) (block_item_with inner (room - 1))) (λ items. behind (token_at is_close_brace) (λ closing. ends (block_made opening labels items closing)))
+
+  items_rest_law : (room : ℕ) → room - 1 < n → (opening : ℕ) (labels : List BlockItem) → Law false (items_rest room opening labels) is_close_brace any
+  items_rest_law room less opening labels =
+      closed_law false (repeated (λ kind. not (is_close_brace kind)) (block_item_with inner (room - 1))) is_close_brace (kinds.Punct puncts.CloseBrace) is_close_brace any
+      (λ items closing. ends (block_made opening labels items closing))
+      (repeated_law false (λ kind. not (is_close_brace kind)) (block_item_with inner (room - 1)) (block_item_shrinks [] none_tokens n inner laws (room - 1)) is_close_brace is_close_brace (λ kind h. h) close_open
+      (λ s ts is. block_item_good (room - 1) less s ts))
+      refl close_brace_end (λ items closing. ends_law false (block_made opening labels items closing) any any (λ kind h. h))
+      (λ items closing. ends_falls (block_made opening labels items closing))
+
+  items_rest_shrinks : (room opening : ℕ) (labels : List BlockItem) → Shrinks (items_rest room opening labels)
+  items_rest_shrinks room opening labels =
+      falls_shrinks (repeated (λ kind. not (is_close_brace kind)) (block_item_with inner (room - 1))) (λ items. behind (token_at is_close_brace) (λ closing. ends (block_made opening labels items closing)))
+      (repeated_falls (λ kind. not (is_close_brace kind)) (block_item_with inner (room - 1)) (block_item_shrinks [] none_tokens n inner laws (room - 1)))
+      (λ items. behind_shrinks (token_at is_close_brace) (λ closing. ends (block_made opening labels items closing)) (token_shrinks is_close_brace) (λ closing. ends_falls (block_made opening labels items closing)))
+
   abbrev block_rest : ℕ → ℕ → Reader Block
-  block_rest room opening =
-      behind (repeated (λ kind. not (is_close_brace kind)) (block_item_with inner (room - 1)))
-      (λ items. behind (token_at is_close_brace) (λ closing. ends (record { opening = opening; items = block_items_from items; closing = closing })))
+  block_rest room opening = behind (repeated is_label_word (labels_with inner (room - 1))) (items_rest room opening)
 
   block_rest_law : (room : ℕ) → room - 1 < n → (opening : ℕ) → Law false (block_rest room opening) any any
   block_rest_law room less opening =
-      closed_law false (repeated (λ kind. not (is_close_brace kind)) (block_item_with inner (room - 1))) is_close_brace (kinds.Punct puncts.CloseBrace) any any
-      (λ items closing. ends (record { opening = opening; items = block_items_from items; closing = closing }))
-      (repeated_law false (λ kind. not (is_close_brace kind)) (block_item_with inner (room - 1)) (block_item_shrinks [] none_tokens n inner laws (room - 1)) any is_close_brace (λ kind h. refl) close_open
-      (λ s ts is. block_item_good (room - 1) less s ts))
-      refl close_brace_end (λ items closing. ends_law false (record { opening = opening; items = block_items_from items; closing = closing }) any any (λ kind h. h))
-      (λ items closing. ends_falls (record { opening = opening; items = block_items_from items; closing = closing }))
+      bind_law false (repeated is_label_word (labels_with inner (room - 1))) (items_rest room opening) any is_close_brace any
+      (repeated_law false is_label_word (labels_with inner (room - 1)) (labels_shrinks [] none_tokens n inner laws (room - 1)) any is_close_brace (λ kind h. refl) close_label
+      (λ s ts is. labels_good (room - 1) is_close_brace s ts is))
+      (items_rest_law room less opening) (inl (λ labels s ts y e. items_rest_shrinks room opening labels s ts y e))
 
   pub block_body_good : (room : ℕ) → room - 1 < n → (s : HeldScopes) (ts : List Lexeme) → is_end (kind_at ts) ≡ false → Good false (block_body inner room) any s ts
   unfolding block_body
@@ -393,16 +449,16 @@ module _ (n : ℕ) (inner : Inner) (laws : Laws [] n inner) (places : InnerLaws 
       by_brace : (b : Bool) → is_open_brace (kind_at ts) ≡ b → Good true (block_with inner room) any s ts
       by_brace false is = refused_here true (block_with inner room) any s ts Unexpected (λ k e. rw (kind_same k ts e, is) refl)
       by_brace true is =
-          good_choice true (λ s ts. fits 1 room ts (in_scope (λ s. no_scope) (block_body inner room) same_block s ts)) (block_with inner room) any s ts (λ k e. rw (kind_same k ts e, is) refl) (block_shrinks [] none_tokens n inner laws room)
-          (fits_good true 1 room (in_scope (λ s. no_scope) (block_body inner room) same_block) any s ts
-          (λ fit. own_good (λ s. no_scope) (block_body inner room) same_block any s ts (block_body_good room (omega (arith, less, fit)) (enter s) ts (open_brace_end (kind_at ts) is))))
+          good_choice true (λ s ts. fits 1 room ts (in_scope (λ s. new_scope (is_wide s)) (block_body inner room) same_block s ts)) (block_with inner room) any s ts (λ k e. rw (kind_same k ts e, is) refl) (block_shrinks [] none_tokens n inner laws room)
+          (fits_good true 1 room (in_scope (λ s. new_scope (is_wide s)) (block_body inner room) same_block) any s ts
+          (λ fit. own_good (λ s. new_scope (is_wide s)) (block_body inner room) same_block any s ts (block_body_good room (omega (arith, less, fit)) (enter s) ts (open_brace_end (kind_at ts) is))))
 
   block_ready : (room : ℕ) → room < suc n → 1 ≤ room → (s : HeldScopes) (at : ℕ) → Ready true (block_with inner room) is_open_brace any s at
   unfolding block_with same_block
   block_ready room less one s at =
-      ready_as true (λ s ts. fits 1 room ts (in_scope (λ s. no_scope) (block_body inner room) same_block s ts)) (block_with inner room) is_open_brace any s at (λ k h. rw h refl)
-      (ready_fits true 1 room (in_scope (λ s. no_scope) (block_body inner room) same_block) is_open_brace any s at one
-      (own_ready (λ s. no_scope) (block_body inner room) same_block is_open_brace any s at (block_body_ready room (omega (arith, less, one)) (enter s) at)))
+      ready_as true (λ s ts. fits 1 room ts (in_scope (λ s. new_scope (is_wide s)) (block_body inner room) same_block s ts)) (block_with inner room) is_open_brace any s at (λ k h. rw h refl)
+      (ready_fits true 1 room (in_scope (λ s. new_scope (is_wide s)) (block_body inner room) same_block) is_open_brace any s at one
+      (own_ready (λ s. new_scope (is_wide s)) (block_body inner room) same_block is_open_brace any s at (block_body_ready room (omega (arith, less, one)) (enter s) at)))
 
   pub block_places : BlockPlaces (suc n) (block_with inner)
   block_places = record { good = block_good; ready = block_ready }

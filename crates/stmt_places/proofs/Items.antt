@@ -1,5 +1,5 @@
 -- The items of a unit. A first declarator with parameters around its name is completed by `{ }`, another by `;`.
-use Rattle.std.proofs.Common.{◌≡◌, ℕ, ◌<◌, ◌≤◌, Bool, true, false, if◌then◌else◌, List, [], ◌∷◌, length, inl, inr, Option, Some, None, refl, sym, ◌∙◌, ap, arith}
+use Rattle.std.proofs.Common.{◌≡◌, ℕ, ◌<◌, ◌≤◌, Bool, true, false, if◌then◌else◌, List, [], ◌∷◌, length, inl, inr, Option, Some, None, Ok, Err, refl, sym, ◌∙◌, ap, subst, arith}
 use Rattle.std.specs.Prelude.{◌+◌, ◌-◌, not}
 use Rattle.c_words.specs.declared.kinds.TokenKind.{TokenKind}
 use Rattle.c_words.specs.declared.kinds.TokenKind.TheVariants as kinds
@@ -10,38 +10,42 @@ use Rattle.c_syntax.specs.declared.parts.Attr.{Attr}
 use Rattle.c_tree.specs.Tree.{SpecWords, Declr, SomeDeclr, no_declr, some_declr, Declaration, decl_declaration, decl_assert}
 use Rattle.c_tree.specs.Specifiers.{storage_words}
 use Rattle.c_tree.specs.Height.{declr_height}
-use Rattle.c_tree.specs.Unit.{Item, function_item, decl_item, asm_item, semi_item}
+use Rattle.c_tree.specs.WellFormed.{has_auto, lists_identifiers}
+use Rattle.c_tree.specs.Unit.{Item, function_item, old_function_item, decl_item, asm_item, semi_item}
 use Rattle.typedef_scope.specs.declared.kind.Kind.TheVariants.{Value}
-use Rattle.c_units.specs.HeldScopes.{HeldScopes, HeldScope, release}
+use Rattle.c_units.specs.HeldScopes.{HeldScopes, HeldScope, is_wide, new_scope, innermost, enter, leave, reopen, release}
 use Rattle.c_units.specs.Scoping.{has_typedef_word}
 use Rattle.c_reading.specs.declared.kinds.Fault.TheVariants.{Unexpected}
 use Rattle.c_reading.specs.declared.kinds.Mode.TheVariants.{Named}
-use Rattle.c_reading.specs.Reading.{Found, Read, Reader, ends, refuses, fits, kind_at, take_one, token_at, and_then}
+use Rattle.c_reading.specs.declared.kinds.Role.TheVariants.{Declaring}
+use Rattle.c_reading.specs.Reading.{Found, Read, Reader, ends, refuses, fits, kind_at, take_one, token_at, and_then, repeated, repeated_turn}
 use Rattle.c_reading.specs.Tokens.{is_end, is_semicolon, is_asm, is_attribute, is_open_brace, is_static_assert, is_extension, attrs_at, group_at, assert_at, extensions_at}
 use Rattle.c_reading.specs.Parts.{Inner, Block, Declared, DeclrItem}
 use Rattle.c_reading.specs.Specifying.{present, specs_here}
-use Rattle.c_reading.specs.Stating.{some_init_with, declr_behind, declrs_with, bare_declaration, declaration_behind, block_body}
-use Rattle.c_reading.specs.Items.{goes_on_declared, as_decl, function_with, attrs_behind, function_or_not, behind_function, behind_declr, first_declr, declared_item, asm_item_with, item_with, items_with}
-use Rattle.c_reading.proofs.Binding.{found, done, bind_ok, fits_ok, if_ok}
+use Rattle.c_reading.specs.Stating.{some_init_with, declr_behind, declrs_with, bare_declaration, declaration_behind, declaration_with, block_body}
+use Rattle.c_reading.specs.Items.{goes_on_declared, as_decl, function_with, attrs_behind, function_or_not, behind_function, behind_declr, old_declaration, old_function_with, first_declr, declared_item, asm_item_with, item_with, items_with}
+use Rattle.c_reading.proofs.Binding.{found, done, ok_is, bind_ok, fits_ok, if_ok}
 use Rattle.c_reading.proofs.Forms.{Falls, Shrinks}
 use Rattle.c_reading.proofs.KnotLaws.{none_tokens}
 use Rattle.c_reading.proofs.Shared.{specs_here_shrinks, present_ok}
 use Rattle.c_reading.proofs.StmtFalls.{some_init_falls, declr_behind_falls, declrs_shrinks, declaration_behind_shrinks, block_body_shrinks}
-use Rattle.c_reading.proofs.ItemsFalls.{item_shrinks}
+use Rattle.c_reading.proofs.ItemsFalls.{old_declaration_shrinks, item_shrinks}
+use Rattle.c_reading.proofs.Rows.{repeated_falls, row_turn_shrinks}
+use Rattle.c_reading.proofs.Loops.{run_stops}
 use Rattle.c_reading.proofs.Aims.{Laws}
 use Rattle.reading_steps.specs.Steps.{any, Good, Ready, Law}
 use Rattle.reading_steps.specs.Stops.{is_int, is_name_kind, stops_specs, stops_named}
 use Rattle.reading_steps.specs.InnerLaws.{InnerLaws}
 use Rattle.reading_steps.proofs.Keeping.{release_kept}
-use Rattle.reading_steps.proofs.Steps.{behind, in_scope, own_good, own_ready, kind_same, refused_here, if_good, fits_good, ready_as, ready_bind, bind_good, bind_law, take_behind, ends_law, token_law, good_before, ready_before, good_weaker, ready_weaker, good_from, ready_from}
+use Rattle.reading_steps.proofs.Steps.{behind, in_scope, own_good, own_ready, kind_same, good_as, refused_here, if_good, fits_good, ready_as, ready_bind, ready_bind_by, bind_good_by, bind_good, bind_law, take_behind, ends_law, token_law, good_before, ready_before, good_weaker, ready_weaker, good_from, ready_from}
 use Rattle.reading_steps.proofs.Lists.{repeated_law}
-use Rattle.reading_steps.proofs.Chains.{good_choice}
+use Rattle.reading_steps.proofs.Chains.{falls_shrinks, good_choice}
 use Rattle.token_places.proofs.Single.{semicolon_end, asm_end, open_brace_end, mapped_good, mapped_ready, mapped_law}
 use Rattle.token_places.proofs.Groups.{group_anywhere, assert_law}
 use Rattle.token_places.proofs.Rows.{attrs_law, extensions_law}
 use Rattle.decl_places.proofs.Helping.{left_is}
-use Rattle.decl_places.proofs.Members.{specs_here_good, specs_here_ready}
-use Rattle.stmt_places.proofs.Declared.{behind_words, words_specs, name_words, name_semi, semi_named, some_init_law, declr_behind_law, declrs_high, declrs_ready, declaration_behind_good, declaration_behind_ready}
+use Rattle.decl_places.proofs.Members.{specs_here_good, specs_here_ready, exts_room}
+use Rattle.stmt_places.proofs.Declared.{behind_words, behind_of, plain_behind_of, first_int, here_widen, name_words, name_semi, semi_named, some_init_law, declr_behind_law, declrs_high, declrs_ready, AutoRoom, specs_here_auto, declaration_good, declaration_ready, declaration_shrinks, declaration_behind_good, declaration_behind_ready}
 use Rattle.stmt_places.proofs.Blocks.{block_body_good, block_body_ready}
 
 brace_attribute : (kind : TokenKind) → is_open_brace kind ≡ true → is_attribute kind ≡ false
@@ -200,16 +204,180 @@ module _ (n : ℕ) (inner : Inner) (laws : Laws [] n inner) (places : InnerLaws 
   behind_declr_shrinks exts words d (Some closed) s ts x e =
       if_ok (is_asm (kind_at ts)) e (λ is e. declared_shrinks exts words (plain_first d) (plain_falls d) s ts x (fits_ok (2 + declr_height d) room ts e).1) (λ is e. attrs_then_shrinks exts words d closed s ts x e)
 
+  -- Functions with a list of identifiers: declarations in the scope of the parameters, then the block, in which the function's name is
+  -- declared. `{ }` completes them.
+
+  not_open : (kind : TokenKind) → is_open_brace kind ≡ true → not (is_open_brace kind) ≡ false
+  not_open kind h = rw h refl
+
+  old_declaration_good : (s : HeldScopes) (ts : List Lexeme) → Good false (old_declaration inner (room - 1)) any s ts
+  unfolding old_declaration declaration_with
+  old_declaration_good s ts =
+      bind_good false (extensions_at (room - 1)) (λ exts. declaration_with inner exts (room - 1)) is_int any s ts
+      (λ exts scopes gives at. let h = gives.reads int_of refl in
+      declaration_ready n inner laws places exts (room - 1) (omega (arith, less)) (exts_room n inner places laws (room - 1) s h.0 (found exts scopes int_of) h.1 h.2) scopes at)
+      ((extensions_law false (room - 1) is_int is_int ((λ kind h. h), int_extension)).good s ts)
+      (λ x is. declaration_good n inner laws places x.tree (room - 1) (omega (arith, less)) x.scopes x.rest)
+      (inl (λ x y is e. declaration_shrinks n inner laws places x.tree (room - 1) x.scopes x.rest y e))
+    where
+      int_of : List Lexeme
+      int_of = record { kind = kinds.Keyword keywords.Int; at = 0 } ∷ []
+
+  record Olds : Type 0 where
+    ds : List Declaration
+    closed : HeldScope
+
+  abbrev olds_of : List Declaration → HeldScopes → Olds
+  olds_of ds t = record { ds = ds; closed = innermost t }
+
+  abbrev declarations : Reader (List Declaration)
+  declarations = repeated (λ kind. not (is_open_brace kind)) (old_declaration inner (room - 1))
+
+  abbrev olds : Reader Olds
+  olds = in_scope (λ s. new_scope (is_wide s)) declarations olds_of
+
+  declarations_law : Law false declarations is_open_brace is_open_brace
+  declarations_law =
+      repeated_law false (λ kind. not (is_open_brace kind)) (old_declaration inner (room - 1)) (old_declaration_shrinks [] none_tokens n inner laws (room - 1)) is_open_brace is_open_brace (λ kind h. h) not_open
+      (λ s ts is. good_before false (old_declaration inner (room - 1)) any is_open_brace s ts (λ kind h. refl) (old_declaration_good s ts))
+
+  olds_law : Law false olds is_open_brace is_open_brace
+  olds_law = record {
+    good = λ s ts. good_weaker false olds is_open_brace s ts (own_good (λ s. new_scope (is_wide s)) declarations olds_of is_open_brace s ts (declarations_law.good (new_scope (is_wide s) ∷ s) ts));
+    ready = λ s at. ready_weaker false olds is_open_brace is_open_brace s at (own_ready (λ s. new_scope (is_wide s)) declarations olds_of is_open_brace is_open_brace s at (declarations_law.ready (new_scope (is_wide s) ∷ s) at));
+  }
+
+  abbrev old_made : List ℕ → SpecWords → Declr → List Attr → Olds → Block → HeldScopes → Item
+  old_made exts words d attrs o b t = old_function_item exts words d attrs o.ds b.opening b.items b.closing
+
+  abbrev old_block : List ℕ → SpecWords → Declr → List Attr → Olds → Reader Item
+  old_block exts words d attrs o s ts = in_scope (λ s. o.closed) (block_body inner (room - 1)) (old_made exts words d attrs o) s ts
+
+  abbrev old_body : List ℕ → SpecWords → Declr → List Attr → Olds → Reader Item
+  old_body exts words d attrs o s ts = old_block exts words d attrs o (release Value s) ts
+
+  old_block_shrinks : (exts : List ℕ) (words : SpecWords) (d : Declr) (attrs : List Attr) (o : Olds) → Shrinks (old_block exts words d attrs o)
+  old_block_shrinks exts words d attrs o s ts x e =
+      let a = bind_ok e in
+      omega (arith, block_body_shrinks [] none_tokens n inner laws (room - 1) _ _ _ a.1, left_is a.2)
+
+  old_body_good : (exts : List ℕ) (words : SpecWords) (d : Declr) (attrs : List Attr) (o : Olds) (s : HeldScopes) (ts : List Lexeme) → is_open_brace (kind_at ts) ≡ true → Good false (old_body exts words d attrs o) any s ts
+  old_body_good exts words d attrs o s ts is =
+      good_from false (old_block exts words d attrs o) (release Value) any s ts (release_kept Value s)
+      (good_weaker false (old_block exts words d attrs o) any (release Value s) ts
+      (own_good (λ s. o.closed) (block_body inner (room - 1)) (old_made exts words d attrs o) any (release Value s) ts
+      (block_body_good n inner laws places (room - 1) (omega (arith, less)) (o.closed ∷ release Value s) ts (open_brace_end (kind_at ts) is))))
+
+  old_body_ready : (exts : List ℕ) (words : SpecWords) (d : Declr) (attrs : List Attr) (o : Olds) (s : HeldScopes) (at : ℕ) → Ready false (old_body exts words d attrs o) is_open_brace any s at
+  old_body_ready exts words d attrs o s at =
+      ready_from false (old_block exts words d attrs o) (release Value) is_open_brace any s at (release_kept Value s)
+      (ready_weaker false (old_block exts words d attrs o) is_open_brace any (release Value s) at
+      (own_ready (λ s. o.closed) (block_body inner (room - 1)) (old_made exts words d attrs o) is_open_brace any (release Value s) at (block_body_ready n inner laws places (room - 1) (omega (arith, less)) (o.closed ∷ release Value s) at)))
+
+  -- the declarations end at a brace alone
+  olds_open : (s : HeldScopes) (ts : List Lexeme) (x : Found Olds) → olds s ts ≡ done x → is_open_brace (kind_at x.rest) ≡ true
+  unfolding repeated
+  olds_open s ts x e =
+      let a = bind_ok e in
+      let none = run_stops (repeated_turn (λ kind. not (is_open_brace kind)) (old_declaration inner (room - 1)))
+      (row_turn_shrinks (λ kind. not (is_open_brace kind)) (old_declaration inner (room - 1)) (old_declaration_shrinks [] none_tokens n inner laws (room - 1))) [] (enter s) ts a.0 a.1 in
+      subst (λ (x : Found Olds). is_open_brace (kind_at x.rest) ≡ true) (ok_is a.2) (by_test (kind_at a.0.rest) _ (is_open_brace (kind_at a.0.rest)) refl none)
+    where
+      by_test : {A : Type 0} (k : TokenKind) (y : A) (b : Bool) → is_open_brace k ≡ b → (if not b then Some y else None) ≡ None → is_open_brace k ≡ true
+      by_test k y true is e = is
+      by_test k y false is e = absurd cc
+
+  abbrev old_rest : List ℕ → SpecWords → Declr → List Attr → Reader Item
+  old_rest exts words d attrs = behind olds (old_body exts words d attrs)
+
+  olds_falls : Falls olds
+  olds_falls s ts x e =
+      let a = bind_ok e in
+      let less : length a.0.rest ≤ length ts = repeated_falls (λ kind. not (is_open_brace kind)) (old_declaration inner (room - 1)) (old_declaration_shrinks [] none_tokens n inner laws (room - 1)) (enter s) ts a.0 a.1 in
+      omega (arith, less, left_is a.2)
+
+  old_rest_shrinks : (exts : List ℕ) (words : SpecWords) (d : Declr) (attrs : List Attr) → Shrinks (old_rest exts words d attrs)
+  old_rest_shrinks exts words d attrs = falls_shrinks olds (old_body exts words d attrs) olds_falls (λ o s ts x e. old_block_shrinks exts words d attrs o (release Value s) ts x e)
+
+  abbrev old_all : List ℕ → SpecWords → Declr → Reader Item
+  old_all exts words d = behind (attrs_at room) (old_rest exts words d)
+
+  -- the reader of such functions, written as one of declarations with their scope, and one of the block
+  old_is : (exts : List ℕ) (words : SpecWords) (d : Declr) (s : HeldScopes) (k : List Lexeme) → old_function_with inner exts words d room s k ≡ old_all exts words d s k
+  unfolding old_function_with and_then
+  old_is exts words d s k = by_attrs (attrs_at room s k)
+    where
+      by_declarations : (attrs : List Attr) (r : Read (List Declaration)) →
+          and_then r (λ ds. and_then (block_body inner (room - 1) (reopen (innermost ds.scopes) (release Value (leave ds.scopes))) ds.rest)
+          (λ body. ends (old_function_item exts words d attrs ds.tree body.tree.opening body.tree.items body.tree.closing) (leave body.scopes) body.rest)) ≡
+          and_then (and_then r (λ x. ends (olds_of x.tree x.scopes) (leave x.scopes) x.rest)) (λ o. old_body exts words d attrs o.tree o.scopes o.rest)
+      by_declarations attrs (Ok ds) = refl
+      by_declarations attrs (Err e) = refl
+
+      by_attrs : (r : Read (List Attr)) →
+          and_then r (λ attrs. and_then (declarations (enter attrs.scopes) attrs.rest)
+          (λ ds. and_then (block_body inner (room - 1) (reopen (innermost ds.scopes) (release Value (leave ds.scopes))) ds.rest)
+          (λ body. ends (old_function_item exts words d attrs.tree ds.tree body.tree.opening body.tree.items body.tree.closing) (leave body.scopes) body.rest))) ≡
+          and_then r (λ attrs. old_rest exts words d attrs.tree attrs.scopes attrs.rest)
+      by_attrs (Ok attrs) = by_declarations attrs.tree (declarations (enter attrs.scopes) attrs.rest)
+      by_attrs (Err e) = refl
+
+  old_law : (exts : List ℕ) (words : SpecWords) (d : Declr) → Law false (old_function_with inner exts words d room) is_open_brace any
+  old_law exts words d = record {
+    good = λ s ts. good_as false (old_all exts words d) (old_function_with inner exts words d room) any s ts (λ k e. old_is exts words d s k) (inr (λ k e. old_is exts words d s k)) (all_law.good s ts);
+    ready = λ s at. ready_as false (old_all exts words d) (old_function_with inner exts words d room) is_open_brace any s at (λ k h. old_is exts words d s k) (all_law.ready s at);
+  }
+    where
+      rest_law : (attrs : List Attr) → Law false (old_rest exts words d attrs) is_open_brace any
+      rest_law attrs = record {
+        good = λ s ts.
+            bind_good false olds (old_body exts words d attrs) is_open_brace any s ts (λ o scopes gives at. old_body_ready exts words d attrs o scopes at) (olds_law.good s ts)
+            (λ x is. old_body_good exts words d attrs x.tree x.scopes x.rest (olds_open s ts x is)) (inl (λ x y is e. old_block_shrinks exts words d attrs x.tree (release Value x.scopes) x.rest y e));
+        ready = λ s at. ready_bind false olds (old_body exts words d attrs) is_open_brace is_open_brace any s at (olds_law.ready s at) (λ o scopes gives at. old_body_ready exts words d attrs o scopes at);
+      }
+
+      all_law : Law false (old_all exts words d) is_open_brace any
+      all_law =
+          bind_law false (attrs_at room) (old_rest exts words d) is_open_brace is_open_brace any (attrs_law false room is_open_brace is_open_brace ((λ kind h. h), brace_attribute))
+          rest_law
+          (inl (λ attrs s ts y e. old_rest_shrinks exts words d attrs s ts y e))
+
+  old_shrinks : (exts : List ℕ) (words : SpecWords) (d : Declr) → Shrinks (old_function_with inner exts words d room)
+  old_shrinks exts words d s ts x e =
+      falls_shrinks (attrs_at room) (old_rest exts words d) (none_tokens.attrs_falls room) (old_rest_shrinks exts words d) s ts x (sym (old_is exts words d s ts) ∙ e)
+
   -- A first declarator, whose name is declared behind it.
 
-  abbrev known_rest : List ℕ → SpecWords → Option HeldScope → Declr → Reader Item
-  known_rest exts words closed d s ts = behind_declr inner exts words d closed room (release Value s) ts
+  abbrev released_rest : List ℕ → SpecWords → Option HeldScope → Declr → Reader Item
+  released_rest exts words closed d s ts = behind_declr inner exts words d closed room (release Value s) ts
 
-  known_law : (exts : List ℕ) (words : SpecWords) (closed : Option HeldScope) (d : Declr) → Law false (known_rest exts words closed d) stops_named any
-  known_law exts words closed d = record {
+  released_law : (exts : List ℕ) (words : SpecWords) (closed : Option HeldScope) (d : Declr) → Law false (released_rest exts words closed d) stops_named any
+  released_law exts words closed d = record {
     good = λ s ts. good_from false (behind_declr inner exts words d closed room) (release Value) any s ts (release_kept Value s) ((behind_declr_law exts words d closed).good (release Value s) ts);
     ready = λ s at. ready_from false (behind_declr inner exts words d closed room) (release Value) stops_named any s at (release_kept Value s) ((behind_declr_law exts words d closed).ready (release Value s) at);
   }
+
+  abbrev known_rest : List ℕ → SpecWords → Option HeldScope → Declr → Reader Item
+  known_rest exts words closed d s ts = if lists_identifiers d then old_function_with inner exts words d room s ts else released_rest exts words closed d s ts
+
+  known_shrinks : (exts : List ℕ) (words : SpecWords) (closed : Option HeldScope) (d : Declr) → Shrinks (known_rest exts words closed d)
+  known_shrinks exts words closed d s ts x e =
+      if_ok (lists_identifiers d) e (λ is e. old_shrinks exts words d s ts x e) (λ is e. behind_declr_shrinks exts words d closed (release Value s) ts x e)
+
+  known_law : (exts : List ℕ) (words : SpecWords) (closed : Option HeldScope) (d : Declr) → Law false (known_rest exts words closed d) stops_named any
+  known_law exts words closed d = by_list (lists_identifiers d) refl
+    where
+      by_list : (b : Bool) → lists_identifiers d ≡ b → Law false (known_rest exts words closed d) stops_named any
+      by_list true is = record {
+        good = λ s ts. good_as false (old_function_with inner exts words d room) (known_rest exts words closed d) any s ts (λ k e. rw is refl) (inr (λ k e. rw is refl)) ((old_law exts words d).good s ts);
+        ready = λ s at.
+            ready_before false (known_rest exts words closed d) is_open_brace stops_named any any s at (λ kind h. h) brace_named
+            (ready_as false (old_function_with inner exts words d room) (known_rest exts words closed d) is_open_brace any s at (λ k h. rw is refl) ((old_law exts words d).ready s at));
+      }
+      by_list false is = record {
+        good = λ s ts. good_as false (released_rest exts words closed d) (known_rest exts words closed d) any s ts (λ k e. rw is refl) (inr (λ k e. rw is refl)) ((released_law exts words closed d).good s ts);
+        ready = λ s at. ready_as false (released_rest exts words closed d) (known_rest exts words closed d) stops_named any s at (λ k h. rw is refl) ((released_law exts words closed d).ready s at);
+      }
 
   abbrev declr_rest : List ℕ → SpecWords → Declared → Reader Item
   declr_rest exts words d = behind (present d.declr) (known_rest exts words d.closed)
@@ -230,7 +398,7 @@ module _ (n : ℕ) (inner : Inner) (laws : Laws [] n inner) (places : InnerLaws 
       let a = bind_ok e in
       let p = present_ok d.declr s ts a.0 a.1 in
       let same : length ts ≡ length a.0.rest = ap (λ (x : Found Declr). length x.rest) p.1 in
-      let less : length x.rest < length a.0.rest = behind_declr_shrinks exts words a.0.tree d.closed (release Value a.0.scopes) a.0.rest x a.2 in
+      let less : length x.rest < length a.0.rest = known_shrinks exts words d.closed a.0.tree a.0.scopes a.0.rest x a.2 in
       omega (arith, same, less)
 
   there : (s : HeldScopes) (ts : List Lexeme) (x : Found Declared) → inner.declr Named (Some Value) true (room - 2) s ts ≡ done x → (d : Declr) × (x.tree.declr ≡ some_declr d)
@@ -274,75 +442,111 @@ module _ (n : ℕ) (inner : Inner) (laws : Laws [] n inner) (places : InnerLaws 
   abbrev typedef_or_not : List ℕ → SpecWords → Reader Item
   typedef_or_not exts words s ts = if has_typedef_word (storage_words words) then whole_declaration exts words s ts else first_declr inner exts words room s ts
 
+  abbrev plain_item : List ℕ → SpecWords → Reader Item
+  plain_item exts words s ts = if is_semicolon (kind_at ts) then behind (bare_declaration inner exts words room) (λ d. ends (of_declaration d)) s ts else typedef_or_not exts words s ts
+
   abbrev item_rest : List ℕ → SpecWords → Reader Item
-  item_rest exts words s ts = if is_semicolon (kind_at ts) then behind (bare_declaration inner exts words room) (λ d. ends (of_declaration d)) s ts else typedef_or_not exts words s ts
+  item_rest exts words s ts = if has_auto words then whole_declaration exts words s ts else plain_item exts words s ts
 
   -- at a semicolon this is the declaration itself
-  bare_is : (exts : List ℕ) (words : SpecWords) (s : HeldScopes) (k : List Lexeme) → is_semicolon (kind_at k) ≡ true → item_rest exts words s k ≡ whole_declaration exts words s k
+  bare_is : (exts : List ℕ) (words : SpecWords) (s : HeldScopes) (k : List Lexeme) → has_auto words ≡ false → is_semicolon (kind_at k) ≡ true → plain_item exts words s k ≡ whole_declaration exts words s k
   unfolding declaration_behind
-  bare_is exts words s k h = rw h refl
+  bare_is exts words s k off h = rw (off, h) refl
 
-  item_rest_shrinks : (exts : List ℕ) (words : SpecWords) → Shrinks (item_rest exts words)
-  item_rest_shrinks exts words s ts x e = by_semi (is_semicolon (kind_at ts)) refl
+  plain_item_shrinks : (exts : List ℕ) (words : SpecWords) → has_auto words ≡ false → Shrinks (plain_item exts words)
+  plain_item_shrinks exts words off s ts x e = by_semi (is_semicolon (kind_at ts)) refl
     where
       by_typedef : (b : Bool) → (if b then whole_declaration exts words s ts else first_declr inner exts words room s ts) ≡ done x → length x.rest < length ts
       by_typedef true e = whole_shrinks exts words s ts x e
       by_typedef false e = first_declr_shrinks exts words s ts x e
 
       by_semi : (b : Bool) → is_semicolon (kind_at ts) ≡ b → length x.rest < length ts
-      by_semi true is = whole_shrinks exts words s ts x (sym (bare_is exts words s ts is) ∙ e)
+      by_semi true is = whole_shrinks exts words s ts x (sym (bare_is exts words s ts off is) ∙ e)
       by_semi false is = by_typedef (has_typedef_word (storage_words words)) (rw is at e)
 
-  whole_good : (exts : List ℕ) (words : SpecWords) (s : HeldScopes) (ts : List Lexeme) → Good false (whole_declaration exts words) any s ts
-  whole_good exts words s ts = mapped_good false (declaration_behind inner exts words room) of_declaration any s ts (declaration_behind_good n inner laws places exts words room less s ts)
+  item_rest_shrinks : (exts : List ℕ) (words : SpecWords) → Shrinks (item_rest exts words)
+  item_rest_shrinks exts words s ts x e = if_ok (has_auto words) e (λ is e. whole_shrinks exts words s ts x e) (λ off e. plain_item_shrinks exts words off s ts x e)
 
-  item_rest_good : (exts : List ℕ) (words : SpecWords) (s : HeldScopes) (ts : List Lexeme) → Good false (item_rest exts words) any s ts
-  item_rest_good exts words s ts = by_semi (is_semicolon (kind_at ts)) refl
+  whole_good : (exts : List ℕ) (words : SpecWords) → AutoRoom n inner laws places words room → (s : HeldScopes) (ts : List Lexeme) → Good false (whole_declaration exts words) any s ts
+  whole_good exts words auto s ts = mapped_good false (declaration_behind inner exts words room) of_declaration any s ts (declaration_behind_good n inner laws places exts words room less auto s ts)
+
+  whole_ready : (exts : List ℕ) (words : SpecWords) → AutoRoom n inner laws places words room → (s : HeldScopes) (at : ℕ) → Ready false (whole_declaration exts words) (behind_of words) any s at
+  whole_ready exts words auto s at =
+      mapped_ready false (declaration_behind inner exts words room) of_declaration (behind_of words) any s at (declaration_behind_ready n inner laws places exts words room less auto (inl (omega (arith, high))) s at)
+
+  plain_item_good : (exts : List ℕ) (words : SpecWords) → AutoRoom n inner laws places words room → has_auto words ≡ false → (s : HeldScopes) (ts : List Lexeme) → Good false (plain_item exts words) any s ts
+  plain_item_good exts words auto plain s ts = by_semi (is_semicolon (kind_at ts)) refl
     where
-      by_typedef : is_semicolon (kind_at ts) ≡ false → (b : Bool) → has_typedef_word (storage_words words) ≡ b → Good false (item_rest exts words) any s ts
-      by_typedef off true is = good_choice false (whole_declaration exts words) (item_rest exts words) any s ts (λ k e. rw (kind_same k ts e, off, is) refl) (item_rest_shrinks exts words) (whole_good exts words s ts)
-      by_typedef off false is = good_choice false (first_declr inner exts words room) (item_rest exts words) any s ts (λ k e. rw (kind_same k ts e, off, is) refl) (item_rest_shrinks exts words) (first_declr_good exts words s ts)
+      by_typedef : is_semicolon (kind_at ts) ≡ false → (b : Bool) → has_typedef_word (storage_words words) ≡ b → Good false (plain_item exts words) any s ts
+      by_typedef off true is =
+          good_choice false (whole_declaration exts words) (plain_item exts words) any s ts (λ k e. rw (kind_same k ts e, off, is) refl) (plain_item_shrinks exts words plain) (whole_good exts words auto s ts)
+      by_typedef off false is =
+          good_choice false (first_declr inner exts words room) (plain_item exts words) any s ts (λ k e. rw (kind_same k ts e, off, is) refl) (plain_item_shrinks exts words plain) (first_declr_good exts words s ts)
 
-      by_semi : (b : Bool) → is_semicolon (kind_at ts) ≡ b → Good false (item_rest exts words) any s ts
+      by_semi : (b : Bool) → is_semicolon (kind_at ts) ≡ b → Good false (plain_item exts words) any s ts
       by_semi true is =
-          good_choice false (whole_declaration exts words) (item_rest exts words) any s ts (λ k e. bare_is exts words s k (ap is_semicolon (kind_same k ts e) ∙ is)) (item_rest_shrinks exts words) (whole_good exts words s ts)
+          good_choice false (whole_declaration exts words) (plain_item exts words) any s ts (λ k e. bare_is exts words s k plain (ap is_semicolon (kind_same k ts e) ∙ is)) (plain_item_shrinks exts words plain)
+          (whole_good exts words auto s ts)
       by_semi false off = by_typedef off (has_typedef_word (storage_words words)) refl
 
-  item_rest_ready : (exts : List ℕ) (words : SpecWords) (s : HeldScopes) (at : ℕ) → Ready false (item_rest exts words) stops_specs any s at
-  item_rest_ready exts words s at = ready_before false (item_rest exts words) behind_words stops_specs any any s at (λ kind h. h) words_specs (by_typedef (has_typedef_word (storage_words words)) refl)
+  item_rest_good : (exts : List ℕ) (words : SpecWords) → AutoRoom n inner laws places words room → (s : HeldScopes) (ts : List Lexeme) → Good false (item_rest exts words) any s ts
+  item_rest_good exts words auto s ts = by_auto (has_auto words) refl
     where
-      typedef_is : has_typedef_word (storage_words words) ≡ true → (k : List Lexeme) → item_rest exts words s k ≡ whole_declaration exts words s k
+      by_auto : (b : Bool) → has_auto words ≡ b → Good false (item_rest exts words) any s ts
+      by_auto true is = good_as false (whole_declaration exts words) (item_rest exts words) any s ts (λ k e. rw is refl) (inr (λ k e. rw is refl)) (whole_good exts words auto s ts)
+      by_auto false is = good_as false (plain_item exts words) (item_rest exts words) any s ts (λ k e. rw is refl) (inr (λ k e. rw is refl)) (plain_item_good exts words auto is s ts)
+
+  plain_item_ready : (exts : List ℕ) (words : SpecWords) → AutoRoom n inner laws places words room → has_auto words ≡ false → (s : HeldScopes) (at : ℕ) → Ready false (plain_item exts words) (behind_of words) any s at
+  plain_item_ready exts words auto plain s at = by_typedef (has_typedef_word (storage_words words)) refl
+    where
+      typedef_is : has_typedef_word (storage_words words) ≡ true → (k : List Lexeme) → plain_item exts words s k ≡ whole_declaration exts words s k
       typedef_is is k = by_semi (is_semicolon (kind_at k)) refl
         where
-          by_semi : (b : Bool) → is_semicolon (kind_at k) ≡ b → item_rest exts words s k ≡ whole_declaration exts words s k
-          by_semi true h = bare_is exts words s k h
+          by_semi : (b : Bool) → is_semicolon (kind_at k) ≡ b → plain_item exts words s k ≡ whole_declaration exts words s k
+          by_semi true h = bare_is exts words s k plain h
           by_semi false h = rw (h, is) refl
 
-      by_typedef : (b : Bool) → has_typedef_word (storage_words words) ≡ b → Ready false (item_rest exts words) behind_words any s at
-      by_typedef true is =
-          ready_as false (whole_declaration exts words) (item_rest exts words) behind_words any s at (λ k h. typedef_is is k)
-          (mapped_ready false (declaration_behind inner exts words room) of_declaration behind_words any s at (declaration_behind_ready n inner laws places exts words room less (inl (omega (arith, high))) s at))
+      by_typedef : (b : Bool) → has_typedef_word (storage_words words) ≡ b → Ready false (plain_item exts words) (behind_of words) any s at
+      by_typedef true is = ready_as false (whole_declaration exts words) (plain_item exts words) (behind_of words) any s at (λ k h. typedef_is is k) (whole_ready exts words auto s at)
       by_typedef false is =
-          ready_before false (item_rest exts words) is_name_kind behind_words any any s at (λ kind h. h) name_words
-          (ready_as false (first_declr inner exts words room) (item_rest exts words) is_name_kind any s at (λ k h. rw (name_semi (kind_at k) h, is) refl) (first_declr_ready exts words s at))
+          ready_before false (plain_item exts words) is_name_kind (behind_of words) any any s at (λ kind h. h) (λ kind h. plain_behind_of words plain kind (name_words kind h))
+          (ready_as false (first_declr inner exts words room) (plain_item exts words) is_name_kind any s at (λ k h. rw (name_semi (kind_at k) h, is) refl) (first_declr_ready exts words s at))
+
+  item_rest_ready : (exts : List ℕ) (words : SpecWords) → AutoRoom n inner laws places words room → (s : HeldScopes) (at : ℕ) → Ready false (item_rest exts words) (behind_of words) any s at
+  item_rest_ready exts words auto s at = by_auto (has_auto words) refl
+    where
+      by_auto : (b : Bool) → has_auto words ≡ b → Ready false (item_rest exts words) (behind_of words) any s at
+      by_auto true is = ready_as false (whole_declaration exts words) (item_rest exts words) (behind_of words) any s at (λ k h. rw is refl) (whole_ready exts words auto s at)
+      by_auto false is = ready_as false (plain_item exts words) (item_rest exts words) (behind_of words) any s at (λ k h. rw is refl) (plain_item_ready exts words auto is s at)
 
   -- words, and what stands behind them
   abbrev worded : List ℕ → Reader Item
-  worded exts = behind (specs_here inner room) (item_rest exts)
+  worded exts = behind (specs_here inner Declaring room) (item_rest exts)
+
+  worded_good : (exts : List ℕ) (s : HeldScopes) (ts : List Lexeme) → Good false (worded exts) any s ts
+  worded_good exts s ts =
+      bind_good_by false (specs_here inner Declaring room) (item_rest exts) stops_specs any behind_of s ts (here_widen n inner laws places room (omega (arith, less)) s)
+      (λ words scopes gives at. let h = gives.reads (semi ∷ []) refl in
+      item_rest_ready exts words (specs_here_auto n inner laws places room s h.0 (found words scopes (semi ∷ [])) h.1) scopes at)
+      (good_weaker false (specs_here inner Declaring room) stops_specs s ts (specs_here_good n inner places laws Declaring room (omega (arith, less)) s ts))
+      (λ x is. item_rest_good exts x.tree (specs_here_auto n inner laws places room s ts x is) x.scopes x.rest)
+      (inl (λ x y is e. item_rest_shrinks exts x.tree x.scopes x.rest y e))
 
   worded_law : (exts : List ℕ) → Law false (worded exts) is_int any
-  worded_law exts =
-      bind_law false (specs_here inner room) (item_rest exts) is_int stops_specs any
-      (record {
-        good = λ s ts. good_weaker false (specs_here inner room) stops_specs s ts (specs_here_good n inner places laws room (omega (arith, less)) s ts);
-        ready = λ s at. ready_weaker false (specs_here inner room) is_int stops_specs s at (specs_here_ready n inner places laws room (omega (arith, less)) (omega (arith, high)) s at);
-      })
-      (λ words. record { good = λ s ts. item_rest_good exts words s ts; ready = λ s at. item_rest_ready exts words s at }) (inl (λ words s ts y e. item_rest_shrinks exts words s ts y e))
+  worded_law exts = record {
+    good = λ s ts. worded_good exts s ts;
+    ready = λ s at.
+        let r = ready_weaker false (specs_here inner Declaring room) is_int stops_specs s at (specs_here_ready n inner places laws Declaring room (omega (arith, less)) (omega (arith, high)) s at) in
+        ready_bind_by false (specs_here inner Declaring room) (item_rest exts) is_int stops_specs any behind_of s at (here_widen n inner laws places room (omega (arith, less)) s) r
+        (λ k h. first_int r.more at r.begins k)
+        (λ words scopes gives at. let h = gives.reads (semi ∷ []) refl in
+        item_rest_ready exts words (specs_here_auto n inner laws places room s h.0 (found words scopes (semi ∷ [])) h.1) scopes at);
+  }
 
   worded_shrinks : (exts : List ℕ) → Shrinks (worded exts)
   worded_shrinks exts s ts x e =
       let a = bind_ok e in
-      let one : length a.0.rest < length ts = specs_here_shrinks [] n inner laws room s ts a.0 a.1 in
+      let one : length a.0.rest < length ts = specs_here_shrinks [] n inner laws Declaring room s ts a.0 a.1 in
       let rest : length x.rest < length a.0.rest = item_rest_shrinks exts a.0.tree a.0.scopes a.0.rest x a.2 in
       omega (arith, one, rest)
 

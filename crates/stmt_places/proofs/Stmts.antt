@@ -1,37 +1,37 @@
 -- Statements: each is completed by `;` in the place of the statements inside, and a name alone by `: ;`.
 use Rattle.std.proofs.Common.{◌≡◌, ℕ, suc, ◌<◌, ◌≤◌, Bool, true, false, if◌then◌else◌, List, [], ◌∷◌, length, inl, inr, refl, ◌∙◌, ap, arith}
-use Rattle.std.specs.Prelude.{◌-◌, not}
+use Rattle.std.specs.Prelude.{◌-◌, ◌&&◌, not}
 use Rattle.c_words.specs.declared.kinds.TokenKind.{TokenKind}
 use Rattle.c_words.specs.declared.kinds.TokenKind.TheVariants as kinds
 use Rattle.c_words.specs.declared.kinds.Punct.TheVariants as puncts
 use Rattle.c_words.specs.declared.kinds.Keyword.TheVariants as keywords
 use Rattle.c_tree.specs.declared.lexeme.Lexeme.{Lexeme}
 use Rattle.c_syntax.specs.declared.parts.Word.{Word}
-use Rattle.c_tree.specs.Tree.{Expr, SomeExpr, no_expr, some_expr, Stmt, block, expr_stmt, attr_stmt, case_stmt, default_stmt, if_stmt, switch_stmt, while_stmt, do_stmt, for_stmt, goto_stmt, continue_stmt, break_stmt, return_stmt, asm_stmt, SomeElse, no_else, some_else, ForStart, start_declaration, start_value}
-use Rattle.c_units.specs.HeldScopes.{HeldScopes, names_type, no_scope, enter, leave}
+use Rattle.c_tree.specs.Tree.{Expr, SomeExpr, no_expr, some_expr, Stmt, block, expr_stmt, attr_stmt, case_stmt, case_range, goto_value, default_stmt, if_stmt, switch_stmt, while_stmt, do_stmt, for_stmt, goto_stmt, continue_stmt, break_stmt, return_stmt, asm_stmt, SomeElse, no_else, some_else, ForStart, start_declaration, start_value}
+use Rattle.c_units.specs.HeldScopes.{HeldScopes, is_wide, names_type, new_scope, enter, leave}
 use Rattle.c_reading.specs.declared.kinds.Fault.TheVariants.{Unexpected}
 use Rattle.c_reading.specs.declared.kinds.Reach.{Reach}
 use Rattle.c_reading.specs.declared.kinds.Reach.TheVariants.{Whole, Conditional}
 use Rattle.c_reading.specs.declared.kinds.StmtStart.{StmtStart}
 use Rattle.c_reading.specs.declared.kinds.StmtStart.TheVariants as starts
 use Rattle.c_reading.specs.Reading.{Reader, ends, refuses, fits, kind_at, behind_first, take_one, token_at, and_then}
-use Rattle.c_reading.specs.Tokens.{is_semicolon, is_colon, is_open_paren, is_close_paren, is_while, is_else, is_extension, is_end, is_made, asm_word_of, identifier_of, name_at, attrs_at, extensions_at, asm_words_at, group_at}
+use Rattle.c_reading.specs.Tokens.{is_dots, is_star, is_semicolon, is_colon, is_open_paren, is_close_paren, is_while, is_else, is_extension, is_end, is_made, asm_word_of, identifier_of, name_at, attrs_at, extensions_at, asm_words_at, group_at}
 use Rattle.c_reading.specs.Parts.{Inner, Begun, nothing, extensions}
 use Rattle.c_reading.specs.Specifying.{begins_specs}
 use Rattle.c_reading.specs.Expressing.{begins_expr}
-use Rattle.c_reading.specs.Stating.{stmt_start, in_own, declaration_with, expr_stmt_with, label_with, block_with, part_with, some_expr_with, case_with, default_with, some_else_with, if_inside, headed_inside, do_inside, start_value_with, extended_start, for_start_with, for_inside, goto_with, jump_with, return_with, asm_with, attr_stmt_with, named_stmt, stmt_by, stmt_with}
+use Rattle.c_reading.specs.Stating.{stmt_start, in_own, declaration_with, expr_stmt_with, label_with, block_with, part_with, some_expr_with, range_behind, value_behind, goto_value_with, goto_name, case_with, default_with, some_else_with, if_inside, headed_inside, do_inside, start_value_with, extended_start, for_start_with, for_inside, goto_with, jump_with, return_with, asm_with, attr_stmt_with, named_stmt, stmt_by, stmt_with}
 use Rattle.c_reading.proofs.Binding.{found, bind_ok, fits_is, fits_ok, if_ok}
-use Rattle.c_reading.proofs.Forms.{Falls, Shrinks, shrinks_falls}
+use Rattle.c_reading.proofs.Forms.{Falls, Shrinks, shrinks_falls, name_falls}
 use Rattle.c_reading.proofs.Aims.{Laws}
 use Rattle.c_reading.proofs.KnotLaws.{none_tokens}
 use Rattle.c_reading.proofs.StmtFalls.{stmt_shrinks}
 use Rattle.reading_steps.specs.Steps.{first_kind, any, Good, Ready, Law}
-use Rattle.reading_steps.specs.Stops.{is_int, stops_whole, stops_expr, stops_stmt}
+use Rattle.reading_steps.specs.Stops.{is_int, is_name_kind, stops_whole, stops_expr, stops_stmt}
 use Rattle.reading_steps.specs.InnerLaws.{InnerLaws, StmtPlaces}
 use Rattle.reading_steps.proofs.Keeping.{kept_refl}
 use Rattle.reading_steps.proofs.Steps.{behind, kind_same, refused_here, ends_good, ends_law, if_good, fits_good, ready_as, bind_good, bind_law, take_behind, good_as, good_before, ready_before, law_before, good_weaker, law_weaker, own_good, own_ready, tail_good}
-use Rattle.reading_steps.proofs.Chains.{ends_falls, behind_falls, behind_shrinks, falls_shrinks, closed_shrinks, closed_falls, token_shrinks, take_shrinks, good_choice, token_then, closed_law}
-use Rattle.token_places.proofs.Single.{semicolon_end, colon_end, open_paren_end, close_paren_end, while_end, else_end, mapped_law, mapped_good, mapped_ready, name_law}
+use Rattle.reading_steps.proofs.Chains.{ends_falls, behind_falls, behind_shrinks, falls_shrinks, closed_shrinks, closed_falls, token_shrinks, take_shrinks, good_choice, if_good_takes, token_then, closed_law}
+use Rattle.token_places.proofs.Single.{dots_end, star_end, semicolon_end, colon_end, open_paren_end, close_paren_end, while_end, else_end, mapped_law, mapped_good, mapped_ready, name_law}
 use Rattle.token_places.proofs.Groups.{group_law}
 use Rattle.token_places.proofs.Rows.{attrs_law, extensions_law, asm_words_law}
 use Rattle.decl_places.proofs.Members.{exts_room}
@@ -50,6 +50,23 @@ stops_no_else kind h = by_else (is_else kind) h
     by_else : (b : Bool) → not b ≡ true → b ≡ false
     by_else true h = absurd cc
     by_else false h = refl
+
+-- both of two tests
+second_of : (a b : Bool) → (a && b) ≡ true → b ≡ true
+second_of true b h = h
+second_of false b h = absurd cc
+
+second_off : (a b : Bool) → b ≡ false → (a && b) ≡ false
+second_off true b h = h
+second_off false b h = refl
+
+colon_no_dots : (kind : TokenKind) → is_colon kind ≡ true → is_dots kind ≡ false
+colon_no_dots (kinds.Punct puncts.Colon) h = refl
+colon_no_dots kind h = absurd cc
+
+name_no_star : (kind : TokenKind) → is_name_kind kind ≡ true → is_star kind ≡ false
+name_no_star (kinds.Name name) h = refl
+name_no_star kind h = absurd cc
 
 paren_no_asm : (kind : TokenKind) → is_open_paren kind ≡ true → is_made (asm_word_of kind) ≡ false
 paren_no_asm (kinds.Punct puncts.OpenParen) h = refl
@@ -88,8 +105,8 @@ start_name kind name e = absurd cc
 
 pub own_law : {A : Type 0} (read : Reader A) (front stops : TokenKind → Bool) → Law false read front stops → Law true (in_own read) front stops
 own_law read front stops l = record {
-  good = λ s ts. own_good (λ s. no_scope) read (λ x t. x) stops s ts (l.good (enter s) ts);
-  ready = λ s at. own_ready (λ s. no_scope) read (λ x t. x) front stops s at (l.ready (enter s) at);
+  good = λ s ts. own_good (λ s. new_scope (is_wide s)) read (λ x t. x) stops s ts (l.good (enter s) ts);
+  ready = λ s at. own_ready (λ s. new_scope (is_wide s)) read (λ x t. x) front stops s at (l.ready (enter s) at);
 }
 
 own_falls : {A : Type 0} (read : Reader A) → Falls read → Falls (in_own read)
@@ -136,21 +153,73 @@ module _ (n : ℕ) (inner : Inner) (laws : Laws [] n inner) (places : InnerLaws 
       (λ is e. behind_falls (inner.expr Whole nothing room) (λ e. ends (some_expr e)) (shrinks_falls (inner.expr Whole nothing room) (laws.exprs.shrinks Whole nothing room)) (λ e. ends_falls (some_expr e)) s ts x e)
 
   case_good : (room : ℕ) → room < suc n → (s : HeldScopes) (ts : List Lexeme) → is_end (kind_at ts) ≡ false → Good true (case_with inner room) stops_stmt s ts
-  unfolding case_with
+  unfolding case_with value_behind range_behind and_then
   case_good room less s ts known = fits_good true 2 room (behind take_one all) stops_stmt s ts (λ fit. take_behind true all stops_stmt (all_law fit) s ts known)
     where
       last : ℕ → Expr → ℕ → Reader Stmt
       last keyword e colon = behind (inner.stmt (room - 1)) (λ t. ends (case_stmt keyword e colon t))
 
+      one : ℕ → Expr → Reader Stmt
+      one keyword e = behind (token_at is_colon) (last keyword e)
+
+      one_law : 2 ≤ room → (keyword : ℕ) (e : Expr) → Law true (one keyword e) is_colon stops_stmt
+      one_law two keyword e =
+          token_then true is_colon (kinds.Punct puncts.Colon) is_colon stops_stmt (last keyword e) refl refl colon_end (λ colon. mapped_law true (inner.stmt (room - 1)) (case_stmt keyword e colon) any stops_stmt (stmt_law true room less two))
+
+      one_shrinks : (keyword : ℕ) (e : Expr) → Shrinks (one keyword e)
+      one_shrinks keyword e =
+          behind_shrinks (token_at is_colon) (last keyword e) (token_shrinks is_colon)
+          (λ colon. behind_falls (inner.stmt (room - 1)) (λ t. ends (case_stmt keyword e colon t)) (shrinks_falls (inner.stmt (room - 1)) (laws.stmts.shrinks (room - 1))) (λ t. ends_falls (case_stmt keyword e colon t)))
+
+      -- behind the first value of a range and its dots
+      range_last : ℕ → Expr → ℕ → Expr → ℕ → Reader Stmt
+      range_last keyword first dots e colon = behind (inner.stmt (room - 1)) (λ t. ends (case_range keyword first dots e colon t))
+
+      range_last_falls : (keyword : ℕ) (first : Expr) (dots : ℕ) (e : Expr) (colon : ℕ) → Falls (range_last keyword first dots e colon)
+      range_last_falls keyword first dots e colon =
+          behind_falls (inner.stmt (room - 1)) (λ t. ends (case_range keyword first dots e colon t)) (shrinks_falls (inner.stmt (room - 1)) (laws.stmts.shrinks (room - 1))) (λ t. ends_falls (case_range keyword first dots e colon t))
+
+      range_rest : ℕ → Expr → ℕ → Reader Stmt
+      range_rest keyword first dots = behind (inner.expr Conditional nothing (room - 1)) (λ e. behind (token_at is_colon) (range_last keyword first dots e))
+
+      range_law : 2 ≤ room → (keyword : ℕ) (first : Expr) (dots : ℕ) → Law true (range_rest keyword first dots) any stops_stmt
+      range_law two keyword first dots =
+          closed_law true (inner.expr Conditional nothing (room - 1)) is_colon (kinds.Punct puncts.Colon) any stops_stmt (range_last keyword first dots)
+          (expr_law n inner laws places Conditional room less two any is_colon (λ kind h. refl) (λ kind h. whole_operand kind (colon_whole kind h))) refl colon_end
+          (λ e colon. mapped_law true (inner.stmt (room - 1)) (case_range keyword first dots e colon) any stops_stmt (stmt_law true room less two)) (range_last_falls keyword first dots)
+
+      range_shrinks : (keyword : ℕ) (first : Expr) → Shrinks (behind take_one (range_rest keyword first))
+      range_shrinks keyword first =
+          behind_shrinks take_one (range_rest keyword first) take_shrinks
+          (λ dots. closed_falls (inner.expr Conditional nothing (room - 1)) is_colon (range_last keyword first dots) (shrinks_falls (inner.expr Conditional nothing (room - 1)) (laws.exprs.shrinks Conditional nothing (room - 1))) (range_last_falls keyword first dots))
+
+      is_range : HeldScopes → TokenKind → Bool
+      is_range s kind = is_wide s && is_dots kind
+
+      rest : ℕ → Expr → Reader Stmt
+      rest keyword e s ts = if is_range s (kind_at ts) then behind take_one (range_rest keyword e) s ts else one keyword e s ts
+
+      rest_shrinks : (keyword : ℕ) (e : Expr) → Shrinks (rest keyword e)
+      rest_shrinks keyword e s ts x eq = if_ok (is_range s (kind_at ts)) eq (λ is eq. range_shrinks keyword e s ts x eq) (λ is eq. one_shrinks keyword e s ts x eq)
+
+      rest_law : 2 ≤ room → (keyword : ℕ) (e : Expr) → Law true (rest keyword e) is_colon stops_stmt
+      rest_law two keyword e = record {
+        good = λ s ts.
+            if_good_takes true is_range (behind take_one (range_rest keyword e)) (one keyword e) stops_stmt s ts
+            (λ is. take_behind true (range_rest keyword e) stops_stmt (range_law two keyword e) s ts (dots_end (kind_at ts) (second_of (is_wide s) (is_dots (kind_at ts)) is)))
+            (λ is. (one_law two keyword e).good s ts) (rest_shrinks keyword e);
+        ready = λ s at.
+            ready_as true (one keyword e) (rest keyword e) is_colon stops_stmt s at (λ k h. rw (second_off (is_wide s) (is_dots (kind_at k)) (colon_no_dots (kind_at k) h)) refl) ((one_law two keyword e).ready s at);
+      }
+
       all : ℕ → Reader Stmt
-      all keyword = behind (inner.expr Conditional nothing (room - 1)) (λ e. behind (token_at is_colon) (last keyword e))
+      all keyword = behind (inner.expr Conditional nothing (room - 1)) (rest keyword)
 
       all_law : 2 ≤ room → (keyword : ℕ) → Law true (all keyword) any stops_stmt
       all_law two keyword =
-          closed_law true (inner.expr Conditional nothing (room - 1)) is_colon (kinds.Punct puncts.Colon) any stops_stmt (last keyword)
-          (expr_law n inner laws places Conditional room less two any is_colon (λ kind h. refl) (λ kind h. whole_operand kind (colon_whole kind h))) refl colon_end
-          (λ e colon. mapped_law true (inner.stmt (room - 1)) (case_stmt keyword e colon) any stops_stmt (stmt_law true room less two))
-          (λ e colon. behind_falls (inner.stmt (room - 1)) (λ t. ends (case_stmt keyword e colon t)) (shrinks_falls (inner.stmt (room - 1)) (laws.stmts.shrinks (room - 1))) (λ t. ends_falls (case_stmt keyword e colon t)))
+          bind_law true (inner.expr Conditional nothing (room - 1)) (rest keyword) any is_colon stops_stmt
+          (expr_law n inner laws places Conditional room less two any is_colon (λ kind h. refl) (λ kind h. whole_operand kind (colon_whole kind h))) (rest_law two keyword)
+          (inl (λ e s ts y eq. rest_shrinks keyword e s ts y eq))
 
   default_good : (room : ℕ) → room < suc n → (s : HeldScopes) (ts : List Lexeme) → is_end (kind_at ts) ≡ false → Good true (default_with inner room) stops_stmt s ts
   unfolding default_with
@@ -388,17 +457,58 @@ module _ (n : ℕ) (inner : Inner) (laws : Laws [] n inner) (places : InnerLaws 
 
   -- Jumps and the rest.
 
-  goto_good : (room : ℕ) (s : HeldScopes) (ts : List Lexeme) → is_end (kind_at ts) ≡ false → Good true (goto_with inner room) stops_stmt s ts
-  unfolding goto_with
-  goto_good room s ts known = fits_good true 1 room (behind take_one all) stops_stmt s ts (λ fit. take_behind true all stops_stmt all_law s ts known)
+  goto_good : (room : ℕ) → room < suc n → (s : HeldScopes) (ts : List Lexeme) → is_end (kind_at ts) ≡ false → Good true (goto_with inner room) stops_stmt s ts
+  unfolding goto_with goto_value_with goto_name and_then
+  goto_good room less s ts known = fits_good true 1 room (behind take_one all) stops_stmt s ts (λ fit. take_behind true all stops_stmt all_law s ts known)
     where
+      label_part : ℕ → Reader Stmt
+      label_part keyword = behind name_at (λ name. behind (token_at is_semicolon) (λ semi. ends (goto_stmt keyword name semi)))
+
+      label_part_law : (keyword : ℕ) → Law true (label_part keyword) is_name_kind stops_stmt
+      label_part_law keyword =
+          closed_law true name_at is_semicolon (kinds.Punct puncts.Semicolon) is_name_kind stops_stmt (λ name semi. ends (goto_stmt keyword name semi)) (name_law true is_name_kind is_semicolon (λ name. refl)) refl semicolon_end
+          (λ name semi. ends_law true (goto_stmt keyword name semi) any stops_stmt (λ kind h. refl)) (λ name semi. ends_falls (goto_stmt keyword name semi))
+
+      label_part_shrinks : (keyword : ℕ) → Shrinks (label_part keyword)
+      label_part_shrinks keyword =
+          closed_shrinks name_at is_semicolon (λ name semi. ends (goto_stmt keyword name semi)) (λ s ts x e. let one = name_falls s ts x e in omega (arith, one)) (λ name semi. ends_falls (goto_stmt keyword name semi))
+
+      -- in wider C a star and a value
+      star_part : ℕ → ℕ → Reader Stmt
+      star_part keyword star = behind (inner.expr Whole nothing (room - 1)) (λ e. behind (token_at is_semicolon) (λ semi. ends (goto_value keyword star e semi)))
+
+      star_law : 2 ≤ room → (keyword star : ℕ) → Law true (star_part keyword star) any stops_stmt
+      star_law two keyword star =
+          closed_law true (inner.expr Whole nothing (room - 1)) is_semicolon (kinds.Punct puncts.Semicolon) any stops_stmt (λ e semi. ends (goto_value keyword star e semi))
+          (expr_law n inner laws places Whole room less two any is_semicolon (λ kind h. refl) semicolon_whole) refl semicolon_end
+          (λ e semi. ends_law true (goto_value keyword star e semi) any stops_stmt (λ kind h. refl)) (λ e semi. ends_falls (goto_value keyword star e semi))
+
+      value_part : ℕ → Reader Stmt
+      value_part keyword s ts = fits 2 room ts (behind take_one (star_part keyword) s ts)
+
+      value_part_shrinks : (keyword : ℕ) → Shrinks (value_part keyword)
+      value_part_shrinks keyword s ts x e =
+          behind_shrinks take_one (star_part keyword) take_shrinks
+          (λ star. closed_falls (inner.expr Whole nothing (room - 1)) is_semicolon (λ e semi. ends (goto_value keyword star e semi)) (shrinks_falls (inner.expr Whole nothing (room - 1)) (laws.exprs.shrinks Whole nothing (room - 1)))
+          (λ e semi. ends_falls (goto_value keyword star e semi))) s ts x (fits_ok 2 room ts e).1
+
+      is_value : HeldScopes → TokenKind → Bool
+      is_value s kind = is_wide s && is_star kind
+
       all : ℕ → Reader Stmt
-      all keyword = behind name_at (λ name. behind (token_at is_semicolon) (λ semi. ends (goto_stmt keyword name semi)))
+      all keyword s ts = if is_value s (kind_at ts) then value_part keyword s ts else label_part keyword s ts
 
       all_law : (keyword : ℕ) → Law true (all keyword) any stops_stmt
-      all_law keyword =
-          closed_law true name_at is_semicolon (kinds.Punct puncts.Semicolon) any stops_stmt (λ name semi. ends (goto_stmt keyword name semi)) (name_law true any is_semicolon (λ name. refl)) refl semicolon_end
-          (λ name semi. ends_law true (goto_stmt keyword name semi) any stops_stmt (λ kind h. refl)) (λ name semi. ends_falls (goto_stmt keyword name semi))
+      all_law keyword = record {
+        good = λ s ts.
+            if_good true is_value (value_part keyword) (label_part keyword) stops_stmt s ts
+            (λ is. fits_good true 2 room (behind take_one (star_part keyword)) stops_stmt s ts
+            (λ fit. take_behind true (star_part keyword) stops_stmt (star_law fit keyword) s ts (star_end (kind_at ts) (second_of (is_wide s) (is_star (kind_at ts)) is))))
+            (λ is. (label_part_law keyword).good s ts) (λ is. inl (λ x e. value_part_shrinks keyword s ts x e)) (λ is. inl (λ x e. label_part_shrinks keyword s ts x e));
+        ready = λ s at.
+            ready_before true (all keyword) is_name_kind any stops_stmt stops_stmt s at (λ kind h. h) (λ kind h. refl)
+            (ready_as true (label_part keyword) (all keyword) is_name_kind stops_stmt s at (λ k h. rw (second_off (is_wide s) (is_star (kind_at k)) (name_no_star (kind_at k) h)) refl) ((label_part_law keyword).ready s at));
+      }
 
   jump_good : (make : ℕ → ℕ → Stmt) (room : ℕ) (s : HeldScopes) (ts : List Lexeme) → is_end (kind_at ts) ≡ false → Good true (jump_with inner make room) stops_stmt s ts
   unfolding jump_with
@@ -522,7 +632,7 @@ module _ (n : ℕ) (inner : Inner) (laws : Laws [] n inner) (places : InnerLaws 
 
   -- in a scope of its own
   own_stmt : (read : Reader Stmt) (room : ℕ) (s : HeldScopes) (ts : List Lexeme) → (2 ≤ room → Good false read stops_stmt (enter s) ts) → Good true (λ s ts. fits 2 room ts (in_own read s ts)) stops_stmt s ts
-  own_stmt read room s ts g = fits_good true 2 room (in_own read) stops_stmt s ts (λ fit. own_good (λ s. no_scope) read (λ x t. x) stops_stmt s ts (g fit))
+  own_stmt read room s ts g = fits_good true 2 room (in_own read) stops_stmt s ts (λ fit. own_good (λ s. new_scope (is_wide s)) read (λ x t. x) stops_stmt s ts (g fit))
 
   stmt_by_good : (start : StmtStart) (room : ℕ) → room < suc n → (s : HeldScopes) (ts : List Lexeme) → stmt_start (kind_at ts) ≡ start → Good true (stmt_by inner start room) stops_stmt s ts
   unfolding stmt_by
@@ -541,7 +651,7 @@ module _ (n : ℕ) (inner : Inner) (laws : Laws [] n inner) (places : InnerLaws 
   stmt_by_good starts.While room less s ts is = own_stmt (headed_inside inner while_stmt room) room s ts (λ fit. headed_good while_stmt room less fit (enter s) ts (start_no_end (kind_at ts) (ap begins_stmt is)))
   stmt_by_good starts.Do room less s ts is = own_stmt (do_inside inner room) room s ts (λ fit. do_good room less fit (enter s) ts (start_no_end (kind_at ts) (ap begins_stmt is)))
   stmt_by_good starts.For room less s ts is = own_stmt (for_inside inner room) room s ts (λ fit. for_good room less fit (enter s) ts (start_no_end (kind_at ts) (ap begins_stmt is)))
-  stmt_by_good starts.Goto room less s ts is = goto_good room s ts (start_no_end (kind_at ts) (ap begins_stmt is))
+  stmt_by_good starts.Goto room less s ts is = goto_good room less s ts (start_no_end (kind_at ts) (ap begins_stmt is))
   stmt_by_good starts.Continue room less s ts is = jump_good continue_stmt room s ts (start_no_end (kind_at ts) (ap begins_stmt is))
   stmt_by_good starts.Break room less s ts is = jump_good break_stmt room s ts (start_no_end (kind_at ts) (ap begins_stmt is))
   stmt_by_good starts.Return room less s ts is = return_good room less s ts (start_no_end (kind_at ts) (ap begins_stmt is))

@@ -1,7 +1,9 @@
 -- Parts of tapes, from marks to marks.
 use Rattle.std.proofs.Common.{◌≡◌, ℕ, Bool, true, false, List, [], ◌∷◌, ◌++◌, Option, None, Some, refl, sym, ap, subst}
 use Rattle.std.specs.Prelude.{◌||◌, if◌then◌else◌}
-use Rattle.c_tree.specs.Tree.{Exprs, no_exprs, more_exprs, SpecWords, no_words, more_words, SpecWord, storage, thread, inline_word, noreturn, qualifier, basic, struct_type, enum_type, typedef_name, attribute, Declr, pointer, declr_name, declr_paren, array, params, abs_pointer, abs_paren, abs_array, abs_params, SomeDeclr, no_declr, some_declr, Init, init_value, init_braced, InitList, init_list, InitItems, no_init_items, more_init_items, Desigs, no_desigs, more_desigs, Desig, member_desig, index_desig, Operator, comma, assign, cond, binary, Dots}
+use Rattle.c_tree.specs.Tree.{Exprs, no_exprs, more_exprs, SpecWords, no_words, more_words, SpecWord, storage, thread, inline_word, noreturn, qualifier, basic, struct_type, enum_type, typedef_name, attribute, Declr, pointer, declr_name, declr_paren, array, params, abs_pointer, abs_paren, abs_array, abs_params, SomeDeclr, no_declr, some_declr, Init, init_value, init_braced, InitList, init_list, InitItems, no_init_items, more_init_items, Desigs, no_desigs, more_desigs, Desig, member_desig, index_desig, Operator, comma, assign, cond, binary, Dots, identifiers, base_name, range_desig, old_desig, typeof_value, typeof_type, align, auto_word, Expr}
+use Rattle.c_words.specs.declared.kinds.Punct.{Punct}
+use Rattle.c_words.specs.declared.kinds.Punct.TheVariants as signs
 use Rattle.c_syntax.specs.declared.parts.Identifier.{Identifier}
 use Rattle.c_syntax.specs.declared.parts.Qual.{Qual}
 use Rattle.c_syntax.specs.declared.parts.PointerWord.{PointerWord}
@@ -13,7 +15,7 @@ use Rattle.tape_ops.specs.declared.op.Op.TheVariants as ops
 use Rattle.tape_ops.specs.declared.specifier.SpecOp.TheVariants as specs
 use Rattle.tape_ops.specs.declared.specifier.TagKind.{TagKind}
 use Rattle.tape_ops.specs.declared.declarator.DeclrOp.TheVariants as declrs
-use Rattle.c_tape.specs.Tape.{quals_tape, pointer_word_tape, pointer_words_tape, array_word_tape, array_words_tape, dots_tape, pieces, some_pieces, desig_tape, desigs_tape, rule, rule_of_list, rule_of_items, arguments, operator_tape, tag_tape, body_tape, unnamed_word_tape, unnamed_tape, quietly, in_scope, specs_with, type_name_with, params_with}
+use Rattle.c_tape.specs.Tape.{quals_tape, pointer_word_tape, pointer_words_tape, array_word_tape, array_words_tape, dots_tape, pieces, some_pieces, desig_tape, desigs_tape, rule, rule_of_list, rule_of_items, arguments, operator_tape, prefix_tape, tag_tape, body_tape, unnamed_word_tape, unnamed_tape, quietly, in_scope, specs_with, type_name_with, params_with}
 use Rattle.tape_laws.specs.Marks.{Mark, in_declaration, in_params, in_tag, in_quiet, is_open, is_token, turn, IsBracketed}
 use Rattle.tape_laws.specs.Marks as marks
 
@@ -131,6 +133,8 @@ module _ {t : Option ℕ} {m : List Mark} where
     pieces_pass (abs_array d opening words size closing) =
         join (join (array_words_pass words) (one refl)) (some_pieces_pass d)
     pieces_pass (abs_params d opening ps dots closing) = join (join (dots_pass dots) (one refl)) (some_pieces_pass d)
+    pieces_pass (identifiers d opening names closing) = join (one refl) (pieces_pass d)
+    pieces_pass (base_name token) = none
 
     some_pieces_pass : (d : SomeDeclr) → Passes t m (some_pieces d) m
     some_pieces_pass no_declr = none
@@ -139,6 +143,8 @@ module _ {t : Option ℕ} {m : List Mark} where
   desig_passes : (d : Desig) → Passes t m (desig_tape d) m
   desig_passes (member_desig before name) = one refl
   desig_passes (index_desig opening e closing) = one refl
+  desig_passes (range_desig opening e dots e2 closing) = one refl
+  desig_passes (old_desig name colon) = one refl
 
   desigs_pass : (ds : Desigs) → Passes t m (desigs_tape ds) m
   desigs_pass no_desigs = none
@@ -168,6 +174,12 @@ module _ {t : Option ℕ} {m : List Mark} where
   operator_passes (cond middle colon) token first last = one refl
   operator_passes (binary p) token first last = one refl
 
+  -- an operator before its operand, from what passes the tape of the operand only addressed and that of it taken
+  pub prefix_passes : (token : ℕ) (p : Punct) (e : Expr) (aims : Bool) {addressed taken : List Op} → Passes t m addressed m →
+      Passes t m taken m → Passes t m (prefix_tape token p e aims addressed taken) m
+  prefix_passes token signs.Ampersand e aims a b = join a (one refl)
+  prefix_passes token p e aims a b = join b (one refl)
+
   pub tag_passes : (alone : Bool) (kind : TagKind) (tag : Option Identifier) → Passes t m (tag_tape alone kind tag) m
   tag_passes alone kind None = none
   tag_passes true kind (Some tag) = one refl
@@ -190,6 +202,10 @@ module _ {t : Option ℕ} {m : List Mark} where
   unnamed_word_passes (enum_type e) = none
   unnamed_word_passes (typedef_name name) = none
   unnamed_word_passes (attribute attr) = none
+  unnamed_word_passes (typeof_value keyword opening e closing) = none
+  unnamed_word_passes (typeof_type word opening ws d closing) = none
+  unnamed_word_passes (align attr) = none
+  unnamed_word_passes (auto_word token) = none
 
   pub unnamed_passes : (ws : SpecWords) → Passes t m (unnamed_tape ws) m
   unnamed_passes no_words = none

@@ -1,10 +1,13 @@
 -- What each turn of marks says of those before it.
-use Rattle.std.proofs.Common.{◌≡◌, ℕ, Bool, true, false, List, [], ◌∷◌, Option, None, Some, refl, sym, ap}
+use Rattle.std.proofs.Common.{◌≡◌, ℕ, Bool, true, false, List, [], ◌∷◌, Option, None, Some, refl, sym, ap, ◌⊎◌, inl, inr}
 use Rattle.std.specs.Prelude.{if◌then◌else◌}
 use Rattle.std.proofs.lemmas.Bool.{eqb-true}
 use Rattle.c_tree.specs.declared.lexeme.Lexeme.{Lexeme}
-use Rattle.c_tree.specs.Unit.{Item, function_item, decl_item, asm_item, semi_item, IsItem}
-use Rattle.tape_laws.specs.Marks.{Mark, in_declaration, in_params, in_tag, in_scope, in_quiet, in_body, is_open, is_token, quiet_ended, tag_ended, scope_ended, params_ended, body_ended, declaration_ended, named, params_begun, param_ended, declared, member_declared, body_begun, DeclaresIts}
+use Rattle.c_tree.specs.Tree.{Declr, pointer, declr_name, declr_paren, array, params, abs_pointer, abs_paren, abs_array, abs_params, identifiers, base_name}
+use Rattle.c_tree.specs.WellFormed.{IsDeclr, is_bare_name, lists_identifiers}
+use Rattle.c_tree.specs.Unit.{Item, function_item, old_function_item, decl_item, asm_item, semi_item, IsItem}
+use Rattle.c_tape.specs.Tests.{is_name}
+use Rattle.tape_laws.specs.Marks.{Mark, in_declaration, in_params, in_tag, in_scope, in_quiet, in_part, in_body, is_open, is_token, quiet_ended, tag_ended, scope_ended, params_ended, body_ended, declaration_ended, named, params_begun, param_ended, declared, member_declared, part_ended, auto_ended, identified, old_declared, body_begun, lists_own, DeclaresIts}
 
 token_is : (n t : Option ℕ) → is_token n t ≡ true → (token : ℕ) × (n ≡ Some token) × (t ≡ Some token)
 token_is None t e = absurd cc
@@ -22,6 +25,14 @@ tag_was m n e = absurd cc
 pub scope_was : (m n : List Mark) → scope_ended m ≡ Some n → m ≡ in_scope ∷ n
 scope_was (in_scope ∷ m) n e = cc
 scope_was m n e = absurd cc
+
+pub part_was : (m n : List Mark) → part_ended m ≡ Some n → m ≡ in_part ∷ n
+part_was (in_part ∷ m) n e = cc
+part_was m n e = absurd cc
+
+pub identified_was : (m n : List Mark) → identified m ≡ Some n → (outer : List Mark) × (m ≡ in_params true ∷ outer) × (n ≡ m)
+identified_was (in_params true ∷ m) n e = (m, refl, cc)
+identified_was m n e = absurd cc
 
 -- a declaration, with marks round it
 pub record Declaring (m : List Mark) : Type 0 where
@@ -54,6 +65,35 @@ declared_was (in_declaration name last own ∷ m) n e = by (is_open m) refl e
         (record { name = name; last = last; own = own; outer = m; is = refl }, sym same, is)
     by false is e = absurd cc
 declared_was m n e = absurd cc
+
+-- a declaration behind a list of identifiers
+pub old_was : (m n : List Mark) → old_declared m ≡ Some n →
+    (d : Declaring m) × (outer : List Mark) × (d.outer ≡ in_params true ∷ outer)
+    × (n ≡ in_declaration None d.name d.own ∷ d.outer)
+old_was (in_declaration name last own ∷ (in_params true ∷ m)) n e =
+    (record { name = name; last = last; own = own; outer = in_params true ∷ m; is = refl }, m, refl, cc)
+old_was m n e = absurd cc
+
+-- the declaration of a name with the type of its initialiser, behind that
+pub record AutoEnding (m n : List Mark) : Type 0 where
+  pub inner : List Mark
+  pub was : m ≡ in_part ∷ inner
+  pub declaring : Declaring inner
+  pub is : n ≡ in_declaration None declaring.name declaring.own ∷ declaring.outer
+  pub takes : (is_open declaring.outer ≡ true) ⊎ ((outer : List Mark) × (declaring.outer ≡ in_params true ∷ outer))
+
+pub auto_was : (m n : List Mark) → auto_ended m ≡ Some n → AutoEnding m n
+auto_was (in_part ∷ (in_declaration name last own ∷ (in_params true ∷ m))) n e = record {
+  inner = in_declaration name last own ∷ (in_params true ∷ m);
+  was = refl;
+  declaring = record { name = name; last = last; own = own; outer = in_params true ∷ m; is = refl };
+  is = cc;
+  takes = inr (m, refl);
+}
+auto_was (in_part ∷ m) n e =
+    let was = declared_was m n e in
+    record { inner = m; was = refl; declaring = was.0; is = was.1; takes = inl was.2 }
+auto_was m n e = absurd cc
 
 pub member_was : (m n : List Mark) → member_declared m ≡ Some n →
     (d : Declaring m) × (n ≡ in_declaration None d.last d.own ∷ d.outer)
@@ -129,9 +169,37 @@ pub body_was : (m n : List Mark) → body_ended m ≡ Some n → (name last : Op
 body_was (in_body ∷ (in_declaration name last own ∷ m)) n e = (name, last, own, m, refl, cc)
 body_was m n e = absurd cc
 
+bare_is_name : (d : Declr) → is_bare_name d ≡ true → is_name d ≡ true
+bare_is_name (declr_name token name) e = refl
+bare_is_name (declr_paren opening attrs d closing) e = bare_is_name d e
+bare_is_name (pointer star words d) e = e
+bare_is_name (array d opening words size closing) e = e
+bare_is_name (params d opening ps dots closing) e = e
+bare_is_name (abs_pointer star words d) e = e
+bare_is_name (abs_paren opening attrs d closing) e = e
+bare_is_name (abs_array d opening words size closing) e = e
+bare_is_name (abs_params d opening ps dots closing) e = e
+bare_is_name (identifiers d opening names closing) e = e
+bare_is_name (base_name token) e = e
+
+-- a well-formed list of identifiers stands around a name
+list_is_own : (all : List Lexeme) (d : Declr) → IsDeclr all d → lists_identifiers d ≡ true → lists_own d ≡ true
+list_is_own all (identifiers d opening names closing) h e = bare_is_name d h.1
+list_is_own all (declr_paren opening attrs d closing) h e = list_is_own all d h.1 e
+list_is_own all (pointer star words d) h e = list_is_own all d h.1 e
+list_is_own all (array d opening words size closing) h e = list_is_own all d h.0 e
+list_is_own all (params d opening ps dots closing) h e = list_is_own all d h.0 e
+list_is_own all (declr_name token name) h e = e
+list_is_own all (abs_pointer star words d) h e = e
+list_is_own all (abs_paren opening attrs d closing) h e = e
+list_is_own all (abs_array d opening words size closing) h e = e
+list_is_own all (abs_params d opening ps dots closing) h e = e
+list_is_own all (base_name token) h e = e
+
 -- a well-formed function's declarator declares one
 pub declares_its : (all : List Lexeme) (item : Item) → IsItem all item → DeclaresIts item
-declares_its all (function_item exts ws d attrs opening items closing) h = h.4
+declares_its all (function_item exts ws d attrs opening items closing) h = h.5
+declares_its all (old_function_item exts ws d attrs ds opening items closing) h = list_is_own all d h.4 h.5
 declares_its all (decl_item d) h = tt
 declares_its all (asm_item keyword group semi) h = tt
 declares_its all (semi_item semi) h = tt

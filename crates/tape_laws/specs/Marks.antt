@@ -10,8 +10,9 @@ use Rattle.tape_ops.specs.declared.declarator.DeclrOp.{DeclrOp}
 use Rattle.tape_ops.specs.declared.declarator.DeclrOp.TheVariants as declrs
 use Rattle.tape_ops.specs.declared.statement.StmtOp.{StmtOp}
 use Rattle.tape_ops.specs.declared.statement.StmtOp.TheVariants as stmts
-use Rattle.c_tree.specs.Tree.{Declr, pointer, declr_name, declr_paren, array, params, abs_pointer, abs_paren, abs_array, abs_params, SomeDeclr, no_declr, some_declr}
-use Rattle.c_tree.specs.Unit.{Item, function_item, decl_item, asm_item, semi_item, declares_function}
+use Rattle.c_tree.specs.Tree.{Declr, pointer, declr_name, declr_paren, array, params, abs_pointer, abs_paren, abs_array, abs_params, SomeDeclr, no_declr, some_declr, identifiers, base_name}
+use Rattle.c_tree.specs.Unit.{Item, function_item, decl_item, asm_item, semi_item, declares_function, old_function_item}
+use Rattle.c_tape.specs.Tests.{is_name}
 use Rattle.c_tape.specs.Tape.{item_tape}
 
 pub data Mark : Type 0 where
@@ -24,6 +25,8 @@ pub data Mark : Type 0 where
   in_tag : Mark
   in_scope : Mark
   in_quiet : Mark
+  -- a type by what stands in parentheses, or the initialiser that gives its type to a name
+  in_part : Mark
   -- the body of a function
   in_body : Mark
 
@@ -36,6 +39,7 @@ is_open (in_declaration n d own ∷ marks) = false
 is_open (in_params own ∷ marks) = false
 is_open (in_tag ∷ marks) = false
 is_open (in_quiet ∷ marks) = false
+is_open (in_part ∷ marks) = false
 
 -- both are the same token
 abbrev pub is_token : Option ℕ → Option ℕ → Bool
@@ -97,6 +101,25 @@ body_begun t (in_declaration n d true ∷ []) =
     if is_token d t then Some (in_body ∷ (in_declaration n d true ∷ [])) else None
 body_begun t marks = None
 
+abbrev pub part_ended : List Mark → Option (List Mark)
+part_ended (in_part ∷ marks) = Some marks
+part_ended marks = None
+
+-- a name with the type of its initialiser is declared where a declaration may declare, or among a function's own parameters
+abbrev pub auto_ended : List Mark → Option (List Mark)
+auto_ended (in_part ∷ (in_declaration n d own ∷ (in_params true ∷ marks))) = Some (in_declaration None n own ∷ (in_params true ∷ marks))
+auto_ended (in_part ∷ marks) = declared marks
+auto_ended marks = None
+
+-- identifiers and the declarations of their parameters stand in the own parameters of a function
+abbrev pub identified : List Mark → Option (List Mark)
+identified (in_params true ∷ marks) = Some (in_params true ∷ marks)
+identified marks = None
+
+abbrev pub old_declared : List Mark → Option (List Mark)
+old_declared (in_declaration n d own ∷ (in_params true ∷ marks)) = Some (in_declaration None n own ∷ (in_params true ∷ marks))
+old_declared marks = None
+
 abbrev pub form_turn : List Mark → FormOp → Option (List Mark)
 form_turn marks (forms.Cast token last) = Some marks
 form_turn marks (forms.Sizeof token) = quiet_ended marks
@@ -107,6 +130,11 @@ form_turn marks (forms.VaCopy token last) = Some marks
 form_turn marks (forms.OffsetMember token name) = Some marks
 form_turn marks (forms.OffsetIndex token) = Some marks
 form_turn marks (forms.Offset token) = quiet_ended marks
+form_turn marks (forms.Compat token) = quiet_ended marks
+form_turn marks forms.Control = quiet_ended marks
+form_turn marks forms.NoType = Some marks
+form_turn marks (forms.Choose token) = Some marks
+form_turn marks (forms.Generic token count) = Some marks
 
 abbrev pub spec_turn : List Mark → SpecOp → Option (List Mark)
 spec_turn marks (specs.Word token) = Some marks
@@ -120,6 +148,9 @@ spec_turn marks (specs.Untagged kind token) = Some (in_tag ∷ marks)
 spec_turn marks specs.BodyEnd = tag_ended marks
 spec_turn marks (specs.Enumerator token name) = Some marks
 spec_turn marks (specs.UnnamedMember token) = Some marks
+spec_turn marks specs.PartBegin = Some (in_part ∷ marks)
+spec_turn marks (specs.TypeofEnd token) = part_ended marks
+spec_turn marks specs.TypeEnd = part_ended marks
 spec_turn marks specs.SpecsEnd = Some (in_declaration None None false ∷ marks)
 
 abbrev pub declr_turn : Option ℕ → List Mark → DeclrOp → Option (List Mark)
@@ -131,6 +162,10 @@ declr_turn t marks declrs.Pointer = Some marks
 declr_turn t marks declrs.Array = Some marks
 declr_turn t marks (declrs.Function has_ellipsis) = Some marks
 declr_turn t marks declrs.Declare = declared marks
+declr_turn t marks declrs.AutoBegin = Some (in_part ∷ marks)
+declr_turn t marks (declrs.AutoEnd token) = auto_ended marks
+declr_turn t marks (declrs.Identifier token name) = identified marks
+declr_turn t marks declrs.OldParam = old_declared marks
 declr_turn t marks declrs.Member = member_declared marks
 declr_turn t marks (declrs.TypeName first) = declaration_ended marks
 declr_turn t marks declrs.DeclarationEnd = declaration_ended marks
@@ -173,6 +208,8 @@ abbrev mutual
   name_token (abs_paren opening attrs d closing) = name_token d
   name_token (abs_array d opening words size closing) = some_name_token d
   name_token (abs_params d opening ps dots closing) = some_name_token d
+  name_token (identifiers d opening names closing) = name_token d
+  name_token (base_name token) = None
 
   pub some_name_token : SomeDeclr → Option ℕ
   some_name_token no_declr = None
@@ -181,13 +218,29 @@ abbrev mutual
 -- of the function that an item is
 abbrev pub function_token : Item → Option ℕ
 function_token (function_item exts ws d attrs opening items closing) = name_token d
+function_token (old_function_item exts ws d attrs ds opening items closing) = name_token d
 function_token (decl_item d) = None
 function_token (asm_item keyword group semi) = None
 function_token (semi_item semi) = None
 
--- the declarator of a function declares one
+-- whether a list of identifiers stands directly around a name, parentheses aside
+abbrev pub lists_own : Declr → Bool
+lists_own (identifiers d opening names closing) = is_name d
+lists_own (declr_name token name) = false
+lists_own (declr_paren opening attrs d closing) = lists_own d
+lists_own (params d opening ps dots closing) = lists_own d
+lists_own (pointer star words d) = lists_own d
+lists_own (array d opening words size closing) = lists_own d
+lists_own (abs_pointer star words d) = false
+lists_own (abs_paren opening attrs d closing) = false
+lists_own (abs_array d opening words size closing) = false
+lists_own (abs_params d opening ps dots closing) = false
+lists_own (base_name token) = false
+
+-- the declarator of a function declares one, by a list of parameters or of identifiers
 abbrev pub DeclaresIts : Item → Type 0
 DeclaresIts (function_item exts ws d attrs opening items closing) = declares_function d ≡ true
+DeclaresIts (old_function_item exts ws d attrs ds opening items closing) = lists_own d ≡ true
 DeclaresIts (decl_item d) = Unit {0}
 DeclaresIts (asm_item keyword group semi) = Unit {0}
 DeclaresIts (semi_item semi) = Unit {0}

@@ -25,6 +25,15 @@ pub enum DeclrOp {
     Function { has_ellipsis: bool },
     /// The declarator declares its name, in the innermost scope, from here on.
     Declare,
+    /// The expression begins that gives its type to the name of the declarator.
+    AutoBegin,
+    /// It ends, in a declaration with this `;`: the declarator declares its name, in the innermost scope, from here on, with the type
+    /// of its value, which stays on the stack.
+    AutoEnd { token: TokenId },
+    /// An identifier of a list that parameters are declared behind.
+    Identifier { token: TokenId, name: NameId },
+    /// The declarator declares a parameter of the innermost list of identifiers.
+    OldParam,
     /// The declarator is a member of the innermost body.
     Member,
     /// A type name, whose first token is `first`.

@@ -28,7 +28,7 @@ pub enum ExprOp {
     Paren {
         token: TokenId,
     },
-    /// `__extension__ e`: what `e` is, but no zero.
+    /// `__extension__ e`, or a part of a complex number: what `e` is, but no zero.
     Ext {
         token: TokenId,
     },
@@ -56,11 +56,13 @@ pub enum ExprOp {
         first: TokenId,
         last: TokenId,
     },
-    /// An operator before its operand; `token` is its first token too.
+    /// An operator before its operand; `token` is its first token too. `aims`: the place of a `*` is only addressed; the operand of a `&`
+    /// came to its place by a pointer.
     Prefix {
         sign: Punct,
         token: TokenId,
         last: TokenId,
+        aims: bool,
     },
     /// `++` or `--` behind its operand; `token` is its last token too.
     Post {
@@ -68,10 +70,12 @@ pub enum ExprOp {
         token: TokenId,
         first: TokenId,
     },
+    /// `aims`: its place is only addressed.
     Index {
         token: TokenId,
         first: TokenId,
         last: TokenId,
+        aims: bool,
     },
     /// The next argument of a call. The arguments of a call stand right before it, behind all that they are made of.
     ///
@@ -87,16 +91,21 @@ pub enum ExprOp {
         token: TokenId,
         count: u32,
     },
-    /// What a pointer before `->` points at; the member that is taken of it comes next.
+    /// What a pointer before `->` points at; the member that is taken of it comes next. `aims`: its place is only addressed.
     Arrow {
         token: TokenId,
         first: TokenId,
         last: TokenId,
+        aims: bool,
     },
     /// A member, behind `.` or `->`, which is `token`.
     Dot {
         token: TokenId,
         member: TokenId,
         name: NameId,
+    },
+    /// The address of a label, behind `&&`, which is `token`.
+    Label {
+        token: TokenId,
     },
 }

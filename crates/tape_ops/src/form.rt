@@ -23,4 +23,14 @@ pub enum FormOp {
     OffsetIndex { token: TokenId },
     /// The end of an offset, as of `Sizeof`: a `Quiet` stands before its type name.
     Offset { token: TokenId },
+    /// The end of a question whether two types are compatible, as of `Sizeof`: it drops two types.
+    Compat { token: TokenId },
+    /// The control of a selection by a type is whole: it ends what was begun by a `Quiet`, and its value stays on the stack.
+    Control,
+    /// The place of a type before the expression of a `default` association, which has none.
+    NoType,
+    /// The end of a choice between the two values on the stack.
+    Choose { token: TokenId },
+    /// The end of a selection: of `count` associations each has its type and its value on the stack, above the control.
+    Generic { token: TokenId, count: u32 },
 }

@@ -62,6 +62,15 @@ pub enum SpecOp {
     UnnamedMember {
         token: TokenId,
     },
+    /// A type by what stands in parentheses begins, by an expression or by the name of a type: the specifiers wait until its end.
+    PartBegin,
+    /// A type by an expression ends, at its `)`, which is `token`: by what is known here it has the type of the expression since the
+    /// innermost `PartBegin`, whose value is on the stack, without annotation words.
+    TypeofEnd {
+        token: TokenId,
+    },
+    /// A type by the name of a type ends, which is on the stack, and is dropped.
+    TypeEnd,
     /// The specifiers are whole: declarators are made of their type until the `DeclarationEnd`, `Param` or `TypeName` that
     /// lets it go.
     SpecsEnd,

@@ -31,6 +31,11 @@ pub innermost_changed : (its : List Round) (new : Round) → round_of new ≡ ru
 innermost_changed [] new e = refl
 innermost_changed (it ∷ its) new e = ap (λ (x : rules.Round). x ∷ map round_of its) e
 
+pub innermost_identified : (its : List Round) (new : Round) → round_of new ≡ rules.identified_round (round_of (get_or its 0 nothing))
+    → map round_of (with_first new its) ≡ states.changed rules.identified_round (map round_of its)
+innermost_identified [] new e = refl
+innermost_identified (it ∷ its) new e = ap (λ (x : rules.Round). x ∷ map round_of its) e
+
 pub name_found : (its : List OpenDeclaration) → (get_or its 0 no_declaration).name ≡ rules.name_so_far (map open_as its)
 name_found [] = refl
 name_found (it ∷ its) = refl

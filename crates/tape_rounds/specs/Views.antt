@@ -8,6 +8,7 @@ abbrev pub naming_of : Naming → rules.Naming
 naming_of namings.Name = rules.a_name
 naming_of (namings.OwnParam function number) = rules.own_param function number
 naming_of namings.OtherParam = rules.other_param
+naming_of (namings.Identified function) = rules.identified_param function
 
 abbrev pub round_of : Round → rules.Round
 round_of it = record { naming = naming_of it.naming; is_quiet = it.is_quiet }

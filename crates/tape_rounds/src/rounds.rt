@@ -21,6 +21,10 @@ pub enum Naming {
     },
     /// A parameter of another function.
     OtherParam,
+    /// A parameter, by the number of its identifier, of the function with a body whose name is at a token.
+    Identified {
+        function: Option<TokenId>,
+    },
 }
 
 /// A scope, a body or a list of parameters, or what gives no constraint.
@@ -30,14 +34,15 @@ pub struct Round {
     pub is_quiet: bool,
 }
 
-/// What is begun and not at its end, and the token of the name of the function whose body this is. Memory is linear in the
-/// depth.
+/// What is begun and not at its end, the token of the name of the function whose body this is, and whether some lattice
+/// bounds accesses. Memory is linear in the depth.
 ///
 /// A call that wants memory in vain leaves it as it may be, and of no more use.
 #[derive(Drop)]
 pub struct Rounds {
     around: Stack<Round>,
     pub(crate) body: Option<TokenId>,
+    access: bool,
 }
 
 impl Model for Rounds {
@@ -47,7 +52,7 @@ impl Model for Rounds {
 
     ghost Value = { rules.Rounds };
 
-    ghost view = { λ s. record { around = map round_of s.around; body = s.body } };
+    ghost view = { λ s. record { around = map round_of s.around; body = s.body; access = s.access } };
 }
 
 impl Naming {
@@ -67,18 +72,32 @@ impl Naming {
                 })
             }
             Naming::OtherParam => Ok(Naming::OtherParam),
+            Naming::Identified { function } => Ok(Naming::Identified { function }),
+        }
+    }
+
+    /// What the name of a declarator is in a list of identifiers. Constant time.
+    fn identified(self) -> Naming
+        ensures { naming_of result ≡ rules.identified_naming (naming_of self) }
+    {
+        match self {
+            Naming::Name => Naming::Name,
+            Naming::OwnParam { function, .. } => Naming::Identified { function },
+            Naming::OtherParam => Naming::OtherParam,
+            Naming::Identified { function } => Naming::Identified { function },
         }
     }
 }
 
 impl Rounds {
-    /// A unit begins with nothing around it. Takes no memory.
-    pub fn new(alloc: Global) -> Self
-        ensures { result ≡ rules.file }
+    /// A unit begins with nothing around it, where some lattice bounds accesses or none does. Takes no memory.
+    pub fn new(alloc: Global, access: bool) -> Self
+        ensures { result ≡ rules.file access }
     {
         Rounds {
             around: Stack::new(alloc),
             body: None,
+            access,
         }
     }
 
@@ -125,6 +144,13 @@ impl Rounds {
         it.is_quiet
     }
 
+    /// Whether some lattice has an element that bounds accesses.
+    pub fn has_access(&self) -> bool
+        ensures { result ≡ self.now.access }
+    {
+        self.access
+    }
+
     /// The token of the name of the function whose body this is. Constant time.
     pub fn body(&self) -> Option<TokenId>
         ensures { result ≡ self.now.body }
@@ -168,6 +194,18 @@ impl Rounds {
         ensures { self.new ≡ rules.left self.old }
     {
         self.around.take_off(1);
+    }
+
+    /// The innermost list is one of identifiers. Constant time.
+    #[tactic(auto, using(crate::proofs::Innermost::innermost_identified))]
+    pub(crate) fn identify(&mut self) -> Result<(), NoMemory>
+        ensures { OnOk result (self.new ≡ rules.identified self.old) }
+    {
+        let it = self.innermost();
+        self.around.replace(Round {
+            naming: it.naming.identified(),
+            is_quiet: it.is_quiet,
+        })
     }
 
     /// The next parameter of the innermost list comes. Constant time.

@@ -42,6 +42,11 @@ impl Rounds {
             FormOp::OffsetMember { .. } => {}
             FormOp::OffsetIndex { .. } => {}
             FormOp::Offset { .. } => self.leave(),
+            FormOp::Compat { .. } => self.leave(),
+            FormOp::Control => self.leave(),
+            FormOp::NoType => {}
+            FormOp::Choose { .. } => {}
+            FormOp::Generic { .. } => {}
         }
     }
 
@@ -64,6 +69,9 @@ impl Rounds {
             }
             SpecOp::Enumerator { .. } => Ok(()),
             SpecOp::UnnamedMember { .. } => Ok(()),
+            SpecOp::PartBegin => Ok(()),
+            SpecOp::TypeofEnd { .. } => Ok(()),
+            SpecOp::TypeEnd => Ok(()),
             SpecOp::SpecsEnd => Ok(()),
         }
     }
@@ -89,6 +97,10 @@ impl Rounds {
             DeclrOp::Array => Ok(()),
             DeclrOp::Function { .. } => Ok(()),
             DeclrOp::Declare => Ok(()),
+            DeclrOp::AutoBegin => Ok(()),
+            DeclrOp::AutoEnd { .. } => Ok(()),
+            DeclrOp::Identifier { .. } => self.identify(),
+            DeclrOp::OldParam => Ok(()),
             DeclrOp::Member => Ok(()),
             DeclrOp::TypeName { .. } => Ok(()),
             DeclrOp::DeclarationEnd => Ok(()),

@@ -230,7 +230,7 @@ tape6 =
     ++ stmt stmts.FunctionBody
     ++ stmt stmts.Enter ++ expr (exprs.Name false 8 1) ++ stmt stmts.Pop ++ stmt stmts.Enter
     ++ expr (exprs.Name true 10 2) ++ expr (exprs.Name false 12 3) ++ expr (exprs.Name false 14 4)
-    ++ expr (exprs.Arrow 15 14 16) ++ expr (exprs.Dot 15 16 5)
+    ++ expr (exprs.Arrow 15 14 16 false) ++ expr (exprs.Dot 15 16 5)
     ++ expr (exprs.Arg 1 12 12) ++ expr (exprs.Arg 0 14 16) ++ expr (exprs.Call 11 2) ++ stmt stmts.Pop
     ++ stmt stmts.Leave ++ stmt stmts.Enter ++ stmt stmts.Leave ++ stmt stmts.Leave ++ stmt stmts.FunctionEnd
     ++ declr declrs.DeclarationEnd
@@ -323,7 +323,7 @@ tape9 =
     ++ spec specs.SpecsEnd ++ declr declrs.Array ++ declr (declrs.TypeName 6) ++ init inits.Begin
     ++ expr (exprs.Number 11)
     ++ init (inits.Literal 5) ++ init inits.ListBegin ++ init (inits.Leaf 11 11) ++ init inits.ListEnd
-    ++ init inits.LiteralEnd ++ expr (exprs.Prefix puncts.Ampersand 4 12) ++ init (inits.Value 4 12)
+    ++ init inits.LiteralEnd ++ expr (exprs.Prefix puncts.Ampersand 4 12 false) ++ init (inits.Value 4 12)
     ++ declr declrs.DeclarationEnd
 
 -- loops, a switch and a case:

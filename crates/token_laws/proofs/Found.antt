@@ -1,6 +1,8 @@
 -- The faults that are found along a tape are at good places, and skeletons begin at such.
 use Rattle.std.proofs.Common.{ℕ, Bool, true, false, List, [], ◌∷◌, ◌++◌, Option, None, Some}
 use Rattle.std.specs.Prelude.{not, ◌&&◌, if◌then◌else◌}
+use Rattle.c_words.specs.declared.kinds.Punct.{Punct}
+use Rattle.c_words.specs.declared.kinds.Punct.TheVariants as signs
 use Rattle.tape_ops.specs.declared.op.Op.{Op}
 use Rattle.tape_ops.specs.declared.op.Op.TheVariants as ops
 use Rattle.tape_ops.specs.declared.expression.ExprOp.{ExprOp}
@@ -19,15 +21,15 @@ use Rattle.name_rules.specs.Faults.{Rule, not_pointer, not_function, argument_co
 use Rattle.name_rules.specs.Scopes.{Role, typedef_role, object_role, function_role, parameter_role, field_role, enumerator_role, Declared, declared_at, Use, means, called, missing, Bodied, Names}
 use Rattle.name_rules.specs.Linking.{link_of, has_earlier, faults_in}
 use Rattle.name_rules.specs.Uses.{use_at, text_type}
-use Rattle.name_rules.specs.Values.{value, points_to_function, takes, lacks_member, is_no_pointer}
+use Rattle.name_rules.specs.Values.{value, points_to_function, takes, lacks_member, is_no_pointer, Shape, address, is_base_value, pick_shape, is_fresh_pick}
 use Rattle.name_rules.specs.Checks.{wants_place, is_star, call_faults}
 use Rattle.shape_steps.specs.State.{State, shape_at, value_at, is_zero_at, type_at, type_of_operand, first_operand, operands_below, first_braces}
-use Rattle.shape_steps.specs.Steps.{designated, step, expr_step}
+use Rattle.shape_steps.specs.Steps.{designated, chosen, step, expr_step}
 use Rattle.shape_steps.specs.OpFaults.{expr_op_faults, form_op_faults, init_op_faults, op_faults}
 use Rattle.shape_steps.specs.Found.{faults_found}
-use Rattle.row_rules.specs.Starting.{Start, fresh, some_fresh, declared_start, some_declared_start, instance, use_by_role, some_use_start, use_start, some_place, is_some_pointer, is_fresh_binary, is_fresh_prefix, fresh_where, Having, with_skeleton, of_function, without_skeleton, had_name}
+use Rattle.row_rules.specs.Starting.{Start, fresh, some_fresh, declared_start, some_declared_start, instance, use_by_role, some_use_start, use_start, some_place, is_some_pointer, is_fresh_binary, is_fresh_prefix, prefix_starts, fresh_where, Having, with_skeleton, of_function, without_skeleton, had_name}
 use Rattle.row_steps.specs.Rounds.{Rounds, naming, left, round_step}
-use Rattle.row_steps.specs.Starting.{around, naming_has, expr_op_starts, form_op_starts, init_op_starts, spec_op_starts, declr_op_starts, op_starts, starts_found}
+use Rattle.row_steps.specs.Starting.{around, naming_has, selected_among, expr_op_starts, form_op_starts, init_op_starts, spec_op_starts, declr_op_starts, op_starts, starts_found}
 use Rattle.token_laws.specs.Ops.{op_tokens, expr_tokens, form_tokens, init_tokens}
 use Rattle.token_laws.proofs.Texts.{AllIn, AllOps}
 use Rattle.token_laws.proofs.Types.{FaultsOk, BodiesOk, faults_append, fault_ok, Sound, SomeDeclaredOk, declared_there}
@@ -71,20 +73,23 @@ module _ (S : Place → Type 0) (u : Spelling) (s : Names) where
   expr_at st (exprs.Assign sign token first last) is = fault_ok S (not (shape_at 1 st).is_place) (place u token) not_place is.0
   expr_at st (exprs.Cond has_middle token first last) is = tt
   expr_at st (exprs.Binary sign token first last) is = tt
-  expr_at st (exprs.Prefix sign token last) is =
+  expr_at st (exprs.Prefix sign token last aims) is =
       let e = shape_at 0 st in
       faults_append S (fault_where (wants_place sign && not e.is_place) (place u token) not_place)
       (fault_where (is_star sign && is_no_pointer (value e)) (place u token) not_pointer)
       (fault_ok S (wants_place sign && not e.is_place) (place u token) not_place is.0)
       (fault_ok S (is_star sign && is_no_pointer (value e)) (place u token) not_pointer is.0)
   expr_at st (exprs.Post sign token first) is = fault_ok S (not (shape_at 0 st).is_place) (place u token) not_place is.0
-  expr_at st (exprs.Index token first last) is =
-      fault_ok S (is_no_pointer (value (shape_at 1 st)) && is_no_pointer (value (shape_at 0 st))) (place u token) not_pointer is.0
+  expr_at st (exprs.Index token first last aims) is =
+      let a = value (shape_at 1 st) in
+      fault_ok S (is_no_pointer a && is_no_pointer (value (shape_at 0 st)) && not (u.wide && is_base_value a)) (place u token)
+      not_pointer is.0
   expr_at st (exprs.Arg behind first last) is = tt
   expr_at st (exprs.Call token count) is = call_at token (value_at count st) count is.0
-  expr_at st (exprs.Arrow token first last) is = fault_ok S (is_no_pointer (value_at 0 st)) (place u token) not_pointer is.0
+  expr_at st (exprs.Arrow token first last aims) is = fault_ok S (is_no_pointer (value_at 0 st)) (place u token) not_pointer is.0
   expr_at st (exprs.Dot token member name) is =
       fault_ok S (lacks_member s.aggregates (value_at 0 st) (u.key name)) (place u member) no_member is.1.0
+  expr_at st (exprs.Label token) is = tt
 
   form_at : (st : State) (op : FormOp) → AllIn (λ n. S (place u n)) (form_tokens op) → FaultsOk S (form_op_faults u s st op)
   form_at st (forms.Cast token last) is = tt
@@ -97,6 +102,11 @@ module _ (S : Place → Type 0) (u : Spelling) (s : Names) where
       fault_ok S (lacks_member s.aggregates (type_at 0 st) (u.key name)) (place u token) no_member is.0
   form_at st (forms.OffsetIndex token) is = fault_ok S (is_no_pointer (type_at 1 st)) (place u token) not_pointer is.0
   form_at st (forms.Offset token) is = tt
+  form_at st (forms.Compat token) is = tt
+  form_at st forms.Control is = tt
+  form_at st forms.NoType is = tt
+  form_at st (forms.Choose token) is = tt
+  form_at st (forms.Generic token count) is = tt
 
   init_at : (st : State) (op : InitOp) → AllIn (λ n. S (place u n)) (init_tokens op) → FaultsOk S (init_op_faults u s st op)
   init_at st (inits.Value first last) is = tt
@@ -144,6 +154,12 @@ module _ (S : Place → Type 0) (u : Spelling) (s : Names) where
   where_fresh : (b : Bool) (starts : List Start) → StartsAt S starts → StartsAt S (fresh_where b starts)
   where_fresh true starts h = h
   where_fresh false starts h = tt
+
+  prefix_there : (r : Rounds) (sign : Punct) (carries : Bool) (token : ℕ) (e : Shape) → S (place u token) →
+      StartsAt S (prefix_starts sign carries (around u s r) token e)
+  prefix_there r signs.Ampersand carries token e is =
+      where_fresh carries _ (some_fresh_there r token (address e) is)
+  prefix_there r sign carries token e is = where_fresh (is_fresh_prefix sign) _ (fresh_there r token (base []) is)
 
   role_there : (f : Option Place) (d : Declared) (role : Role) → S d.at → StartsAt S (declared_start s f d role)
   role_there f d typedef_role is = tt
@@ -210,14 +226,15 @@ module _ (S : Place → Type 0) (u : Spelling) (s : Names) (names : Sound S s) w
   expr_starts st r (exprs.Binary sign token first last) is =
       where_fresh S u s (is_fresh_binary sign (is_some_pointer (value_at 1 st)) (is_some_pointer (value_at 0 st))) _
       (fresh_there S u s r token (base []) is.0)
-  expr_starts st r (exprs.Prefix sign token last) is =
-      where_fresh S u s (is_fresh_prefix sign) _ (fresh_there S u s r token (base []) is.0)
+  expr_starts st r (exprs.Prefix sign token last aims) is =
+      prefix_there S u s r sign (aims && r.access) token (shape_at 0 st) is.0
   expr_starts st r (exprs.Post sign token first) is = tt
-  expr_starts st r (exprs.Index token first last) is = tt
+  expr_starts st r (exprs.Index token first last aims) is = tt
   expr_starts st r (exprs.Arg behind first last) is = tt
   expr_starts st r (exprs.Call token count) is = tt
-  expr_starts st r (exprs.Arrow token first last) is = tt
+  expr_starts st r (exprs.Arrow token first last aims) is = tt
   expr_starts st r (exprs.Dot token member name) is = tt
+  expr_starts st r (exprs.Label token) is = fresh_there S u s r token (pointer [] (void [])) is.0
 
   form_starts : (st : State) (r : Rounds) (op : FormOp) → AllIn (λ n. S (place u n)) (form_tokens op) →
       StartsAt S (form_op_starts u s st r op)
@@ -231,6 +248,14 @@ module _ (S : Place → Type 0) (u : Spelling) (s : Names) (names : Sound S s) w
   form_starts st r (forms.OffsetMember token name) is = tt
   form_starts st r (forms.OffsetIndex token) is = tt
   form_starts st r (forms.Offset token) is = fresh_there S u s (left r) token (base []) is.0
+  form_starts st r (forms.Compat token) is = fresh_there S u s (left r) token (base []) is.0
+  form_starts st r forms.Control is = tt
+  form_starts st r forms.NoType is = tt
+  form_starts st r (forms.Choose token) is =
+      where_fresh S u s (is_fresh_pick (chosen st)) _ (some_fresh_there S u s r token (pick_shape (chosen st)).type is.0)
+  form_starts st r (forms.Generic token count) is =
+      let its = selected_among count st in
+      where_fresh S u s (is_fresh_pick its) _ (some_fresh_there S u s r token (pick_shape its).type is.0)
 
   init_starts : (st : State) (r : Rounds) (op : InitOp) → AllIn (λ n. S (place u n)) (init_tokens op) →
       StartsAt S (init_op_starts u s st r op)

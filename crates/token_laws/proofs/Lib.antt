@@ -3,6 +3,7 @@ mod Parts
 mod Trees
 mod Types
 mod Names
+mod Olds
 mod NameSteps
 mod Rows
 mod Steps

@@ -9,7 +9,7 @@ use Rattle.name_rules.specs.Spellings.{Place, Spelling, place, Named}
 use Rattle.name_rules.specs.Faults.{Fault, type_too_large, undeclared, defined_twice, fault_where}
 use Rattle.name_rules.specs.Scopes.{Meaning, means_type, means_thing, Role, typedef_role, object_role, function_role, parameter_role, field_role, Use, NameUse, Names, Body, tag_in, tag_through, innermost, inner_meaning, is_at_file, enter, leave, bound, tag_bound, with_faults, sized, with_aggregate, or_no_body, body_of, has_body, with_body, with_key, with_member, with_unnamed, is_place}
 use Rattle.name_rules.specs.Pieces.{is_function}
-use Rattle.name_rules.specs.Declaring.{is_missing, used_as, type_named, new_tag, Numbered, found_or_new, tag_used, untagged, tag_known, begun_in, tag_begun, untagged_begun, struct_number, the_thing, owner_where, declaring, declared_here, linked, has_word, thing_where, static_where, declared_thing, declared_typedef, declared_by, typedef_known, declared_some, declared_param, declared_member, unnamed_member, keep, has_body_in, body_entered, body_left}
+use Rattle.name_rules.specs.Declaring.{is_missing, used_as, type_named, new_tag, Numbered, found_or_new, tag_used, untagged, tag_known, begun_in, tag_begun, untagged_begun, struct_number, the_thing, owner_where, declaring, declared_here, linked, has_word, thing_where, static_where, declared_thing, declared_typedef, declared_by, typedef_known, declared_some, declared_param, declared_member, unnamed_member, keep, has_body_in, body_counted, body_begun, body_entered, body_left}
 use Rattle.name_rules.specs.Units.{no_names, unit_begun}
 use Rattle.token_laws.proofs.Types.{Ok, MeansOk, FaultsOk, Sound, faults_append, fault_ok, declared_append, named_append, inner_names, outer_ok, NamedAt, kept_there}
 
@@ -293,17 +293,32 @@ module _ {S : Place → Type 0} where
   keep_there None h = leave_there h
   keep_there (Some own) h = leave_there (scope_there h)
 
-  pub body_entered_there : (at first : Place) (is_plain : Bool) → S at → {s : Names} → Sound S s →
-      Sound S (body_entered at first is_plain s)
-  body_entered_there at first is_plain is {s} h = record {
+  counted_there : (at first : Place) (is_plain : Bool) → S at → {s : Names} → Sound S s →
+      Sound S (body_counted at first is_plain s)
+  counted_there at first is_plain is {s} h = record {
     declared = h.declared;
-    scopes = kept_there S s.kept s.scopes h.kept h.scopes;
-    kept = tt;
+    scopes = h.scopes;
+    kept = h.kept;
     type_names = h.type_names;
     faults = faults_append S s.faults (fault_where (has_body_in at.0 s.bodies first) at defined_twice) h.faults
         (fault_ok S (has_body_in at.0 s.bodies first) at defined_twice is);
     bodies = (is, h.bodies);
   }
+
+  begins_there : (first : Place) {s : Names} → Sound S s → Sound S (body_begun first s)
+  begins_there first {s} h = record {
+    declared = h.declared;
+    scopes = kept_there S s.kept s.scopes h.kept h.scopes;
+    kept = tt;
+    type_names = h.type_names;
+    faults = h.faults;
+    bodies = h.bodies;
+  }
+
+  pub body_entered_there : (at first : Place) (is_plain is_counted : Bool) → S at → {s : Names} → Sound S s →
+      Sound S (body_entered at first is_plain is_counted s)
+  body_entered_there at first is_plain is_counted is {s} h =
+      begins_there first (either is_counted (counted_there at first is_plain is h) h)
 
   outside_there : {s : Names} → Sound S s → Sound S (record s { enclosing = None })
   outside_there h = record {

@@ -22,11 +22,11 @@ use Rattle.tape_ops.specs.declared.op.Op.{Op}
 use Rattle.tape_ops.specs.declared.specifier.TagKind.{TagKind}
 use Rattle.c_tree.specs.declared.lexeme.Lexeme.{Lexeme}
 use Rattle.c_tree.specs.Tree.{SpecWords, no_words, more_words, Params, no_params, more_params, Dots}
-use Rattle.c_tree.specs.Text.{some_sign_text, tag_text, words_text, extensions_text, texts_text, group_text, tokens_between, attrs_text, label_text, assert_text, qual_text, quals_text, pointer_words_text, array_words_text, dots_text}
+use Rattle.c_tree.specs.Text.{some_sign_text, tag_text, words_text, other_names_text, names_text, extensions_text, texts_text, group_text, tokens_between, attrs_text, label_text, assert_text, qual_text, quals_text, pointer_words_text, array_words_text, dots_text}
 use Rattle.c_tree.specs.Firsts.{qual_token, word_token, first_word}
 use Rattle.c_tree.specs.Specifiers.{IsMix, basic_types}
-use Rattle.c_tree.specs.WellFormed.{IsElement, IsQual, IsPointerWord, IsArrayWord, IsEllipsis}
-use Rattle.c_tape.specs.Tape.{quals_tape, pointer_words_tape, array_words_tape, dots_tape, tag_tape, body_tape, quietly, in_scope, params_with}
+use Rattle.c_tree.specs.WellFormed.{IsElement, IsQual, IsWordQual, IsPointerWord, IsArrayWord, IsEllipsis}
+use Rattle.c_tape.specs.Tape.{quals_tape, pointer_words_tape, array_words_tape, dots_tape, tag_tape, body_tape, quietly, in_scope, params_with, identifiers_tape}
 use Rattle.token_laws.proofs.Texts.{Holds, Covers, empty, one, both, nothing, none, so, head, skip, skips, bind, mute, set}
 
 -- specifiers are no mix without a word
@@ -102,6 +102,16 @@ module _ {P : ℕ → Type 0} {F : Type 0} where
   words_skip [] h = h
   words_skip (word ∷ words) h = skip (words_skip words h)
 
+  other_names_skip : (names : List Identifier) {xs : List Op} {t k : List Lexeme} → Covers P F xs t k →
+      Covers P F xs (other_names_text names t) k
+  other_names_skip [] h = h
+  other_names_skip (name ∷ names) h = skip (skip (other_names_skip names h))
+
+  pub names_skip : (names : List Identifier) {xs : List Op} {t k : List Lexeme} → Covers P F xs t k →
+      Covers P F xs (names_text names t) k
+  names_skip [] h = h
+  names_skip (name ∷ names) h = skip (other_names_skip names h)
+
   pub extensions_skip : (tokens : List ℕ) {xs : List Op} {t k : List Lexeme} → Covers P F xs t k →
       Covers P F xs (extensions_text tokens t) k
   extensions_skip [] h = h
@@ -128,19 +138,24 @@ module _ {P : ℕ → Type 0} {F : Type 0} where
     pub assert_skip : (it : Assert) {xs : List Op} {t k : List Lexeme} → Covers P F xs t k → Covers P F xs (assert_text all it t) k
     assert_skip it h = skip (group_skip it.group (skip h))
 
+-- identifiers of a list
+module _ {P : ℕ → Type 0} where
+  other_names_cover : (names : List Identifier) {k : List Lexeme} →
+      Covers P (Holds P (identifiers_tape names)) [] (other_names_text names k) k
+  other_names_cover [] = none
+  other_names_cover (name ∷ names) = skip (head (λ is. so (other_names_cover names) (λ f. both (one (is, tt)) f)))
+
+  pub names_cover : (names : List Identifier) {k : List Lexeme} →
+      Covers P (Holds P (identifiers_tape names)) [] (names_text names k) k
+  names_cover [] = none
+  names_cover (name ∷ names) = head (λ is. so (other_names_cover names) (λ f. both (one (is, tt)) f))
+
 -- Qualifiers. A `$` word that names an element is where its number is among the tokens of the unit.
 module _ {P : ℕ → Type 0} (all : List Lexeme) (element : (n : ℕ) → IsElement (tokens_between all n n) → P n) where
   pub qual_at : (q : Qual) → IsQual all q → {k : List Lexeme} → Covers P (P (qual_token q)) [] (qual_text all q k) k
   qual_at (quals.Word word) h = head (λ is. so nothing (λ f. is))
   qual_at (quals.Element token) h = so (skips (tokens_between all token token) nothing) (λ f. element token h)
   qual_at (quals.Index token) h = head (λ is. so nothing (λ f. is))
-
-  quals_at : (qs : List Qual) → All (IsQual all) qs → {k : List Lexeme} →
-      Covers P (Holds P (quals_tape qs)) [] (quals_text all qs k) k
-  quals_at [] h = none
-  quals_at (q ∷ qs) h =
-      bind (qual_at q (All-head (IsQual all) q qs h)) (λ is. so (quals_at qs (All-tail (IsQual all) q qs h))
-      (λ f. both (one (is, tt)) f))
 
   pub pointer_words_at : (words : List PointerWord) → All (IsPointerWord all) words → {k : List Lexeme} →
       Covers P (Holds P (pointer_words_tape words)) [] (pointer_words_text all words k) k
@@ -160,9 +175,16 @@ module _ {P : ℕ → Type 0} (all : List Lexeme) (element : (n : ℕ) → IsEle
       bind (qual_at q (All-head (IsArrayWord all) (array_words.Qual q) words h)) (λ is. so (array_words_at words
       (All-tail (IsArrayWord all) (array_words.Qual q) words h)) (λ f. both (one (is, tt)) f))
 
+  word_quals_at : (qs : List Qual) → All (IsWordQual all) qs → {k : List Lexeme} →
+      Covers P (Holds P (quals_tape qs)) [] (quals_text all qs k) k
+  word_quals_at [] h = none
+  word_quals_at (q ∷ qs) h =
+      bind (qual_at q (All-head (IsWordQual all) q qs h).0) (λ is. so (word_quals_at qs (All-tail (IsWordQual all) q qs h))
+      (λ f. both (one (is, tt)) f))
+
   pub dots_at : (ps : Params) (dots : Option Dots) → IsEllipsis all ps dots → {k : List Lexeme} →
       Covers P (Holds P (dots_tape dots)) [] (dots_text all dots k) k
   dots_at ps None h = none
   dots_at no_params (Some dots) h = absurd h
   dots_at (more_params ws d attrs ps) (Some dots) h =
-      skip (bind (quals_at dots.quals h) (λ f. so (skip nothing) (λ g. f)))
+      skip (bind (word_quals_at dots.quals h) (λ f. so (skip nothing) (λ g. f)))

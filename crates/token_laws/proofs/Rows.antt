@@ -20,10 +20,10 @@ use Rattle.name_rules.specs.Values.{is_additive, own_of}
 use Rattle.row_rules.specs.Starting.{is_some_function}
 use Rattle.row_rules.specs.Forming.{Ways, ways_in, in_some, pointing, into_member, into_members, formed_in, all_formed_in, formed}
 use Rattle.row_rules.specs.Worlds.{World, Numbered, skeleton_among, all_lattices, at, constraint, constraints, site_number, skeleton, span, word_span}
-use Rattle.row_rules.specs.Annotations.{Annotation, entry_at, is_reference_word, words_of_level, is_earlier, inserted, sorted, annotations_at, some_annotations_at, inner, outcome, further, links_of_entry, alone, marked, annotation_constraints, annotated, annotated_params, annotating, bounds_of, bounds_from, write_bounds, deref_bounds, uncut, parameters}
+use Rattle.row_rules.specs.Annotations.{Annotation, entry_at, is_reference_word, words_of_level, is_earlier, inserted, sorted, annotations_at, some_annotations_at, inner, outcome, further, links_of_entry, alone, marked, annotation_constraints, annotated, annotated_params, annotating, bounds_of, bounds_from, write_bounds, derefs_where, deref_bounds, access_lattices, uncut, parameters}
 use Rattle.row_rules.specs.Indexing.{Indexed, has_some, index_words, indexed_by, indexed_at, some_indexed_at, indexed, indexed_params, value_lattices, is_below, below_each, below_all, indexing}
-use Rattle.row_rules.specs.Vals.{Val, contents, is_empty, is_fun, is_nothing, is_ref, own, result, value}
-use Rattle.row_rules.specs.Rows.{flowing, dereferenced, is_plus_or_minus, assigned, is_logical, computed, branched, chosen, prefixed, passed, formed_here, crossed, instance, some_instance, use_demand, annotating_some, annotating_place, casting, cast_demand, annotating_name, formed_name, plain_name_row, plain_param_row, equal_to, tied_to, name_row, declared_row, some_declared_row, into_param, param_row, RowKind, no_row, row_of_name, row_of_param, row_at, returned, started, taken}
+use Rattle.row_rules.specs.Vals.{Val, contents, is_empty, is_fun, is_nothing, is_ref, own, result, value, Candidate, is_vector_index}
+use Rattle.row_rules.specs.Rows.{flowing, dereferenced, is_plus_or_minus, assigned, is_logical, computed, branched, chosen, picking, picked, index_demand, carrying, carried, prefixed, passed, formed_here, crossed, instance, some_instance, use_demand, annotating_some, annotating_place, casting, cast_demand, annotating_name, formed_name, plain_name_row, plain_param_row, equal_to, tied_to, name_row, declared_row, some_declared_row, into_param, param_row, RowKind, no_row, row_of_name, row_of_param, row_at, returned, started, taken}
 use Rattle.token_laws.proofs.Types.{AllWords, Ok, Oks, SomeOk, words_append, words_are, DeclaredOk, SomeDeclaredOk, declared_there}
 
 -- constraints that all stand at good spans
@@ -75,10 +75,14 @@ module _ (S : Span → Type 0) (w : World) where
   pub writes_stand : (v : ℕ) (where_ : Span) → S where_ → Stand S (write_bounds w v where_)
   writes_stand v where_ is = views_stand (λ entry. entry.write) v where_ 0 w.lattices is
 
-  pub dereferenced_stand : (s : Skel) (where_ : Span) → S where_ → Stand S (dereferenced w s where_)
-  dereferenced_stand s where_ is =
-      none_where S (is_fun (contents s)) (deref_bounds w (root s) where_)
-      (views_stand (λ entry. entry.deref) (root s) where_ 0 w.lattices is)
+  pub dereferenced_stand : (s : Skel) (aims : Bool) (where_ : Span) → S where_ → Stand S (dereferenced w s aims where_)
+  dereferenced_stand s aims where_ is =
+      none_where S (is_fun (contents s)) (deref_bounds w (root s) aims where_)
+      (views_stand (λ entry. derefs_where aims entry.deref) (root s) where_ 0 w.lattices is)
+
+  pub index_stand : (a b : Skel) (aims : Bool) (where_ : Span) → S where_ → Stand S (index_demand w a b aims where_)
+  index_stand a b aims where_ is =
+      none_where S (is_vector_index w.spelling.wide a b) _ (dereferenced_stand (if is_ref a then a else b) aims where_ is)
 
   -- words of types
 
@@ -320,15 +324,42 @@ module _ (S : Span → Type 0) (w : World) where
       (lists_stand S (formed w where_ t) (branched w a b t where_) (formed_stand where_ t is)
       (both_stand false false a b t where_ is))
 
-  pub prefixed_stand : (p : Punct) (is_zero : Bool) (e : Val) (t : Skel) (where_ : Span) → S where_ →
-      Stand S (prefixed w p is_zero e t where_)
-  prefixed_stand signs.PlusPlus is_zero e t where_ is = writes_stand (root e.skel) where_ is
-  prefixed_stand signs.MinusMinus is_zero e t where_ is = writes_stand (root e.skel) where_ is
-  prefixed_stand signs.Star is_zero e t where_ is = dereferenced_stand (value e) where_ is
-  prefixed_stand signs.Plus is_zero e t where_ is = flowing_stand is_zero (value e) t (all_lattices w) where_ is
-  prefixed_stand signs.Minus is_zero e t where_ is = flowing_stand is_zero (value e) t (all_lattices w) where_ is
-  prefixed_stand signs.Tilde is_zero e t where_ is = flowing_stand is_zero (value e) t (all_lattices w) where_ is
-  prefixed_stand p is_zero e t where_ is = tt
+  pub prefixed_stand : (p : Punct) (is_zero : Bool) (e : Val) (t : Skel) (aims : Bool) (where_ : Span) → S where_ →
+      Stand S (prefixed w p is_zero e t aims where_)
+  prefixed_stand signs.PlusPlus is_zero e t aims where_ is = writes_stand (root e.skel) where_ is
+  prefixed_stand signs.MinusMinus is_zero e t aims where_ is = writes_stand (root e.skel) where_ is
+  prefixed_stand signs.Star is_zero e t aims where_ is = dereferenced_stand (value e) aims where_ is
+  prefixed_stand signs.Plus is_zero e t aims where_ is = flowing_stand is_zero (value e) t (all_lattices w) where_ is
+  prefixed_stand signs.Minus is_zero e t aims where_ is = flowing_stand is_zero (value e) t (all_lattices w) where_ is
+  prefixed_stand signs.Tilde is_zero e t aims where_ is = flowing_stand is_zero (value e) t (all_lattices w) where_ is
+  prefixed_stand p is_zero e t aims where_ is = tt
+
+  -- a pointer to a place that was come to by a pointer
+  carrying_stand : (by t : Skel) (where_ : Span) → S where_ → Stand S (carrying w by t where_)
+  carrying_stand by t where_ is =
+      none_where S (is_nothing by || is_nothing t)
+      (constraint (access_lattices w.lattices) where_ (Le (root by) (root t)) ∷ []) (is, tt)
+
+  pub carried_stand : (place by t : Skel) (where_ : Span) → S where_ → Stand S (carried w place by t where_)
+  carried_stand place by t where_ is =
+      lists_stand S (formed w where_ t) _ (formed_stand where_ t is)
+      (lists_stand S (flowing false place t (all_lattices w) where_) (carrying w by t where_)
+      (flowing_stand false place t (all_lattices w) where_ is) (carrying_stand by t where_ is))
+
+  -- picks
+
+  picking_stand : (its : List Candidate) (t : Skel) (where_ : Span) → S where_ → Stand S (picking w its t where_)
+  picking_stand [] t where_ is = tt
+  picking_stand (it ∷ others) t where_ is =
+      lists_stand S (flowing it.is_zero (value it.val) t (all_lattices w) where_) (picking w others t where_)
+      (flowing_stand it.is_zero (value it.val) t (all_lattices w) where_ is) (picking_stand others t where_ is)
+
+  pub picked_stand : (its : List Candidate) (t : Skel) (where_ : Span) → S where_ → Stand S (picked w its t where_)
+  picked_stand [] t where_ is = tt
+  picked_stand (it ∷ []) t where_ is = tt
+  picked_stand (it ∷ other ∷ others) t where_ is =
+      lists_stand S (formed w where_ t) (picking w (it ∷ other ∷ others) t where_) (formed_stand where_ t is)
+      (picking_stand (it ∷ other ∷ others) t where_ is)
 
   pub passed_stand : (is_zero : Bool) (a : Skel) (t : Option Skel) (e : Option ℕ) (where_ : Span) → S where_ →
       Stand S (passed w is_zero a t e where_)

@@ -1,6 +1,6 @@
 -- The constraints that are found along a tape stand at good spans, where each two tokens that the tape carries are the ends of one.
-use Rattle.std.proofs.Common.{ℕ, zero, suc, true, false, List, [], ◌∷◌, Option, None, Some}
-use Rattle.std.specs.Prelude.{drop, if◌then◌else◌}
+use Rattle.std.proofs.Common.{ℕ, zero, suc, Bool, true, false, List, [], ◌∷◌, Option, None, Some}
+use Rattle.std.specs.Prelude.{◌&&◌, drop, if◌then◌else◌}
 use Rattle.qual_base.specs.declared.places.Span.{Span}
 use Rattle.tape_ops.specs.declared.op.Op.{Op}
 use Rattle.tape_ops.specs.declared.op.Op.TheVariants as ops
@@ -16,24 +16,27 @@ use Rattle.tape_ops.specs.declared.specifier.SpecOp.{SpecOp}
 use Rattle.tape_ops.specs.declared.specifier.SpecOp.TheVariants as specs
 use Rattle.tape_ops.specs.declared.statement.StmtOp.{StmtOp}
 use Rattle.tape_ops.specs.declared.statement.StmtOp.TheVariants as stmts
+use Rattle.flow_graph.specs.declared.constraint.Constraint.{Constraint}
+use Rattle.name_rules.specs.Checks.{is_star}
 use Rattle.name_rules.specs.Uses.{use_at}
 use Rattle.qual_types.specs.Skel.{Skel, root, param_at}
 use Rattle.shape_steps.specs.State.{declared_last}
+use Rattle.shape_steps.specs.Steps.{twice}
 use Rattle.row_rules.specs.Worlds.{World, at, all_lattices, span}
 use Rattle.row_rules.specs.Annotations.{parameters, further}
-use Rattle.row_rules.specs.Vals.{is_ref, own}
+use Rattle.row_rules.specs.Vals.{is_ref, own, is_carrying, left_of}
 use Rattle.row_rules.specs.Vals as vals
 use Rattle.row_rules.specs.Forming.{formed}
 use Rattle.row_rules.specs.Rows.{annotating_some, annotating_place, formed_here}
 use Rattle.row_steps.specs.Rounds.{naming, is_quiet}
 use Rattle.row_steps.specs.State.{Operand, expression, named_type, State, nothing, first_operand, val_of_operand, is_zero_operand, type_of_operand, val_at, value_at, is_zero_at, type_at, depth_below, operands_below, first_braces}
-use Rattle.row_steps.specs.Steps.{target_in, initialised_by, expr_step, form_step, init_step, spec_step, declr_step, stmt_step, step}
+use Rattle.row_steps.specs.Steps.{target_in, initialised_by, carrying, chosen, selected, expr_step, form_step, init_step, spec_step, declr_step, stmt_step, step}
 use Rattle.row_steps.specs.OpRows.{function_skeleton, naming_row, into_target, called_at, expr_row, form_row, init_row, spec_row, declr_row, stmt_row, loud_row, op_row}
 use Rattle.row_steps.specs.Found.{rows_found}
 use Rattle.token_laws.specs.Ops.{op_tokens, expr_tokens, form_tokens, init_tokens, spec_tokens, stmt_tokens}
 use Rattle.token_laws.proofs.Texts.{AllIn, AllOps}
 use Rattle.token_laws.proofs.Types.{SomeOk, Sound, named_there}
-use Rattle.token_laws.proofs.Rows.{Stand, lists_stand, none_where, AtWord, writes_stand, dereferenced_stand, formed_stand, formed_here_stand, annotating_some_stand, annotating_place_stand, flowing_stand, assigned_stand, computed_stand, chosen_stand, prefixed_stand, passed_stand, returned_stand, cast_stand, started_stand, taken_stand, use_stand, row_stand}
+use Rattle.token_laws.proofs.Rows.{Stand, lists_stand, none_where, AtWord, writes_stand, dereferenced_stand, index_stand, carried_stand, picked_stand, formed_stand, formed_here_stand, annotating_some_stand, annotating_place_stand, flowing_stand, assigned_stand, computed_stand, chosen_stand, prefixed_stand, passed_stand, returned_stand, cast_stand, started_stand, taken_stand, use_stand, row_stand}
 
 module _ (S : Span → Type 0) (A : ℕ → Type 0) (w : World) (pair : (a b : ℕ) → A a → A b → S (span w a b))
     (names : Sound (AtWord S) w.names) where
@@ -70,6 +73,12 @@ module _ (S : Span → Type 0) (A : ℕ → Type 0) (w : World) (pair : (a b : �
 
   -- the operands behind an op
 
+  -- what is noted of a pointer changes no operand
+  carrying_ok : (aims : Bool) (pointer : Skel) (st : State) → OperandsOk st.operands →
+      OperandsOk (carrying aims pointer st).operands
+  carrying_ok true pointer st h = h
+  carrying_ok false pointer st h = h
+
   expr_ok : (st : State) (op : ExprOp) → OperandsOk st.operands → OperandsOk (expr_step w st op).operands
   expr_ok st (exprs.Name is_called token name) h = (tt, fewer 0 st.operands h)
   expr_ok st (exprs.Number token) h = (tt, fewer 0 st.operands h)
@@ -81,13 +90,16 @@ module _ (S : Span → Type 0) (A : ℕ → Type 0) (w : World) (pair : (a b : �
   expr_ok st (exprs.Assign sign token first last) h = (tt, fewer 2 st.operands h)
   expr_ok st (exprs.Cond has_middle token first last) h = (tt, fewer (if has_middle then 3 else 2) st.operands h)
   expr_ok st (exprs.Binary sign token first last) h = (tt, fewer 2 st.operands h)
-  expr_ok st (exprs.Prefix sign token last) h = (tt, fewer 1 st.operands h)
+  expr_ok st (exprs.Prefix sign token last aims) h =
+      (tt, fewer 1 _ (carrying_ok (aims && is_star sign) (value_at 0 st) st h))
   expr_ok st (exprs.Post sign token first) h = (tt, fewer 1 st.operands h)
-  expr_ok st (exprs.Index token first last) h = (tt, fewer 2 st.operands h)
+  expr_ok st (exprs.Index token first last aims) h =
+      (tt, fewer 2 _ (carrying_ok aims (if is_ref (value_at 1 st) then value_at 1 st else value_at 0 st) st h))
   expr_ok st (exprs.Arg behind first last) h = h
   expr_ok st (exprs.Call token count) h = (tt, fewer (suc count) st.operands h)
-  expr_ok st (exprs.Arrow token first last) h = (tt, fewer 1 st.operands h)
+  expr_ok st (exprs.Arrow token first last aims) h = (tt, fewer 1 _ (carrying_ok aims (value_at 0 st) st h))
   expr_ok st (exprs.Dot token member name) h = (tt, fewer 1 st.operands h)
+  expr_ok st (exprs.Label token) h = (tt, fewer 0 st.operands h)
 
   form_ok : (st : State) (op : FormOp) → OperandsOk st.operands → OperandsOk (form_step w st op).operands
   form_ok st (forms.Cast token last) h = (tt, fewer 2 st.operands h)
@@ -100,6 +112,11 @@ module _ (S : Span → Type 0) (A : ℕ → Type 0) (w : World) (pair : (a b : �
   form_ok st (forms.OffsetMember token name) h = h
   form_ok st (forms.OffsetIndex token) h = fewer 1 st.operands h
   form_ok st (forms.Offset token) h = (tt, fewer 1 st.operands h)
+  form_ok st (forms.Compat token) h = (tt, fewer 2 st.operands h)
+  form_ok st forms.Control h = h
+  form_ok st forms.NoType h = (tt, fewer 0 st.operands h)
+  form_ok st (forms.Choose token) h = (tt, fewer 2 st.operands h)
+  form_ok st (forms.Generic token count) h = (tt, fewer (suc (twice count)) st.operands h)
 
   init_ok : (st : State) (op : InitOp) → OperandsOk st.operands → OperandsOk (init_step w st op).operands
   init_ok st (inits.Value first last) h = fewer 1 st.operands h
@@ -126,6 +143,9 @@ module _ (S : Span → Type 0) (A : ℕ → Type 0) (w : World) (pair : (a b : �
   spec_ok st specs.BodyEnd h = h
   spec_ok st (specs.Enumerator token name) h = h
   spec_ok st (specs.UnnamedMember token) h = h
+  spec_ok st specs.PartBegin h = h
+  spec_ok st (specs.TypeofEnd token) h = h
+  spec_ok st specs.TypeEnd h = fewer 1 st.operands h
   spec_ok st specs.SpecsEnd h = h
 
   declr_ok : (st : State) (op : DeclrOp) → OperandsOk st.operands → OperandsOk (declr_step w st op).operands
@@ -137,6 +157,10 @@ module _ (S : Span → Type 0) (A : ℕ → Type 0) (w : World) (pair : (a b : �
   declr_ok st declrs.Array h = h
   declr_ok st (declrs.Function has_ellipsis) h = h
   declr_ok st declrs.Declare h = h
+  declr_ok st declrs.AutoBegin h = h
+  declr_ok st (declrs.AutoEnd token) h = h
+  declr_ok st (declrs.Identifier token name) h = h
+  declr_ok st declrs.OldParam h = h
   declr_ok st declrs.Member h = h
   declr_ok st (declrs.TypeName first) h =
       (named_there (AtWord S) w.names.type_names (at w first) names.type_names, fewer 0 st.operands h)
@@ -167,6 +191,10 @@ module _ (S : Span → Type 0) (A : ℕ → Type 0) (w : World) (pair : (a b : �
   target_stand (Some t) it where_ is =
       flowing_stand S w (is_zero_operand it) (vals.value (val_of_operand it)) t (all_lattices w) where_ is
 
+  either_stands : (b : Bool) (cs ds : List Constraint) → Stand S cs → Stand S ds → Stand S (if b then cs else ds)
+  either_stands true cs ds h k = h
+  either_stands false cs ds h k = k
+
   expr_stand : (st : State) (op : ExprOp) → AllIn A (expr_tokens op) → Stand S (expr_row w st op)
   expr_stand st (exprs.Name is_called token name) is =
       use_stand S w token (use_at w.names.uses (at w token)) (pair token token is.0 is.0)
@@ -185,21 +213,24 @@ module _ (S : Span → Type 0) (A : ℕ → Type 0) (w : World) (pair : (a b : �
   expr_stand st (exprs.Binary sign token first last) is =
       computed_stand S w sign (is_zero_at 1 st) (is_zero_at 0 st) (value_at 1 st) (value_at 0 st) (own w token)
       (span w first last) (pair first last is.1.0 is.1.1.0)
-  expr_stand st (exprs.Prefix sign token last) is =
-      prefixed_stand S w sign (is_zero_at 0 st) (val_at 0 st) (own w token) (span w token last) (pair token last is.0 is.1.0)
+  expr_stand st (exprs.Prefix sign token last aims) is =
+      either_stands (is_carrying w sign aims) _ _
+      (carried_stand S w (val_at 0 st).skel st.carried (own w token) (span w token token) (pair token token is.0 is.0))
+      (prefixed_stand S w sign (is_zero_at 0 st) (val_at 0 st) (own w token) aims (span w token last)
+      (pair token last is.0 is.1.0))
   expr_stand st (exprs.Post sign token first) is =
       writes_stand S w (root (val_at 0 st).skel) (span w first token) (pair first token is.1.0 is.0)
-  expr_stand st (exprs.Index token first last) is =
-      dereferenced_stand S w (if is_ref (value_at 1 st) then value_at 1 st else value_at 0 st) (span w first last)
-      (pair first last is.1.0 is.1.1.0)
+  expr_stand st (exprs.Index token first last aims) is =
+      index_stand S w (value_at 1 st) (value_at 0 st) aims (span w first last) (pair first last is.1.0 is.1.1.0)
   expr_stand st (exprs.Arg behind first last) is =
       let f = called_at behind st in
       passed_stand S w (is_zero_at behind st) (value_at behind st) (param_at (parameters f) st.passed) (further f)
       (span w first last) (pair first last is.0 is.1.0)
   expr_stand st (exprs.Call token count) is = tt
-  expr_stand st (exprs.Arrow token first last) is =
-      dereferenced_stand S w (value_at 0 st) (span w first last) (pair first last is.1.0 is.1.1.0)
+  expr_stand st (exprs.Arrow token first last aims) is =
+      dereferenced_stand S w (value_at 0 st) aims (span w first last) (pair first last is.1.0 is.1.1.0)
   expr_stand st (exprs.Dot token member name) is = tt
+  expr_stand st (exprs.Label token) is = formed_here_stand S w token (pair token token is.0 is.0)
 
   form_stand : (st : State) (op : FormOp) → AllIn A (form_tokens op) → OperandsOk st.operands → Stand S (form_row w st op)
   form_stand st (forms.Cast token last) is h =
@@ -221,6 +252,14 @@ module _ (S : Span → Type 0) (A : ℕ → Type 0) (w : World) (pair : (a b : �
   form_stand st (forms.OffsetMember token name) is h = tt
   form_stand st (forms.OffsetIndex token) is h = tt
   form_stand st (forms.Offset token) is h = tt
+  form_stand st (forms.Compat token) is h = tt
+  form_stand st forms.Control is h = tt
+  form_stand st forms.NoType is h = tt
+  form_stand st (forms.Choose token) is h =
+      picked_stand S w (left_of (chosen st)) (own w token) (span w token token) (pair token token is.0 is.0)
+  form_stand st (forms.Generic token count) is h =
+      picked_stand S w (left_of (selected w token 0 count st)) (own w token) (span w token token)
+      (pair token token is.0 is.0)
 
   init_stand : (st : State) (op : InitOp) → AllIn A (init_tokens op) → OperandsOk st.operands → Stand S (init_row w st op)
   init_stand st (inits.Value first last) is h =
@@ -247,7 +286,7 @@ module _ (S : Span → Type 0) (A : ℕ → Type 0) (w : World) (pair : (a b : �
   spec_stand op is = tt
 
   declr_stand : (st : State) (op : DeclrOp) → Stand S (declr_row w st op)
-  declr_stand st (declrs.DeclName token name) = row_stand S w (naming_row w (naming st.rounds)) token names.declared
+  declr_stand st (declrs.DeclName token name) = row_stand S w (naming_row w (naming st.rounds) token) token names.declared
   declr_stand st (declrs.ParamsBegin is_own) = tt
   declr_stand st declrs.Param = tt
   declr_stand st declrs.ParamsEnd = tt
@@ -255,6 +294,10 @@ module _ (S : Span → Type 0) (A : ℕ → Type 0) (w : World) (pair : (a b : �
   declr_stand st declrs.Array = tt
   declr_stand st (declrs.Function has_ellipsis) = tt
   declr_stand st declrs.Declare = tt
+  declr_stand st declrs.AutoBegin = tt
+  declr_stand st (declrs.AutoEnd token) = tt
+  declr_stand st (declrs.Identifier token name) = tt
+  declr_stand st declrs.OldParam = tt
   declr_stand st declrs.Member = tt
   declr_stand st (declrs.TypeName first) = tt
   declr_stand st declrs.DeclarationEnd = tt

@@ -118,3 +118,14 @@ module _ {P : ℕ → Type 0} where
   set o p = record {
     goes = λ h. (let a = p.goes h in record { ops = both o a.ops; facts = a.facts; rest = a.rest });
   }
+
+  -- the ops as a fact, and none
+  pub as_fact : {F : Type 0} {xs : List Op} {t k : List Lexeme} → Covers P F xs t k → Covers P (F × Holds P xs) [] t k
+  as_fact p = record {
+    goes = λ h. (let a = p.goes h in record { ops = empty; facts = (a.facts, a.ops); rest = a.rest });
+  }
+
+  -- the token behind it is known by ops that cover the same
+  pub known : {F G : Type 0} {it : Lexeme} {xs ys : List Op} {t k : List Lexeme} → Covers P G ys t (it ∷ k) →
+      (P it.at → Covers P F xs t (it ∷ k)) → Covers P F xs t (it ∷ k)
+  known p q = record { goes = λ h. (q (p.goes h).rest.0).goes h }

@@ -1,9 +1,10 @@
 -- Each token that an op of a tree's tape carries is one of the tree's text.
-use Rattle.std.proofs.Common.{◌≡◌, ◌≢◌, All, Bool, true, false, List, [], ◌∷◌, ◌++◌, ℕ, Option, None, Some, refl, subst}
+use Rattle.std.proofs.Common.{◌≡◌, ◌≢◌, All, Bool, true, false, List, [], ◌∷◌, ◌++◌, ℕ, Option, None, Some, refl, sym, subst}
 use Rattle.std.proofs.lemmas.List.Elements.{All-head, All-tail}
 use Rattle.std.specs.Prelude.{if◌then◌else◌}
 use Rattle.c_words.specs.declared.kinds.Punct.{Punct}
 use Rattle.c_words.specs.declared.kinds.Punct.TheVariants.{Colon, Comma, Equal}
+use Rattle.c_words.specs.declared.kinds.Punct.TheVariants as signs
 use Rattle.c_syntax.specs.declared.parts.Identifier.{Identifier}
 use Rattle.tape_ops.specs.declared.op.Op.{Op}
 use Rattle.tape_ops.specs.declared.expression.ExprOp.TheVariants as exprs
@@ -11,17 +12,17 @@ use Rattle.tape_ops.specs.declared.specifier.SpecOp.TheVariants as specs
 use Rattle.tape_ops.specs.declared.specifier.TagKind.{TagKind}
 use Rattle.tape_ops.specs.declared.specifier.TagKind.TheVariants as tags
 use Rattle.c_tree.specs.declared.lexeme.Lexeme.{Lexeme}
-use Rattle.c_tree.specs.Tree.{Expr, operation, cast, prefix, sizeof_value, sizeof_type, extension, index, call, dot, arrow, post, compound, name_use, number_use, char_use, text_use, paren, statement_expr, va_arg, va_start, va_copy, offset, Operator, comma, assign, cond, binary, SomeExpr, no_expr, some_expr, Exprs, no_exprs, more_exprs, SpecWords, no_words, more_words, SpecWord, storage, thread, inline_word, noreturn, qualifier, basic, struct_type, enum_type, typedef_name, attribute, SomeBody, no_body, some_body, StructItems, no_struct_items, more_struct_items, StructItem, member, member_semi, member_assert, MemDeclrs, no_mem_declrs, more_mem_declrs, MemDeclr, named, unnamed, SomeValue, no_value, some_value, EnumType, enum_of, SomeEnumBody, no_enum_body, some_enum_body, Enumerators, no_enumerators, more_enumerators, Declr, pointer, declr_name, declr_paren, array, params, abs_pointer, abs_paren, abs_array, abs_params, SomeDeclr, no_declr, some_declr, SomeSize, no_size, some_size, ArraySize, size_value, size_star, Params, no_params, more_params, Init, init_value, init_braced, InitList, init_list, InitItems, no_init_items, more_init_items, Desigs, no_desigs, more_desigs, Desig, member_desig, index_desig, SomeInit, no_init, some_init, InitDeclrs, no_init_declrs, more_init_declrs, Declaration, declaration, Decl, decl_declaration, decl_assert, BlockItems, no_block_items, more_block_items, BlockItem, block_decl, block_stmt, Stmt, block, expr_stmt, attr_stmt, label, case_stmt, default_stmt, if_stmt, switch_stmt, while_stmt, do_stmt, for_stmt, goto_stmt, continue_stmt, break_stmt, return_stmt, asm_stmt, SomeElse, no_else, some_else, ForStart, start_declaration, start_value}
-use Rattle.c_tree.specs.Text.{tokens_between, texts_text, expr_text, operator_text, some_expr_text, exprs_text, other_exprs_text, spec_words_text, spec_word_text, some_body_text, struct_items_text, struct_item_text, mem_declrs_text, other_mem_declrs_text, mem_declr_text, some_value_text, enum_type_text, some_enum_body_text, enumerators_text, other_enumerators_text, declr_text, some_declr_text, some_size_text, array_size_text, params_text, other_params_text, init_text, init_list_text, init_items_text, other_init_items_text, desigs_text, desig_text, some_init_text, init_declrs_text, other_init_declrs_text, declaration_text, decl_text, block_items_text, block_item_text, stmt_text, some_else_text, for_start_text}
+use Rattle.c_tree.specs.Tree.{Expr, operation, cast, prefix, sizeof_value, sizeof_type, extension, index, call, dot, arrow, post, compound, name_use, number_use, char_use, text_use, paren, statement_expr, va_arg, va_start, va_copy, offset, Operator, comma, assign, cond, binary, SomeExpr, no_expr, some_expr, Exprs, no_exprs, more_exprs, SpecWords, no_words, more_words, SpecWord, storage, thread, inline_word, noreturn, qualifier, basic, struct_type, enum_type, typedef_name, attribute, SomeBody, no_body, some_body, StructItems, no_struct_items, more_struct_items, StructItem, member, member_semi, member_assert, MemDeclrs, no_mem_declrs, more_mem_declrs, MemDeclr, named, unnamed, SomeValue, no_value, some_value, EnumType, enum_of, SomeEnumBody, no_enum_body, some_enum_body, Enumerators, no_enumerators, more_enumerators, Declr, pointer, declr_name, declr_paren, array, params, abs_pointer, abs_paren, abs_array, abs_params, SomeDeclr, no_declr, some_declr, SomeSize, no_size, some_size, ArraySize, size_value, size_star, Params, no_params, more_params, Init, init_value, init_braced, InitList, init_list, InitItems, no_init_items, more_init_items, Desigs, no_desigs, more_desigs, Desig, member_desig, index_desig, SomeInit, no_init, some_init, InitDeclrs, no_init_declrs, more_init_declrs, Declaration, declaration, Decl, decl_declaration, decl_assert, BlockItems, no_block_items, more_block_items, BlockItem, block_decl, block_stmt, Stmt, block, expr_stmt, attr_stmt, label, case_stmt, default_stmt, if_stmt, switch_stmt, while_stmt, do_stmt, for_stmt, goto_stmt, continue_stmt, break_stmt, return_stmt, asm_stmt, SomeElse, no_else, some_else, ForStart, start_declaration, start_value, complex_part, label_use, compat, choose, generic, Assocs, no_assocs, more_assocs, Assoc, typed_assoc, default_assoc, typeof_value, typeof_type, align, auto_word, identifiers, base_name, range_desig, old_desig, block_labels, case_range, goto_value}
+use Rattle.c_tree.specs.Text.{tokens_between, texts_text, expr_text, operator_text, some_expr_text, exprs_text, other_exprs_text, spec_words_text, spec_word_text, some_body_text, struct_items_text, struct_item_text, mem_declrs_text, other_mem_declrs_text, mem_declr_text, some_value_text, enum_type_text, some_enum_body_text, enumerators_text, other_enumerators_text, declr_text, some_declr_text, some_size_text, array_size_text, params_text, other_params_text, init_text, init_list_text, init_items_text, other_init_items_text, desigs_text, desig_text, some_init_text, init_declrs_text, other_init_declrs_text, declaration_text, decl_text, block_items_text, block_item_text, stmt_text, some_else_text, for_start_text, assocs_text, assoc_text}
 use Rattle.c_tree.specs.Specifiers.{IsMix}
-use Rattle.c_tree.specs.WellFormed.{IsElement, IsExpr, IsMiddle, IsSomeExpr, AreArguments, AreSteps, IsStep, AreDesigs, IsDesig, AreTypeWords, AreSpecWords, IsSpecWord, IsBody, AreStructItems, IsStructItem, AreMemDeclrs, IsMemDeclr, IsSomeValue, IsEnum, IsEnumBody, AreEnumerators, IsDeclr, IsSomeAbstract, IsSomeDirect, IsSize, IsArraySize, AreParams, IsSomeDeclr, IsInit, IsInitList, AreInitItems, IsSomeInit, AreInitDeclrs, IsDeclaration, IsDecl, AreBlockItems, IsBlockItem, IsStmt, IsOther, IsStart}
-use Rattle.c_tree.specs.Unit.{Item, function_item, decl_item, asm_item, semi_item, IsItem, item_text, items_text}
+use Rattle.c_tree.specs.WellFormed.{IsElement, IsExpr, IsMiddle, IsSomeExpr, AreArguments, AreSteps, IsStep, AreDesigs, IsDesig, AreTypeWords, AreSpecWords, IsSpecWord, IsBody, AreStructItems, IsStructItem, AreMemDeclrs, IsMemDeclr, IsSomeValue, IsEnum, IsEnumBody, AreEnumerators, IsDeclr, IsSomeAbstract, IsSomeDirect, IsSize, IsArraySize, AreParams, IsSomeDeclr, IsInit, IsInitList, AreInitItems, IsSomeInit, AreInitDeclrs, IsDeclaration, IsDecl, AreBlockItems, IsBlockItem, IsStmt, IsOther, IsStart, AreAssocs, IsAssoc}
+use Rattle.c_tree.specs.Unit.{Item, function_item, old_function_item, decl_item, asm_item, semi_item, IsItem, declarations_text, item_text, items_text}
 use Rattle.c_tree.specs.Ends.{first_token, last_token, first_text, number_of_first, FirstBegins, LastEnds}
 use Rattle.c_tree.specs.Firsts.{word_token, first_word}
-use Rattle.c_tape.specs.Tests.{is_void, tag_kind, says_none}
-use Rattle.c_tape.specs.Tape.{expr, spec, arguments, pieces, some_pieces, desigs_tape, desig_tape, rule, rule_of_list, rule_of_items, expr_tape, operator_tape, middle_tape, some_expr_tape, exprs_tape, dropped_tape, steps_tape, step_tape, words_tape, word_tape, unnamed_tape, unnamed_word_tape, specs_with, type_name_with, struct_tape, struct_items_tape, struct_item_tape, members_tape, mem_declrs_tape, mem_declr_tape, some_value_tape, enum_tape, enum_body_tape, enumerators_tape, some_declr_tape, contents, some_contents, some_size_tape, size_tape, params_tape, init_tape, list_tape, init_items_tape, indices_tape, index_tape, some_init_tape, declared_init_tape, init_declrs_tape, declaration_tape, decl_tape, block_items_tape, block_item_tape, stmt_tape, some_else_tape, for_start_tape, return_tape, item_tape, tape_of}
-use Rattle.token_laws.proofs.Texts.{AllAt, Holds, Covers, empty, one, both, nothing, none, so, done, join, head, skip, bind, trail, past, ended, ends, put, set, mute}
-use Rattle.token_laws.proofs.Parts.{Begins, first_of, SomeAt, tag_ops, body_ops, quiet_covers, scope_covers, either, params_cover, some_sign_skip, tag_covers, words_skip, extensions_skip, texts_skip, group_skip, attrs_skip, label_skip, assert_skip, qual_at, pointer_words_at, array_words_at, dots_at}
+use Rattle.c_tape.specs.Tests.{is_void, tag_kind, says_none, are_auto}
+use Rattle.c_tape.specs.Tape.{expr, spec, arguments, pieces, some_pieces, desigs_tape, desig_tape, rule, rule_of_list, rule_of_items, prefix_tape, tape_in, assocs_tape, assoc_tape, auto_declrs_tape, auto_init_tape, old_declrs_tape, old_declaration_tape, old_declarations_tape, old_contents, array_words_tape, operator_tape, middle_tape, some_expr_tape, exprs_tape, dropped_tape, steps_tape, step_tape, words_tape, word_tape, unnamed_tape, unnamed_word_tape, specs_with, type_name_with, struct_tape, struct_items_tape, struct_item_tape, members_tape, mem_declrs_tape, mem_declr_tape, some_value_tape, enum_tape, enum_body_tape, enumerators_tape, some_declr_tape, contents, some_contents, some_size_tape, size_tape, params_tape, init_tape, list_tape, init_items_tape, indices_tape, index_tape, some_init_tape, declared_init_tape, init_declrs_tape, declaration_tape, decl_tape, block_items_tape, block_item_tape, stmt_tape, some_else_tape, for_start_tape, return_tape, item_tape, tape_of}
+use Rattle.token_laws.proofs.Texts.{AllAt, Holds, Covers, empty, one, both, nothing, none, so, done, join, head, skip, bind, trail, past, ended, ends, put, set, mute, as_fact, known}
+use Rattle.token_laws.proofs.Parts.{Begins, first_of, SomeAt, tag_ops, body_ops, quiet_covers, scope_covers, either, params_cover, some_sign_skip, tag_covers, words_skip, names_skip, names_cover, extensions_skip, texts_skip, group_skip, attrs_skip, label_skip, assert_skip, qual_at, pointer_words_at, array_words_at, dots_at}
 
 type_words : (all : List Lexeme) (ws : SpecWords) → AreTypeWords all ws → AreSpecWords all ws
 type_words all no_words h = tt
@@ -83,6 +84,12 @@ module _ {P : ℕ → Type 0} (all : List Lexeme) (element : (n : ℕ) → IsEle
   texts_cover [] h = absurd (h refl)
   texts_cover (token ∷ tokens) h = head (λ is. put (texts_skip tokens nothing) (λ f. one (is, tt)))
 
+  -- a `&` takes its operand only addressed
+  prefix_covers : (sign : Punct) (token : ℕ) (e : Expr) (aims : Bool) {xs ys : List Op} {t k : List Lexeme} → P token →
+      Covers P (Ends P e) xs t k → Covers P (Ends P e) ys t k → Covers P (Ends P e) (prefix_tape token sign e aims xs ys) t k
+  prefix_covers signs.Ampersand token e aims is p q = put p (λ f. one (is, (f.last, tt)))
+  prefix_covers sign token e aims is p q = put q (λ f. one (is, (f.last, tt)))
+
   type_name_covers : (ws : SpecWords) → IsMix ws → {xs ys : List Op} {t m k : List Lexeme} →
       Covers P (Worded P ws) xs t m → Covers P (Unit {0}) ys m k →
       Covers P (Unit {0}) (type_name_with xs ys (first_word ws)) t k
@@ -91,61 +98,88 @@ module _ {P : ℕ → Type 0} (all : List Lexeme) (element : (n : ℕ) → IsEle
   mutual
     -- expressions
 
-    expr_covers : (e : Expr) → IsExpr all e → (called : Bool) → {k : List Lexeme} →
-        Covers P (Ends P e) (expr_tape called e) (expr_text all e k) k
-    expr_covers (operation e op token e2) h called =
-        with_ends (operation e op token e2) h (operator_covers op h.3 token e e2 (expr_covers e h.0 false) (expr_covers e2 h.1 false))
-    expr_covers (cast opening ws d closing e) h called =
+    expr_covers : (e : Expr) → IsExpr all e → (called aims : Bool) → {k : List Lexeme} →
+        Covers P (Ends P e) (tape_in called aims e) (expr_text all e k) k
+    expr_covers (operation e op token e2) h called aims =
+        with_ends (operation e op token e2) h (operator_covers op h.3 token e e2 (expr_covers e h.0 false false) (expr_covers e2 h.1 false false))
+    expr_covers (cast opening ws d closing e) h called aims =
         with_ends (cast opening ws d closing e) h (head (λ is. put (join (type_name_covers ws h.0 (words_cover ws (type_words all ws h.1) false) (some_declr_covers d (abstract_is all d h.2)))
-        (skip (expr_covers e h.3 false))) (λ f. one (is, (f.1.last, tt)))))
-    expr_covers (prefix token p e) h called =
-        with_ends (prefix token p e) h (head (λ is. put (expr_covers e h.0 false) (λ f. one (is, (f.last, tt)))))
-    expr_covers (sizeof_value word e) h called =
-        with_ends (sizeof_value word e) h (head (λ is. put (set (one tt) (expr_covers e h.0 false)) (λ f. one (is, tt))))
-    expr_covers (sizeof_type word opening ws d closing) h called =
+        (skip (expr_covers e h.3 false false))) (λ f. one (is, (f.1.last, tt)))))
+    expr_covers (prefix token p e) h called aims =
+        with_ends (prefix token p e) h (head (λ is. prefix_covers p token e aims is (expr_covers e h.0 false true) (expr_covers e h.0 false false)))
+    expr_covers (sizeof_value word e) h called aims =
+        with_ends (sizeof_value word e) h (head (λ is. put (set (one tt) (expr_covers e h.0 false false)) (λ f. one (is, tt))))
+    expr_covers (sizeof_type word opening ws d closing) h called aims =
         with_ends (sizeof_type word opening ws d closing) h (head (λ is. put (set (one tt) (skip (ends
         (type_name_covers ws h.0 (words_cover ws (type_words all ws h.1) false) (some_declr_covers d (abstract_is all d h.2)))))) (λ f. one (is, tt))))
-    expr_covers (extension keyword e) h called =
-        with_ends (extension keyword e) h (head (λ is. put (expr_covers e h.0 false) (λ f. one (is, tt))))
-    expr_covers (index e opening e2 closing) h called =
-        with_ends (index e opening e2 closing) h (put (join (ended (expr_covers e h.0 false)) (ended (expr_covers e2 h.1 false)))
+    expr_covers (extension keyword e) h called aims =
+        with_ends (extension keyword e) h (head (λ is. put (expr_covers e h.0 false aims) (λ f. one (is, tt))))
+    expr_covers (index e opening e2 closing) h called aims =
+        with_ends (index e opening e2 closing) h (put (join (ended (expr_covers e h.0 false false)) (ended (expr_covers e2 h.1 false false)))
         (λ f. one (f.0.1, (f.0.0.first, (f.1.1, tt)))))
-    expr_covers (call e opening es closing) h called =
-        with_ends (call e opening es closing) h (put (put (join (ended (expr_covers e h.0 true)) (ends (exprs_cover es h.1)))
+    expr_covers (call e opening es closing) h called aims =
+        with_ends (call e opening es closing) h (put (put (join (ended (expr_covers e h.0 true false)) (ends (exprs_cover es h.1)))
         (λ f. f.1)) (λ f. one (f.0.1, tt)))
-    expr_covers (dot e token name) h called =
-        with_ends (dot e token name) h (put (ended (ended (expr_covers e h.0 false))) (λ f. one (f.0.1, (f.1, tt))))
-    expr_covers (arrow e token name) h called =
-        with_ends (arrow e token name) h (put (put (ended (ended (expr_covers e h.0 false)))
+    expr_covers (dot e token name) h called aims =
+        with_ends (dot e token name) h (put (ended (ended (expr_covers e h.0 false aims))) (λ f. one (f.0.1, (f.1, tt))))
+    expr_covers (arrow e token name) h called aims =
+        with_ends (arrow e token name) h (put (put (ended (ended (expr_covers e h.0 false false)))
         (λ f. one (f.0.1, (f.0.0.first, (f.1, tt))))) (λ f. one (f.0.1, (f.1, tt))))
-    expr_covers (post e token p) h called =
-        with_ends (post e token p) h (put (ended (expr_covers e h.0 false)) (λ f. one (f.1, (f.0.first, tt))))
-    expr_covers (compound opening ws d closing list) h called =
+    expr_covers (post e token p) h called aims =
+        with_ends (post e token p) h (put (ended (expr_covers e h.0 false false)) (λ f. one (f.1, (f.0.first, tt))))
+    expr_covers (compound opening ws d closing list) h called aims =
         with_ends (compound opening ws d closing list) h (head (λ is. mute (put (put (join
         (mute (type_name_covers ws h.0 (words_cover ws (type_words all ws h.1) false) (some_declr_covers d (abstract_is all d h.2))) (one tt)) (skip (list_covers list h.3))) (λ f. one (is, tt))) (λ f. f.1)) (one tt)))
-    expr_covers (name_use token name) h called =
+    expr_covers (name_use token name) h called aims =
         with_ends (name_use token name) h (head (λ is. put nothing (λ f. one (is, tt))))
-    expr_covers (number_use token) h called = with_ends (number_use token) h (head (λ is. put nothing (λ f. one (is, tt))))
-    expr_covers (char_use token) h called = with_ends (char_use token) h (head (λ is. put nothing (λ f. one (is, tt))))
-    expr_covers (text_use texts) h called = with_ends (text_use texts) h (texts_cover texts h)
-    expr_covers (paren opening e closing) h called =
-        with_ends (paren opening e closing) h (head (λ is. put (ends (expr_covers e h false)) (λ f. one (is, tt))))
-    expr_covers (statement_expr opening opening2 items closing closing2) h called =
+    expr_covers (number_use token) h called aims = with_ends (number_use token) h (head (λ is. put nothing (λ f. one (is, tt))))
+    expr_covers (char_use token) h called aims = with_ends (char_use token) h (head (λ is. put nothing (λ f. one (is, tt))))
+    expr_covers (text_use texts) h called aims = with_ends (text_use texts) h (texts_cover texts h)
+    expr_covers (paren opening e closing) h called aims =
+        with_ends (paren opening e closing) h (head (λ is. put (ends (expr_covers e h false aims)) (λ f. one (is, tt))))
+    expr_covers (statement_expr opening opening2 items closing closing2) h called aims =
         with_ends (statement_expr opening opening2 items closing closing2) h (head (λ is. put (scope_covers (skip (ends (ends
-        (block_items_cover items h true))))) (λ f. one (is, tt))))
-    expr_covers (va_arg keyword opening e separator ws d closing) h called =
-        with_ends (va_arg keyword opening e separator ws d closing) h (head (λ is. put (skip (join (expr_covers e h.0 false)
+        (block_items_cover items h.0 true))))) (λ f. one (is, tt))))
+    expr_covers (va_arg keyword opening e separator ws d closing) h called aims =
+        with_ends (va_arg keyword opening e separator ws d closing) h (head (λ is. put (skip (join (expr_covers e h.0 false false)
         (skip (ended (type_name_covers ws h.1 (words_cover ws (type_words all ws h.2) false) (some_declr_covers d (abstract_is all d h.3))))))) (λ f. one (is, (f.1.1, tt)))))
-    expr_covers (va_start keyword opening e separator e2 closing) h called =
-        with_ends (va_start keyword opening e separator e2 closing) h (head (λ is. put (skip (join (expr_covers e h.0 false)
-        (skip (ended (expr_covers e2 h.1 false))))) (λ f. one (is, (f.1.1, tt)))))
-    expr_covers (va_copy keyword opening e separator e2 closing) h called =
-        with_ends (va_copy keyword opening e separator e2 closing) h (head (λ is. put (skip (join (expr_covers e h.0 false)
-        (skip (ended (expr_covers e2 h.1 false))))) (λ f. one (is, (f.1.1, tt)))))
-    expr_covers (offset keyword opening ws d separator name steps closing) h called =
+    expr_covers (va_start keyword opening e separator e2 closing) h called aims =
+        with_ends (va_start keyword opening e separator e2 closing) h (head (λ is. put (skip (join (expr_covers e h.0 false false)
+        (skip (ended (expr_covers e2 h.1 false false))))) (λ f. one (is, (f.1.1, tt)))))
+    expr_covers (va_copy keyword opening e separator e2 closing) h called aims =
+        with_ends (va_copy keyword opening e separator e2 closing) h (head (λ is. put (skip (join (expr_covers e h.0 false false)
+        (skip (ended (expr_covers e2 h.1 false false))))) (λ f. one (is, (f.1.1, tt)))))
+    expr_covers (offset keyword opening ws d separator name steps closing) h called aims =
         with_ends (offset keyword opening ws d separator name steps closing) h (head (λ is. put (skip (join (put (ended (ends
         (set (one tt) (type_name_covers ws h.0 (words_cover ws (type_words all ws h.1) false) (some_declr_covers d (abstract_is all d h.2)))))) (λ f. one (f.1, tt))) (ends (steps_cover steps h.3))))
         (λ f. one (is, tt))))
+    expr_covers (complex_part keyword e) h called aims =
+        with_ends (complex_part keyword e) h (head (λ is. put (expr_covers e h.0 false aims) (λ f. one (is, tt))))
+    expr_covers (label_use token name) h called aims =
+        with_ends (label_use token name) h (head (λ is. skip (put nothing (λ f. one (is, tt)))))
+    expr_covers (compat keyword opening ws d separator ws2 d2 closing) h called aims =
+        with_ends (compat keyword opening ws d separator ws2 d2 closing) h (head (λ is. put (skip (join
+        (set (one tt) (ends (type_name_covers ws h.0 (words_cover ws (type_words all ws h.1) false)
+        (some_declr_covers d (abstract_is all d h.2))))) (ends (type_name_covers ws2 h.3 (words_cover ws2 (type_words all ws2 h.4) false)
+        (some_declr_covers d2 (abstract_is all d2 h.5)))))) (λ f. one (is, tt))))
+    expr_covers (choose keyword opening e separator e2 separator2 e3 closing) h called aims =
+        with_ends (choose keyword opening e separator e2 separator2 e3 closing) h (head (λ is. put (skip (join (join
+        (quiet_covers (ends (expr_covers e h.0 false false))) (ends (expr_covers e2 h.1 false false)))
+        (ends (expr_covers e3 h.2 false false)))) (λ f. one (is, tt))))
+    expr_covers (generic keyword opening e xs closing) h called aims =
+        with_ends (generic keyword opening e xs closing) h (head (λ is. put (skip (join (mute (set (one tt)
+        (expr_covers e h.0 false false)) (one tt)) (ends (assocs_cover xs h.3)))) (λ f. one (is, tt))))
+
+    assocs_cover : (xs : Assocs) → AreAssocs all xs → {k : List Lexeme} →
+        Covers P (Unit {0}) (assocs_tape xs) (assocs_text all xs k) k
+    assocs_cover no_assocs h = nothing
+    assocs_cover (more_assocs x xs) h = skip (done (join (assoc_covers x h.0) (assocs_cover xs h.1)))
+
+    assoc_covers : (x : Assoc) → IsAssoc all x → {k : List Lexeme} → Covers P (Unit {0}) (assoc_tape x) (assoc_text all x k) k
+    assoc_covers (typed_assoc ws d colon e) h =
+        done (join (ends (type_name_covers ws h.0 (words_cover ws (type_words all ws h.1) false)
+        (some_declr_covers d (abstract_is all d h.2)))) (expr_covers e h.3 false false))
+    assoc_covers (default_assoc keyword colon e) h = skip (skip (done (set (one tt) (expr_covers e h.0 false false))))
 
     operator_covers : (op : Operator) → IsMiddle all op → (token : ℕ) (e e2 : Expr) → {xs ys : List Op} {t m k : List Lexeme} →
         Covers P (Ends P e) xs t (operator_text all op token m) → Covers P (Ends P e2) ys m k →
@@ -162,25 +196,25 @@ module _ {P : ℕ → Type 0} (all : List Lexeme) (element : (n : ℕ) → IsEle
     some_expr_covers : (e : SomeExpr) → IsSomeExpr all e → {k : List Lexeme} →
         Covers P (Unit {0}) (some_expr_tape e) (some_expr_text all e k) k
     some_expr_covers no_expr h = nothing
-    some_expr_covers (some_expr e) h = done (expr_covers e h false)
+    some_expr_covers (some_expr e) h = done (expr_covers e h false false)
 
     -- with the ops of arguments
     exprs_cover : (es : Exprs) → AreArguments all es → {k : List Lexeme} →
         Covers P (Holds P (arguments es)) (exprs_tape es) (exprs_text all es k) k
     exprs_cover no_exprs h = none
     exprs_cover (more_exprs e es) h =
-        so (join (expr_covers e h.0 false) (other_exprs_cover es h.2)) (λ f. both (one (f.0.first, (f.0.last, tt))) f.1)
+        so (join (expr_covers e h.0 false false) (other_exprs_cover es h.2)) (λ f. both (one (f.0.first, (f.0.last, tt))) f.1)
 
     other_exprs_cover : (es : Exprs) → AreArguments all es → {k : List Lexeme} →
         Covers P (Holds P (arguments es)) (exprs_tape es) (other_exprs_text all es k) k
     other_exprs_cover no_exprs h = none
     other_exprs_cover (more_exprs e es) h =
-        skip (so (join (expr_covers e h.0 false) (other_exprs_cover es h.2)) (λ f. both (one (f.0.first, (f.0.last, tt))) f.1))
+        skip (so (join (expr_covers e h.0 false false) (other_exprs_cover es h.2)) (λ f. both (one (f.0.first, (f.0.last, tt))) f.1))
 
     dropped_covers : (e : SomeExpr) → IsSomeExpr all e → {k : List Lexeme} →
         Covers P (Unit {0}) (dropped_tape e) (some_expr_text all e k) k
     dropped_covers no_expr h = nothing
-    dropped_covers (some_expr e) h = done (mute (expr_covers e h false) (one tt))
+    dropped_covers (some_expr e) h = done (mute (expr_covers e h false false) (one tt))
 
     steps_cover : (ds : Desigs) → AreSteps all ds → {k : List Lexeme} →
         Covers P (Unit {0}) (steps_tape ds) (desigs_text all ds k) k
@@ -189,7 +223,9 @@ module _ {P : ℕ → Type 0} (all : List Lexeme) (element : (n : ℕ) → IsEle
 
     step_covers : (d : Desig) → IsStep all d → {k : List Lexeme} → Covers P (Unit {0}) (step_tape d) (desig_text all d k) k
     step_covers (member_desig before name) h = skip (head (λ is. put nothing (λ f. one (is, tt))))
-    step_covers (index_desig opening e closing) h = head (λ is. done (put (ends (expr_covers e h false)) (λ f. one (is, tt))))
+    step_covers (index_desig opening e closing) h = head (λ is. done (put (ends (expr_covers e h false false)) (λ f. one (is, tt))))
+    step_covers (range_desig opening e dots e2 closing) h = absurd h
+    step_covers (old_desig name colon) h = absurd h
 
     -- specifiers
 
@@ -211,7 +247,7 @@ module _ {P : ℕ → Type 0} (all : List Lexeme) (element : (n : ℕ) → IsEle
         head (λ is. so (mute nothing (one tt)) (λ f. record { begins = is; unnamed = empty }))
     word_covers (noreturn token) h is_alone = head (λ is. so nothing (λ f. record { begins = is; unnamed = empty }))
     word_covers (qualifier q) h is_alone =
-        so (put (qual_at all element q h) (λ f. one (f, tt))) (λ f. record { begins = f; unnamed = empty })
+        so (put (qual_at all element q h.0) (λ f. one (f, tt))) (λ f. record { begins = f; unnamed = empty })
     word_covers (basic word) h is_alone =
         head (λ is. so (put nothing (λ f. void_ops P (is_void word.keyword))) (λ f. record { begins = is; unnamed = empty }))
     word_covers (struct_type word attrs None body) h is_alone =
@@ -225,6 +261,16 @@ module _ {P : ℕ → Type 0} (all : List Lexeme) (element : (n : ℕ) → IsEle
         head (λ is. so (put nothing (λ f. one (is, tt))) (λ f. record { begins = is; unnamed = empty }))
     word_covers (attribute attr) h is_alone =
         head (λ is. so (group_skip all attr.group nothing) (λ f. record { begins = is; unnamed = empty }))
+    word_covers (typeof_value keyword opening e closing) h is_alone =
+        head (λ is. so (mute (put (skip (set (both (one tt) (one tt)) (ended (expr_covers e h false false)))) (λ f. one (f.1, tt)))
+        (one tt)) (λ f. record { begins = is; unnamed = empty }))
+    word_covers (typeof_type word opening ws d closing) h is_alone =
+        head (λ is. so (mute (skip (set (one tt) (ends (type_name_covers ws h.1 (words_cover ws (type_words all ws h.2) false)
+        (some_declr_covers d (abstract_is all d h.3)))))) (one tt))
+        (λ f. record { begins = is; unnamed = empty }))
+    word_covers (align attr) h is_alone =
+        head (λ is. so (group_skip all attr.group nothing) (λ f. record { begins = is; unnamed = empty }))
+    word_covers (auto_word token) h is_alone = head (λ is. so nothing (λ f. record { begins = is; unnamed = empty }))
 
     struct_covers : (body : SomeBody) → IsBody all body →
         (is_alone : Bool) (kind : TagKind) (keyword : ℕ) (tag : Option Identifier) → P keyword → SomeAt P tag →
@@ -242,7 +288,7 @@ module _ {P : ℕ → Type 0} (all : List Lexeme) (element : (n : ℕ) → IsEle
     struct_item_covers : (item : StructItem) → IsStructItem all item → {k : List Lexeme} →
         Covers P (Unit {0}) (struct_item_tape item) (struct_item_text all item k) k
     struct_item_covers (member extensions ws ds semi) h =
-        extensions_skip extensions (mute (ends (members_cover ds h.3 ws (words_cover ws h.1 false))) (one tt))
+        extensions_skip extensions (mute (ends (members_cover ds h.4 ws (words_cover ws h.1 false))) (one tt))
     struct_item_covers (member_semi semi) h = skip nothing
     struct_item_covers (member_assert it) h = assert_skip all it nothing
 
@@ -266,12 +312,12 @@ module _ {P : ℕ → Type 0} (all : List Lexeme) (element : (n : ℕ) → IsEle
         done (past (join (mute (put (contents_cover d h.0 false) (λ f. f)) (one tt)) (some_value_covers width h.2 Colon))
         (attrs_skip all attrs nothing))
     mem_declr_covers (unnamed colon e attrs) h =
-        done (quiet_covers (skip (past (expr_covers e h.0 false) (attrs_skip all attrs nothing))))
+        done (quiet_covers (skip (past (expr_covers e h.0 false false) (attrs_skip all attrs nothing))))
 
     some_value_covers : (value : SomeValue) → IsSomeValue all value → (sign : Punct) → {k : List Lexeme} →
         Covers P (Unit {0}) (some_value_tape value) (some_value_text all sign value k) k
     some_value_covers no_value h sign = nothing
-    some_value_covers (some_value token e) h sign = done (quiet_covers (skip (expr_covers e h.0 false)))
+    some_value_covers (some_value token e) h sign = done (quiet_covers (skip (expr_covers e h.0 false false)))
 
     enum_covers : (e : EnumType) → IsEnum all e → {k : List Lexeme} →
         Covers P (OneWord P (enum_type e)) (enum_tape e) (enum_type_text all e k) k
@@ -335,6 +381,10 @@ module _ {P : ℕ → Type 0} (all : List Lexeme) (element : (n : ℕ) → IsEle
         so (join (some_contents_cover d (direct_is all d h.0)) (skip (trail (params_cover false (says_none ps) (params_go ps h.1))
         (ends (dots_at all element ps dots h.2)))))
         (λ f. both (both f.1.1 (one tt)) f.0)
+    contents_cover (identifiers d opening names closing) h is_own =
+        so (mute (mute (past (contents_cover d h.0 is_own) (skip (names_skip names (skip nothing)))) (one tt)) (one tt))
+        (λ f. both (one tt) f)
+    contents_cover (base_name token) h is_own = skip none
 
     some_contents_cover : (d : SomeDeclr) → IsSomeDeclr all d → {k : List Lexeme} →
         Covers P (Holds P (some_pieces d)) (some_contents d) (some_declr_text all d k) k
@@ -348,27 +398,27 @@ module _ {P : ℕ → Type 0} (all : List Lexeme) (element : (n : ℕ) → IsEle
 
     size_covers : (size : ArraySize) → IsArraySize all size → {k : List Lexeme} →
         Covers P (Unit {0}) (size_tape size) (array_size_text all size k) k
-    size_covers (size_value e) h = done (quiet_covers (expr_covers e h.0 false))
+    size_covers (size_value e) h = done (quiet_covers (expr_covers e h.0 false false))
     size_covers (size_star token) h = skip nothing
 
     params_go : (ps : Params) → AreParams all ps → {k : List Lexeme} →
         Covers P (Unit {0}) (params_tape ps) (params_text all ps k) k
     params_go no_params h = nothing
     params_go (more_params ws d attrs ps) h =
-        done (join (mute (join (mute (words_cover ws h.1 false) (one tt)) (past (some_declr_covers d h.2)
-        (attrs_skip all attrs nothing))) (one tt)) (other_params_go ps h.5))
+        done (join (mute (join (mute (words_cover ws h.1 false) (one tt)) (past (some_declr_covers d h.3)
+        (attrs_skip all attrs nothing))) (one tt)) (other_params_go ps h.6))
 
     other_params_go : (ps : Params) → AreParams all ps → {k : List Lexeme} →
         Covers P (Unit {0}) (params_tape ps) (other_params_text all ps k) k
     other_params_go no_params h = nothing
     other_params_go (more_params ws d attrs ps) h =
-        skip (done (join (mute (join (mute (words_cover ws h.1 false) (one tt)) (past (some_declr_covers d h.2)
-        (attrs_skip all attrs nothing))) (one tt)) (other_params_go ps h.5)))
+        skip (done (join (mute (join (mute (words_cover ws h.1 false) (one tt)) (past (some_declr_covers d h.3)
+        (attrs_skip all attrs nothing))) (one tt)) (other_params_go ps h.6)))
 
     -- initialisers, with the ops by which they are gone through once more
 
     init_covers : (i : Init) → IsInit all i → {k : List Lexeme} → Covers P (Holds P (rule i)) (init_tape i) (init_text all i k) k
-    init_covers (init_value e) h = so (expr_covers e h.0 false) (λ f. one (f.first, (f.last, tt)))
+    init_covers (init_value e) h = so (expr_covers e h.0 false false) (λ f. one (f.first, (f.last, tt)))
     init_covers (init_braced list) h = list_covers list h
 
     list_covers : (list : InitList) → IsInitList all list → {k : List Lexeme} →
@@ -402,7 +452,11 @@ module _ {P : ℕ → Type 0} (all : List Lexeme) (element : (n : ℕ) → IsEle
         Covers P (Holds P (desig_tape d)) (index_tape d) (desig_text all d k) k
     index_covers (member_desig before name) h = skip (head (λ is. so nothing (λ f. one (is, tt))))
     index_covers (index_desig opening e closing) h =
-        head (λ is. so (quiet_covers (ends (expr_covers e h.0 false))) (λ f. one (is, tt)))
+        head (λ is. so (quiet_covers (ends (expr_covers e h.0 false false))) (λ f. one (is, tt)))
+    index_covers (range_desig opening e dots e2 closing) h =
+        head (λ is. so (join (quiet_covers (ends (expr_covers e h.0 false false)))
+        (quiet_covers (ends (expr_covers e2 h.2 false false)))) (λ f. one (is, tt)))
+    index_covers (old_desig name colon) h = head (λ is. skip (so nothing (λ f. one (is, tt))))
 
     some_init_covers : (i : SomeInit) → IsSomeInit all i → {k : List Lexeme} →
         Covers P (Unit {0}) (some_init_tape i) (some_init_text all i k) k
@@ -411,7 +465,7 @@ module _ {P : ℕ → Type 0} (all : List Lexeme) (element : (n : ℕ) → IsEle
 
     declared_init_covers : (i : Init) → IsInit all i → {k : List Lexeme} →
         Covers P (Unit {0}) (declared_init_tape i) (init_text all i k) k
-    declared_init_covers (init_value e) h = done (put (expr_covers e h.0 false) (λ f. one (f.first, (f.last, tt))))
+    declared_init_covers (init_value e) h = done (put (expr_covers e h.0 false false) (λ f. one (f.first, (f.last, tt))))
     declared_init_covers (init_braced list) h =
         done (mute (put (mute (set (one tt) (list_covers list h)) (one tt)) (λ f. f)) (one tt))
 
@@ -434,7 +488,30 @@ module _ {P : ℕ → Type 0} (all : List Lexeme) (element : (n : ℕ) → IsEle
     declaration_covers : (d : Declaration) → IsDeclaration all d → {k : List Lexeme} →
         Covers P (Unit {0}) (declaration_tape d) (declaration_text all d k) k
     declaration_covers (declaration extensions ws ds semi) h =
-        extensions_skip extensions (done (mute (ends (join (mute (words_cover ws h.1 _) (one tt)) (init_declrs_cover ds h.3))) (one tt)))
+        extensions_skip extensions (done (mute (ends (join (mute (words_cover ws h.1 _) (one tt)) (either (are_auto ws ds)
+        (known (init_declrs_cover ds h.3) (λ is. auto_declrs_cover semi ds is h.3)) (init_declrs_cover ds h.3)))) (one tt)))
+
+    -- behind `__auto_type`: the `;` is a token of the tape
+    auto_declrs_cover : (semi : ℕ) (ds : InitDeclrs) → P semi → AreInitDeclrs all ds → {k : List Lexeme} →
+        Covers P (Unit {0}) (auto_declrs_tape semi ds) (init_declrs_text all ds k) k
+    auto_declrs_cover semi no_init_declrs is h = nothing
+    auto_declrs_cover semi (more_init_declrs attrs d asm_label attrs2 i ds) is h =
+        attrs_skip all attrs (done (join (join (contents_cover d h.1 false) (label_skip all asm_label (attrs_skip all attrs2
+        (auto_init_covers semi i is h.5)))) (other_auto_declrs_cover semi ds is h.6)))
+
+    other_auto_declrs_cover : (semi : ℕ) (ds : InitDeclrs) → P semi → AreInitDeclrs all ds → {k : List Lexeme} →
+        Covers P (Unit {0}) (auto_declrs_tape semi ds) (other_init_declrs_text all ds k) k
+    other_auto_declrs_cover semi no_init_declrs is h = nothing
+    other_auto_declrs_cover semi (more_init_declrs attrs d asm_label attrs2 i ds) is h =
+        skip (attrs_skip all attrs (done (join (join (contents_cover d h.1 false) (label_skip all asm_label (attrs_skip all attrs2
+        (auto_init_covers semi i is h.5)))) (other_auto_declrs_cover semi ds is h.6))))
+
+    auto_init_covers : (semi : ℕ) (i : SomeInit) → P semi → IsSomeInit all i → {k : List Lexeme} →
+        Covers P (Unit {0}) (auto_init_tape semi i) (some_init_text all i k) k
+    auto_init_covers semi no_init is h = nothing
+    auto_init_covers semi (some_init equal (init_value e)) is h =
+        skip (done (put (mute (set (one tt) (expr_covers e h.0 false false)) (one (is, tt))) (λ f. one (f.first, (f.last, tt)))))
+    auto_init_covers semi (some_init equal (init_braced list)) is h = skip (done (as_fact (list_covers list h)))
 
     decl_covers : (d : Decl) → IsDecl all d → {k : List Lexeme} → Covers P (Unit {0}) (decl_tape d) (decl_text all d k) k
     decl_covers (decl_declaration d) h = declaration_covers d h
@@ -450,28 +527,29 @@ module _ {P : ℕ → Type 0} (all : List Lexeme) (element : (n : ℕ) → IsEle
         Covers P (Unit {0}) (block_item_tape kept item) (block_item_text all item k) k
     block_item_covers (block_decl d) h kept = decl_covers d h
     block_item_covers (block_stmt s) h kept = stmt_covers s h kept
+    block_item_covers (block_labels keyword names semi) h kept = skip (names_skip names (skip nothing))
 
     stmt_covers : (s : Stmt) → IsStmt all s → (kept : Bool) → {k : List Lexeme} →
         Covers P (Unit {0}) (stmt_tape kept s) (stmt_text all s k) k
-    stmt_covers (block opening items closing) h kept = scope_covers (skip (ends (block_items_cover items h false)))
+    stmt_covers (block opening items closing) h kept = scope_covers (skip (ends (block_items_cover items h.0 false)))
     stmt_covers (expr_stmt e semi) h kept = ends (either kept (some_expr_covers e h) (dropped_covers e h))
     stmt_covers (attr_stmt attrs semi) h kept = attrs_skip all attrs (skip nothing)
     stmt_covers (label name colon attrs s) h kept = skip (skip (attrs_skip all attrs (stmt_covers s h.1 false)))
     stmt_covers (case_stmt keyword e colon s) h kept =
-        skip (done (join (quiet_covers (expr_covers e h.0 false)) (skip (stmt_covers s h.2 false))))
+        skip (done (join (quiet_covers (expr_covers e h.0 false false)) (skip (stmt_covers s h.2 false))))
     stmt_covers (default_stmt keyword colon s) h kept = skip (skip (stmt_covers s h false))
     stmt_covers (if_stmt keyword opening e closing s other) h kept =
-        done (scope_covers (skip (skip (join (join (mute (expr_covers e h.0 false) (one tt))
+        done (scope_covers (skip (skip (join (join (mute (expr_covers e h.0 false false) (one tt))
         (skip (scope_covers (stmt_covers s h.1 false)))) (some_else_covers other s h.2)))))
     stmt_covers (switch_stmt keyword opening e closing s) h kept =
-        done (scope_covers (skip (skip (join (mute (expr_covers e h.0 false) (one tt)) (skip (scope_covers
+        done (scope_covers (skip (skip (join (mute (expr_covers e h.0 false false) (one tt)) (skip (scope_covers
         (stmt_covers s h.1 false)))))))
     stmt_covers (while_stmt keyword opening e closing s) h kept =
-        done (scope_covers (skip (skip (join (mute (expr_covers e h.0 false) (one tt)) (skip (scope_covers
+        done (scope_covers (skip (skip (join (mute (expr_covers e h.0 false false) (one tt)) (skip (scope_covers
         (stmt_covers s h.1 false)))))))
     stmt_covers (do_stmt keyword s keyword2 opening e closing semi) h kept =
         done (scope_covers (mute (skip (join (scope_covers (stmt_covers s h.0 false)) (skip (skip (ends (ends
-        (expr_covers e h.1 false))))))) (one tt)))
+        (expr_covers e h.1 false false))))))) (one tt)))
     stmt_covers (for_stmt keyword opening start e semi e2 closing s) h kept =
         done (scope_covers (skip (skip (join (join (join (for_start_covers start h.0) (dropped_covers e h.1))
         (skip (dropped_covers e2 h.2))) (skip (scope_covers (stmt_covers s h.3 false)))))))
@@ -480,6 +558,11 @@ module _ {P : ℕ → Type 0} (all : List Lexeme) (element : (n : ℕ) → IsEle
     stmt_covers (break_stmt keyword semi) h kept = skip (skip nothing)
     stmt_covers (return_stmt keyword e semi) h kept = head (λ is. return_covers e h keyword semi is (ended nothing))
     stmt_covers (asm_stmt keyword words group semi) h kept = skip (words_skip words (group_skip all group (skip nothing)))
+    stmt_covers (case_range keyword e dots e2 colon s) h kept =
+        skip (done (join (join (quiet_covers (ends (expr_covers e h.0 false false))) (quiet_covers (ends
+        (expr_covers e2 h.2 false false)))) (stmt_covers s h.4 false)))
+    stmt_covers (goto_value keyword star e semi) h kept =
+        skip (skip (ends (done (mute (expr_covers e h false false) (one tt)))))
 
     some_else_covers : (other : SomeElse) (before : Stmt) → IsOther all before other → {k : List Lexeme} →
         Covers P (Unit {0}) (some_else_tape other) (some_else_text all other k) k
@@ -495,14 +578,94 @@ module _ {P : ℕ → Type 0} (all : List Lexeme) (element : (n : ℕ) → IsEle
         Covers P (Unit {0} × P semi) [] m k → Covers P (Unit {0}) (return_tape keyword e semi) (some_expr_text all e m) k
     return_covers no_expr h keyword semi is p = done p
     return_covers (some_expr e) h keyword semi is p =
-        done (put (trail (expr_covers e h false) p) (λ f. one (is, (f.1.1, tt))))
+        done (put (trail (expr_covers e h false false) p) (λ f. one (is, (f.1.1, tt))))
+
+  -- functions with lists of identifiers
+
+  old_declrs_cover : (ds : InitDeclrs) → AreInitDeclrs all ds → {k : List Lexeme} →
+      Covers P (Unit {0}) (old_declrs_tape ds) (init_declrs_text all ds k) k
+  old_declrs_cover no_init_declrs h = nothing
+  old_declrs_cover (more_init_declrs attrs d asm_label attrs2 i ds) h =
+      attrs_skip all attrs (done (join (join (mute (put (contents_cover d h.1 false) (λ f. f)) (one tt))
+      (label_skip all asm_label (attrs_skip all attrs2 (some_init_covers i h.5)))) (others ds h.6)))
+    where
+      others : (ds : InitDeclrs) → AreInitDeclrs all ds → {k : List Lexeme} →
+          Covers P (Unit {0}) (old_declrs_tape ds) (other_init_declrs_text all ds k) k
+      others no_init_declrs h = nothing
+      others (more_init_declrs attrs d asm_label attrs2 i ds) h =
+          skip (attrs_skip all attrs (done (join (join (mute (put (contents_cover d h.1 false) (λ f. f)) (one tt))
+          (label_skip all asm_label (attrs_skip all attrs2 (some_init_covers i h.5)))) (others ds h.6))))
+
+  old_declaration_covers : (d : Declaration) → IsDeclaration all d → {k : List Lexeme} →
+      Covers P (Unit {0}) (old_declaration_tape d) (declaration_text all d k) k
+  old_declaration_covers (declaration extensions ws ds semi) h =
+      extensions_skip extensions (done (mute (ends (join (mute (words_cover ws h.1 _) (one tt)) (either (are_auto ws ds)
+      (known (init_declrs_cover ds h.3) (λ is. auto_declrs_cover semi ds is h.3)) (old_declrs_cover ds h.3)))) (one tt)))
+
+  old_declarations_cover : (ds : List Declaration) → All (IsDeclaration all) ds → {k : List Lexeme} →
+      Covers P (Unit {0}) (old_declarations_tape ds) (declarations_text all ds k) k
+  old_declarations_cover [] h = nothing
+  old_declarations_cover (d ∷ ds) h =
+      done (join (old_declaration_covers d (All-head (IsDeclaration all) d ds h))
+      (old_declarations_cover ds (All-tail (IsDeclaration all) d ds h)))
+
+  -- the ops of the declarations of parameters stand among those of the declarator
+  record OldOnes (ds : List Declaration) (d : Declr) : Type 0 where
+    pieces_hold : Holds P (pieces d)
+    contents_hold : Holds P (old_declarations_tape ds) → Holds P (old_contents ds d)
+
+  plain_ones : (ds : List Declaration) (d : Declr) → old_contents ds d ≡ contents false d → IsDeclr all d → {k : List Lexeme} →
+      Covers P (OldOnes ds d) [] (declr_text all d k) k
+  plain_ones ds d same h =
+      so (as_fact (contents_cover d h false))
+      (λ f. record { pieces_hold = f.0; contents_hold = λ g. subst (Holds P) (sym same) f.1 })
+
+  old_contents_cover : (ds : List Declaration) (d : Declr) → IsDeclr all d → {k : List Lexeme} →
+      Covers P (OldOnes ds d) [] (declr_text all d k) k
+  old_contents_cover ds (identifiers d opening names closing) h =
+      so (trail (as_fact (contents_cover d h.0 false)) (skip (so (trail (names_cover names) (skip nothing)) (λ f. f.0))))
+      (λ f. record {
+        pieces_hold = both (one tt) f.0.0;
+        contents_hold = λ g. both (both (both (both f.0.1 (one tt)) f.1) g) (one tt);
+      })
+  old_contents_cover ds (pointer star words d) h =
+      skip (bind (pointer_words_at all element words h.0) (λ o. so (old_contents_cover ds d h.1)
+      (λ f. record { pieces_hold = both (both o (one tt)) f.pieces_hold; contents_hold = f.contents_hold })))
+  old_contents_cover ds (declr_paren opening attrs d closing) h =
+      skip (attrs_skip all attrs (so (ends (old_contents_cover ds d h.1))
+      (λ f. record { pieces_hold = f.pieces_hold; contents_hold = f.contents_hold })))
+  old_contents_cover ds (array d opening words size closing) h =
+      so (trail {G = Holds P (array_words_tape words) × Holds P (some_size_tape size)} (old_contents_cover ds d h.0)
+      (skip (bind (array_words_at all element words h.3) (λ o. so (ends (as_fact (some_size_covers size h.4))) (λ f. (o, f.1))))))
+      (λ f. record {
+        pieces_hold = both (both f.1.0 (one tt)) f.0.pieces_hold;
+        contents_hold = λ g. both (f.0.contents_hold g) f.1.1;
+      })
+  old_contents_cover ds (params d opening ps dots closing) h =
+      so (trail (old_contents_cover ds d h.0) (skip (trail (as_fact (params_cover false (says_none ps) (params_go ps h.3)))
+      (ends (dots_at all element ps dots h.4)))))
+      (λ f. record {
+        pieces_hold = both (both f.1.1 (one tt)) f.0.pieces_hold;
+        contents_hold = λ g. both (f.0.contents_hold g) f.1.0.1;
+      })
+  old_contents_cover ds (declr_name token name) h = plain_ones ds (declr_name token name) refl h
+  old_contents_cover ds (base_name token) h = plain_ones ds (base_name token) refl h
+  old_contents_cover ds (abs_pointer star words d) h = plain_ones ds (abs_pointer star words d) refl h
+  old_contents_cover ds (abs_paren opening attrs d closing) h = plain_ones ds (abs_paren opening attrs d closing) refl h
+  old_contents_cover ds (abs_array d opening words size closing) h = plain_ones ds (abs_array d opening words size closing) refl h
+  old_contents_cover ds (abs_params d opening ps dots closing) h = plain_ones ds (abs_params d opening ps dots closing) refl h
 
   item_covers : (item : Item) → IsItem all item → {k : List Lexeme} →
       Covers P (Unit {0}) (item_tape item) (item_text all item k) k
   item_covers (function_item extensions ws d attrs opening items closing) h =
       extensions_skip extensions (done (mute (mute (join (mute (mute (put (join (mute (words_cover ws h.1 false) (one tt))
-      (contents_cover d h.3 true)) (λ f. f.1)) (one tt)) (one tt))
-      (attrs_skip all attrs (skip (ends (block_items_cover items h.6 false))))) (one tt)) (one tt)))
+      (contents_cover d h.4 true)) (λ f. f.1)) (one tt)) (one tt))
+      (attrs_skip all attrs (skip (ends (block_items_cover items h.7 false))))) (one tt)) (one tt)))
+  item_covers (old_function_item extensions ws d attrs ds opening items closing) h =
+      extensions_skip extensions (done (mute (mute (join (mute (mute (put (join (mute (words_cover ws h.1 false) (one tt))
+      (put (trail (old_contents_cover ds d h.4) (attrs_skip all attrs (as_fact (old_declarations_cover ds h.7))))
+      (λ f. f.0.contents_hold f.1.1))) (λ f. f.1.0.pieces_hold)) (one tt)) (one tt))
+      (skip (ends (block_items_cover items h.8 false)))) (one tt)) (one tt)))
   item_covers (decl_item d) h = decl_covers d h
   item_covers (asm_item keyword group semi) h = skip (group_skip all group (skip nothing))
   item_covers (semi_item semi) h = skip nothing

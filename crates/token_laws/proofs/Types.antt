@@ -7,10 +7,9 @@ use Rattle.tape_ops.specs.declared.specifier.TagKind.TheVariants as tags
 use Rattle.name_rules.specs.Spellings.{Place, Spelling, place, Named}
 use Rattle.name_rules.specs.Faults.{Rule, Fault, fault_where}
 use Rattle.name_rules.specs.Scopes.{Meaning, means_type, means_thing, Scope, innermost, outer_scopes, Declared, TypeNamed, Bodied, Names, meaning_in, some_thing, thing_named, or_outer, meaning_through, declared_at, is_place}
-use Rattle.name_rules.specs.Pieces.{with_words, decayed, Piece, to_pointer, to_function, piece_of}
+use Rattle.name_rules.specs.Pieces.{with_words, decayed, bare_ellipsis, bare, all_bare, Piece, to_pointer, to_function, piece_of, types_in}
 use Rattle.name_rules.specs.Declaring.{tag_type, type_by, scope_kept}
 use Rattle.name_rules.specs.Uses.{type_named_at}
-use Rattle.name_steps.specs.State.{types_in}
 
 module _ (S : Place → Type 0) where
   abbrev pub AllWords : Words → Type 0
@@ -61,6 +60,23 @@ module _ (S : Place → Type 0) where
   decayed_ok (struct ws n) h = h
   decayed_ok (pointer ws t) h = h
   decayed_ok (function ws ps r e) h = (tt, h)
+
+  -- a type without words has none at a bad place
+  bare_words : (e : Option Words) → AllWords (words_or_none (bare_ellipsis e))
+  bare_words None = tt
+  bare_words (Some es) = tt
+
+  mutual
+    pub bare_ok : (t : CType) → Ok (bare t)
+    bare_ok (base ws) = tt
+    bare_ok (void ws) = tt
+    bare_ok (struct ws n) = tt
+    bare_ok (pointer ws t) = (tt, bare_ok t)
+    bare_ok (function ws ps r e) = (tt, all_bare_ok ps, bare_ok r, bare_words e)
+
+    all_bare_ok : (ts : CTypes) → Oks (all_bare ts)
+    all_bare_ok no_types = tt
+    all_bare_ok (more_types t ts) = (bare_ok t, all_bare_ok ts)
 
   abbrev pub PieceOk : Piece → Type 0
   PieceOk (to_pointer ws) = AllWords ws

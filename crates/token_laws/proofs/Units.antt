@@ -1,5 +1,5 @@
 -- The spans of constraints, the call sites and the faults of programs that were read.
-use Rattle.std.proofs.Common.{◌≡◌, ℕ, zero, suc, ◌+◌, ◌-◌, All, Contains, List, [], ◌∷◌, ◌++◌, Option, None, Some, inl, inr, refl, sym, ◌∙◌, ap, subst, arith}
+use Rattle.std.proofs.Common.{◌≡◌, ℕ, zero, suc, ◌+◌, ◌-◌, Bool, All, Contains, List, [], ◌∷◌, ◌++◌, Option, None, Some, inl, inr, refl, sym, ◌∙◌, ap, subst, arith}
 use Rattle.std.specs.Prelude.{slice_get, take, drop, map}
 use Rattle.std.proofs.lemmas.List.Elements.{All-nil, All-cons, Contains-append_cases}
 use Rattle.c_words.specs.declared.kinds.TokenKind.TheVariants as kinds
@@ -25,6 +25,7 @@ use Rattle.type_rules.specs.Judging.{items_faults_of}
 use Rattle.shape_steps.specs.State.{nothing}
 use Rattle.shape_laws.specs.Laws.{FaultsAreFound}
 use Rattle.row_rules.specs.Worlds.{span, word_span}
+use Rattle.row_rules.specs.Annotations.{has_access}
 use Rattle.row_rules.specs.Sites.{functions_of, site_of, sites_among}
 use Rattle.row_rules.specs.Starting.{Start}
 use Rattle.row_steps.specs.Rounds.{file}
@@ -228,14 +229,14 @@ module _ (firsts : FirstBegins) (lasts : LastEnds) (S : Span → Type 0) where
 
   -- skeletons
 
-  starts_there : (s : Names) → Sound (AtWord S) s → (sources : List Source) (texts : List (List Lexeme)) →
-      AreReadFrom sources texts → Given S sources texts → StartsAt (AtWord S) (found_on s sources)
-  starts_there s h [] texts read f = tt
-  starts_there s h (it ∷ sources) [] read f = absurd read
-  starts_there s h (it ∷ sources) (all ∷ texts) read f =
-      starts_append (AtWord S) (unit_starts it.spelling s (tape_of it.items)) (found_on s sources)
-      (starts_at (AtWord S) it.spelling s h nothing file (tape_of it.items) (own_tape it all read.0 f.0))
-      (starts_there s h sources texts read.1 f.1)
+  starts_there : (access : Bool) (s : Names) → Sound (AtWord S) s → (sources : List Source) (texts : List (List Lexeme)) →
+      AreReadFrom sources texts → Given S sources texts → StartsAt (AtWord S) (found_on access s sources)
+  starts_there access s h [] texts read f = tt
+  starts_there access s h (it ∷ sources) [] read f = absurd read
+  starts_there access s h (it ∷ sources) (all ∷ texts) read f =
+      starts_append (AtWord S) (unit_starts access it.spelling s (tape_of it.items)) (found_on access s sources)
+      (starts_at (AtWord S) it.spelling s h nothing (file access) (tape_of it.items) (own_tape it all read.0 f.0))
+      (starts_there access s h sources texts read.1 f.1)
 
 pub spans_have_tokens : FirstBegins → LastEnds → NamesOfTapes → ConstraintsAreFound → SpansHaveTokens
 spans_have_tokens firsts lasts names found p texts read c there =
@@ -243,7 +244,7 @@ spans_have_tokens firsts lasts names found p texts read c there =
     let all = given p.sources texts in
     let known = names_sound firsts lasts S names p.sources texts read all in
     stands_there S (system_of p).constraints c
-    (subst (Stand S) (found p) (rows_there firsts lasts S p known p.sources texts read all)) there
+    (subst (Stand S) (found p (sound_of firsts lasts S p.sources texts read)) (rows_there firsts lasts S p known p.sources texts read all)) there
 
 pub sites_have_tokens : FirstBegins → LastEnds → NamesOfTapes → StartsOfProgramAreFound → SitesHaveTokens
 sites_have_tokens firsts lasts names found p texts read site there =
@@ -251,9 +252,9 @@ sites_have_tokens firsts lasts names found p texts read site there =
     let all = given p.sources texts in
     let known = names_sound firsts lasts S names p.sources texts read all in
     site_there (AtWord S) (system_of p).sites site
-    (sites_at (AtWord S) (functions_of (names_of p.sources)) (starts_of p.sources)
-    (subst (StartsAt (AtWord S)) (found p.sources)
-    (starts_there firsts lasts S (names_of p.sources) known p.sources texts read all))) there
+    (sites_at (AtWord S) (functions_of (names_of p.sources)) (starts_of (has_access p.lattices) p.sources)
+    (subst (StartsAt (AtWord S)) (found (has_access p.lattices) p.sources (sound_of firsts lasts S p.sources texts read))
+    (starts_there firsts lasts S (has_access p.lattices) (names_of p.sources) known p.sources texts read all))) there
 
 pub faults_have_tokens : FirstBegins → LastEnds → NamesOfTapes → FaultsAreFound → FaultsHaveTokens
 faults_have_tokens firsts lasts names found sources texts read f there =

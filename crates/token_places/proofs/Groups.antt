@@ -15,12 +15,12 @@ use Rattle.c_reading.specs.declared.kinds.Bracket.TheVariants.{Paren, Square, Br
 use Rattle.c_reading.specs.declared.kinds.Inside.{Inside}
 use Rattle.c_reading.specs.declared.kinds.Inside.TheVariants.{Opens, Closes, Plain, Stops}
 use Rattle.c_reading.specs.Reading.{Found, Reader, ends, refuses, kind_at, token_at, run, and_then}
-use Rattle.c_reading.specs.Tokens.{is_end, is_open_paren, is_attribute, is_static_assert, is_semicolon, inside_of, is_same, Opened, bracket_by, bracket_step, bracket_turn, bracket_turn_by, group_at, attr_at, assert_at}
+use Rattle.c_reading.specs.Tokens.{is_end, is_open_paren, is_attribute, is_static_assert, is_semicolon, inside_of, is_same, Opened, bracket_by, bracket_step, bracket_turn, bracket_turn_by, group_at, attr_at, align_at, assert_at}
 use Rattle.c_reading.proofs.Binding.{done, ok_is}
 use Rattle.c_reading.proofs.Loops.{TurnShrinks, run_is}
 use Rattle.reading_steps.specs.Steps.{first_kind, any, Good, Ready, Law}
 use Rattle.reading_steps.proofs.Keeping.{kept_refl}
-use Rattle.reading_steps.proofs.Steps.{behind, refused_here, ends_good, ends_law, token_law, bind_law, loop_law_good}
+use Rattle.reading_steps.proofs.Steps.{behind, refused_here, ends_good, ends_law, token_law, bind_law, take_behind, loop_law_good}
 use Rattle.token_places.proofs.Single.{open_paren_end, attribute_end, static_assert_end, semicolon_end, one_good}
 
 -- one bracket read takes a token
@@ -155,6 +155,15 @@ attr_law keep =
     (λ keyword. bind_law keep group_at (λ group. ends (record { keyword = keyword; group = group })) any any any (group_anywhere keep)
     (λ group. ends_law keep (record { keyword = keyword; group = group }) any any (λ kind h. h)) (inr (λ kind h. h)))
     (inr (λ kind h. h))
+
+-- An alignment, behind a keyword that is known to stand there: a group.
+pub align_good : (keep : Bool) (s : HeldScopes) (ts : List Lexeme) → is_end (kind_at ts) ≡ false → Good keep align_at any s ts
+unfolding align_at
+align_good keep s ts known =
+    take_behind keep (λ keyword. behind group_at (λ group. ends (record { keyword = keyword; group = group }))) any
+    (λ keyword. bind_law keep group_at (λ group. ends (record { keyword = keyword; group = group })) any any any (group_anywhere keep)
+    (λ group. ends_law keep (record { keyword = keyword; group = group }) any any (λ kind h. h)) (inr (λ kind h. h)))
+    s ts known
 
 -- An assertion: its keyword, a group, a semicolon.
 pub assert_law : (keep : Bool) → Law keep assert_at is_static_assert any

@@ -7,7 +7,7 @@ use Rattle.c_tree.specs.declared.lexeme.Lexeme.{Lexeme}
 use Rattle.c_syntax.specs.declared.parts.PointerWord.TheVariants as pointer_words
 use Rattle.c_units.specs.HeldScopes.{HeldScopes}
 use Rattle.c_reading.specs.Reading.{Found, Reader, ends, fits, kind_at, take_one}
-use Rattle.c_reading.specs.Tokens.{is_end, is_semicolon, is_attribute, is_extension, is_text, is_made, qual_of, array_word_of, asm_word_of, made_at, extensions_at, texts_at, quals_at, array_words_at, asm_words_at, attr_at, attrs_at, begins_pointer_word, pointer_word_at, pointer_words_at}
+use Rattle.c_reading.specs.Tokens.{is_end, is_semicolon, is_attribute, is_extension, is_text, is_made, qual_of, word_qual_of, array_word_of, asm_word_of, made_at, extensions_at, texts_at, quals_at, array_words_at, asm_words_at, attr_at, attrs_at, begins_pointer_word, pointer_word_at, pointer_words_at}
 use Rattle.c_reading.proofs.Binding.{ok_is, bind_ok, fits_ok, take_falls}
 use Rattle.c_reading.proofs.Forms.{Shrinks}
 use Rattle.c_reading.proofs.TokenRows.{made_shrinks}
@@ -22,6 +22,10 @@ use Rattle.token_places.proofs.Groups.{attr_law}
 qual_end : (kind : TokenKind) → is_made (qual_of kind) ≡ true → is_end kind ≡ false
 qual_end kinds.End h = absurd cc
 qual_end kind h = refl
+
+word_qual_end : (kind : TokenKind) → is_made (word_qual_of kind) ≡ true → is_end kind ≡ false
+word_qual_end kinds.End h = absurd cc
+word_qual_end kind h = refl
 
 array_word_end : (kind : TokenKind) → is_made (array_word_of kind) ≡ true → is_end kind ≡ false
 array_word_end kinds.End h = absurd cc
@@ -52,10 +56,10 @@ module _ (keep : Bool) where
   unfolding texts_at
   texts_law front stops h = repeated_law keep is_text take_one take_shrinks front stops h.0 h.1 (λ s ts is. take_good keep stops s ts (text_end (kind_at ts) is))
 
-  pub quals_law : (front stops : TokenKind → Bool) → Ending (λ kind. is_made (qual_of kind)) front stops → Law keep quals_at front stops
+  pub quals_law : (front stops : TokenKind → Bool) → Ending (λ kind. is_made (word_qual_of kind)) front stops → Law keep quals_at front stops
   unfolding quals_at
   quals_law front stops h =
-      repeated_law keep (λ kind. is_made (qual_of kind)) (made_at qual_of) (made_shrinks qual_of) front stops h.0 h.1 (λ s ts is. made_good keep qual_of stops qual_end s ts)
+      repeated_law keep (λ kind. is_made (word_qual_of kind)) (made_at word_qual_of) (made_shrinks word_qual_of) front stops h.0 h.1 (λ s ts is. made_good keep word_qual_of stops word_qual_end s ts)
 
   pub array_words_law : (front stops : TokenKind → Bool) → Ending (λ kind. is_made (array_word_of kind)) front stops → Law keep array_words_at front stops
   unfolding array_words_at

@@ -19,7 +19,7 @@ among (m ∷ ms) n = nat_eq m n || among ms n
 
 -- a source whose annotation words and zeros stand at these tokens
 abbrev pub spelled : List ℕ → List ℕ → Spelling
-spelled marks zeros = record { unit = 1; annotates = among marks; is_naught = among zeros; key = λ name. name }
+spelled marks zeros = record { unit = 1; wide = false; annotates = among marks; is_naught = among zeros; key = λ name. name }
 
 abbrev pub token_of : Option Place → Option ℕ
 token_of None = None

@@ -16,7 +16,7 @@ use Rattle.type_rules.specs.Program.{Source, names_of, faults_of}
 abbrev pub unit_of : ℕ → List Item → Source
 unit_of unit items =
     record {
-      spelling = record { unit = unit; annotates = λ token. false; is_naught = λ token. false; key = λ name. name };
+      spelling = record { unit = unit; wide = false; annotates = λ token. false; is_naught = λ token. false; key = λ name. name };
       items = items;
     }
 

@@ -34,7 +34,7 @@ fn sources<'a>(alloc: Global, lattices: &Lattices, bytes: &'a [u8]) -> Result<Ve
     ensures { IfOk result (λ all. All IsSound (sources_of all.items)) }
 {
     let words = lattices.words(alloc)?;
-    let Ok(tokens) = lex(alloc, UnitNo::new(1), bytes, &words) else {
+    let Ok(tokens) = lex(alloc, UnitNo::new(1), false, bytes, &words) else {
         return Err(Stop::Refused);
     };
     let Ok(unit) = parse(alloc, &tokens) else {
@@ -51,7 +51,7 @@ pub fn list(alloc: Global, lattice: &[u8], file: &str, bytes: &[u8]) -> Result<V
     requires lattice { length lattice.now ≤ 16777216 }
     requires source { length bytes.now ≤ 16777216 }
 {
-    let Ok(lattices) = read_lattices(alloc, lattice) else {
+    let Ok(lattices) = read_lattices(alloc, false, lattice) else {
         return Err(Stop::Refused);
     };
     let all = sources(alloc, &lattices, bytes)?;

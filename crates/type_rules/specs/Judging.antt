@@ -1,7 +1,7 @@
 -- The faults of expressions and initialisers, by cases on the tree.
 use Rattle.std.specs.Prelude.{ℕ, suc, Bool, true, false, not, List, [], ◌∷◌, ◌++◌, Option, None, Some}
-use Rattle.c_tree.specs.Tree.{Expr, operation, cast, prefix, sizeof_value, sizeof_type, extension, index, call, dot, arrow, post, compound, name_use, number_use, char_use, text_use, paren, statement_expr, va_arg, va_start, va_copy, offset, Operator, comma, assign, cond, binary, SomeExpr, no_expr, some_expr, Exprs, no_exprs, more_exprs, SpecWords, no_words, more_words, SpecWord, storage, thread, inline_word, noreturn, qualifier, basic, struct_type, enum_type, typedef_name, attribute, SomeBody, no_body, some_body, StructItems, no_struct_items, more_struct_items, StructItem, member, member_semi, member_assert, MemDeclrs, no_mem_declrs, more_mem_declrs, MemDeclr, named, unnamed, SomeValue, no_value, some_value, EnumType, enum_of, no_enum_body, some_enum_body, Enumerators, no_enumerators, more_enumerators, Declr, pointer, declr_name, declr_paren, array, params, abs_pointer, abs_paren, abs_array, abs_params, SomeDeclr, no_declr, some_declr, SomeSize, no_size, some_size, ArraySize, size_value, size_star, Params, no_params, more_params, Init, init_value, init_braced, InitList, init_list, InitItems, no_init_items, more_init_items, Desigs, no_desigs, more_desigs, Desig, member_desig, index_desig, SomeInit, no_init, some_init, InitDeclrs, no_init_declrs, more_init_declrs, Declaration, declaration, Decl, decl_declaration, decl_assert, BlockItems, no_block_items, more_block_items, BlockItem, block_decl, block_stmt, Stmt, block, expr_stmt, attr_stmt, label, case_stmt, default_stmt, if_stmt, switch_stmt, while_stmt, do_stmt, for_stmt, goto_stmt, continue_stmt, break_stmt, return_stmt, asm_stmt, SomeElse, no_else, some_else, ForStart, start_declaration, start_value}
-use Rattle.c_tree.specs.Unit.{Item, function_item, decl_item, asm_item, semi_item}
+use Rattle.c_tree.specs.Tree.{Expr, operation, cast, prefix, sizeof_value, sizeof_type, extension, index, call, dot, arrow, post, compound, name_use, number_use, char_use, text_use, paren, statement_expr, va_arg, va_start, va_copy, offset, Operator, comma, assign, cond, binary, SomeExpr, no_expr, some_expr, Exprs, no_exprs, more_exprs, SpecWords, no_words, more_words, SpecWord, storage, thread, inline_word, noreturn, qualifier, basic, struct_type, enum_type, typedef_name, attribute, SomeBody, no_body, some_body, StructItems, no_struct_items, more_struct_items, StructItem, member, member_semi, member_assert, MemDeclrs, no_mem_declrs, more_mem_declrs, MemDeclr, named, unnamed, SomeValue, no_value, some_value, EnumType, enum_of, no_enum_body, some_enum_body, Enumerators, no_enumerators, more_enumerators, Declr, pointer, declr_name, declr_paren, array, params, abs_pointer, abs_paren, abs_array, abs_params, SomeDeclr, no_declr, some_declr, SomeSize, no_size, some_size, ArraySize, size_value, size_star, Params, no_params, more_params, Init, init_value, init_braced, InitList, init_list, InitItems, no_init_items, more_init_items, Desigs, no_desigs, more_desigs, Desig, member_desig, index_desig, SomeInit, no_init, some_init, InitDeclrs, no_init_declrs, more_init_declrs, Declaration, declaration, Decl, decl_declaration, decl_assert, BlockItems, no_block_items, more_block_items, BlockItem, block_decl, block_stmt, Stmt, block, expr_stmt, attr_stmt, label, case_stmt, default_stmt, if_stmt, switch_stmt, while_stmt, do_stmt, for_stmt, goto_stmt, continue_stmt, break_stmt, return_stmt, asm_stmt, SomeElse, no_else, some_else, ForStart, start_declaration, start_value, complex_part, label_use, compat, choose, generic, typeof_value, typeof_type, align, auto_word, range_desig, old_desig, case_range, goto_value, block_labels, identifiers, base_name, Assocs, no_assocs, more_assocs, Assoc, typed_assoc, default_assoc}
+use Rattle.c_tree.specs.Unit.{Item, function_item, decl_item, asm_item, semi_item, old_function_item}
 use Rattle.type_table.specs.Types.{CType}
 use Rattle.name_rules.specs.Spellings.{Spelling, place, Named}
 use Rattle.name_rules.specs.Faults.{Fault, not_pointer, not_place, fault_where}
@@ -20,6 +20,8 @@ count (more_exprs e es) = suc (count es)
 abbrev pub desig_type : Spelling → Names → Option CType → Desig → Option CType
 desig_type u s t (member_desig token name) = member_type s.aggregates t (u.key name.name)
 desig_type u s t (index_desig opening e closing) = some_target t
+desig_type u s t (range_desig opening e dots e2 closing) = some_target t
+desig_type u s t (old_desig name colon) = member_type s.aggregates t (u.key name.name)
 
 abbrev pub desigs_type : Spelling → Names → Option CType → Desigs → Option CType
 desigs_type u s t no_desigs = t
@@ -30,6 +32,8 @@ abbrev pub next_behind : Spelling → Names → Option CType → Desigs → ℕ 
 next_behind u s t no_desigs next = suc next
 next_behind u s t (more_desigs (member_desig token name) ds) next = behind_member s.aggregates t (u.key name.name) next
 next_behind u s t (more_desigs (index_desig opening e closing) ds) next = next
+next_behind u s t (more_desigs (range_desig opening e dots e2 closing) ds) next = next
+next_behind u s t (more_desigs (old_desig name colon) ds) next = behind_member s.aggregates t (u.key name.name) next
 
 -- what designators name, where there are any
 abbrev pub some_desigs_type : Spelling → Names → Option CType → Desigs → Option (Option CType)
@@ -55,7 +59,7 @@ module _ (u : Spelling) (s : Names) where
     expr_faults (sizeof_type word opening ws d closing) = words_faults ws ++ some_declr_faults d
     expr_faults (extension keyword e) = expr_faults e
     expr_faults (index e opening e2 closing) =
-        index_faults_at (place u opening) (shape_of u s e) (shape_of u s e2) ++ (expr_faults e ++ expr_faults e2)
+        index_faults_at u.wide (place u opening) (shape_of u s e) (shape_of u s e2) ++ (expr_faults e ++ expr_faults e2)
     expr_faults (call e opening es closing) =
         call_faults (place u opening) (value (shape_of u s e)) (count es) ++ (expr_faults e ++ exprs_faults es)
     expr_faults (dot e token name) = member_faults u s (value (shape_of u s e)) name.token name.name ++ expr_faults e
@@ -82,6 +86,20 @@ module _ (u : Spelling) (s : Names) where
         ++ (member_faults u s (type_named_at s.type_names (place u (first_word ws))) name.token name.name
         ++ desigs_faults (member_type s.aggregates (type_named_at s.type_names (place u (first_word ws)))
         (u.key name.name)) steps))
+    expr_faults (complex_part keyword e) = expr_faults e
+    expr_faults (label_use token name) = []
+    expr_faults (compat keyword opening ws d separator ws2 d2 closing) =
+        words_faults ws ++ (some_declr_faults d ++ (words_faults ws2 ++ some_declr_faults d2))
+    expr_faults (choose keyword opening e separator e2 separator2 e3 closing) = expr_faults e ++ (expr_faults e2 ++ expr_faults e3)
+    expr_faults (generic keyword opening e xs closing) = expr_faults e ++ assocs_faults xs
+
+    pub assocs_faults : Assocs → List Fault
+    assocs_faults no_assocs = []
+    assocs_faults (more_assocs x xs) = assoc_faults x ++ assocs_faults xs
+
+    pub assoc_faults : Assoc → List Fault
+    assoc_faults (typed_assoc ws d colon e) = words_faults ws ++ (some_declr_faults d ++ expr_faults e)
+    assoc_faults (default_assoc keyword colon e) = expr_faults e
 
     pub operator_faults : Operator → ℕ → Shape → List Fault
     operator_faults comma token left = []
@@ -112,6 +130,9 @@ module _ (u : Spelling) (s : Names) where
     desig_faults t (member_desig token name) = member_faults u s t name.token name.name
     desig_faults t (index_desig opening e closing) =
         fault_where (is_no_pointer t) (place u opening) not_pointer ++ expr_faults e
+    desig_faults t (range_desig opening e dots e2 closing) =
+        fault_where (is_no_pointer t) (place u opening) not_pointer ++ (expr_faults e ++ expr_faults e2)
+    desig_faults t (old_desig name colon) = member_faults u s t name.token name.name
 
     -- of designators that name nothing, only the indices are looked at
     pub indices_faults : Desigs → List Fault
@@ -121,6 +142,8 @@ module _ (u : Spelling) (s : Names) where
     pub index_faults : Desig → List Fault
     index_faults (member_desig token name) = []
     index_faults (index_desig opening e closing) = expr_faults e
+    index_faults (range_desig opening e dots e2 closing) = expr_faults e ++ expr_faults e2
+    index_faults (old_desig name colon) = []
 
     pub init_faults : Target → Init → List Fault
     init_faults t (init_value e) = expr_faults e
@@ -161,6 +184,10 @@ module _ (u : Spelling) (s : Names) where
     word_faults (enum_type e) = enum_faults e
     word_faults (typedef_name name) = []
     word_faults (attribute attr) = []
+    word_faults (typeof_value keyword opening e closing) = expr_faults e
+    word_faults (typeof_type word opening ws d closing) = words_faults ws ++ some_declr_faults d
+    word_faults (align attr) = []
+    word_faults (auto_word token) = []
 
     pub some_body_faults : SomeBody → List Fault
     some_body_faults no_body = []
@@ -205,6 +232,8 @@ module _ (u : Spelling) (s : Names) where
     declr_faults (abs_paren opening attrs d closing) = declr_faults d
     declr_faults (abs_array d opening words size closing) = some_declr_faults d ++ some_size_faults size
     declr_faults (abs_params d opening ps dots closing) = some_declr_faults d ++ params_faults ps
+    declr_faults (identifiers d opening names closing) = declr_faults d
+    declr_faults (base_name token) = []
 
     pub some_declr_faults : SomeDeclr → List Fault
     some_declr_faults no_declr = []
@@ -245,6 +274,7 @@ module _ (u : Spelling) (s : Names) where
     pub block_item_faults : BlockItem → List Fault
     block_item_faults (block_decl d) = decl_faults d
     block_item_faults (block_stmt t) = stmt_faults t
+    block_item_faults (block_labels keyword names semi) = []
 
     pub stmt_faults : Stmt → List Fault
     stmt_faults (block opening items closing) = block_items_faults items
@@ -264,6 +294,8 @@ module _ (u : Spelling) (s : Names) where
     stmt_faults (break_stmt keyword semi) = []
     stmt_faults (return_stmt keyword e semi) = some_expr_faults e
     stmt_faults (asm_stmt keyword words group semi) = []
+    stmt_faults (case_range keyword e dots e2 colon t) = expr_faults e ++ (expr_faults e2 ++ stmt_faults t)
+    stmt_faults (goto_value keyword star e semi) = expr_faults e
 
     pub some_else_faults : SomeElse → List Fault
     some_else_faults no_else = []
@@ -273,9 +305,29 @@ module _ (u : Spelling) (s : Names) where
     for_start_faults (start_declaration d) = declaration_faults d
     for_start_faults (start_value e semi) = some_expr_faults e
 
+  abbrev pub declarations_faults : List Declaration → List Fault
+  declarations_faults [] = []
+  declarations_faults (d ∷ ds) = declaration_faults d ++ declarations_faults ds
+
+  -- a declarator with a list of identifiers, with the declarations behind that
+  abbrev pub old_declr_faults : List Declaration → Declr → List Fault
+  old_declr_faults ds (identifiers d opening names closing) = declr_faults d ++ declarations_faults ds
+  old_declr_faults ds (pointer star words d) = old_declr_faults ds d
+  old_declr_faults ds (declr_paren opening attrs d closing) = old_declr_faults ds d
+  old_declr_faults ds (array d opening words size closing) = old_declr_faults ds d ++ some_size_faults size
+  old_declr_faults ds (params d opening ps dots closing) = old_declr_faults ds d ++ params_faults ps
+  old_declr_faults ds (declr_name token name) = declr_faults (declr_name token name)
+  old_declr_faults ds (base_name token) = declr_faults (base_name token)
+  old_declr_faults ds (abs_pointer star words d) = declr_faults (abs_pointer star words d)
+  old_declr_faults ds (abs_paren opening attrs d closing) = declr_faults (abs_paren opening attrs d closing)
+  old_declr_faults ds (abs_array d opening words size closing) = declr_faults (abs_array d opening words size closing)
+  old_declr_faults ds (abs_params d opening ps dots closing) = declr_faults (abs_params d opening ps dots closing)
+
   abbrev pub item_faults : Item → List Fault
   item_faults (function_item exts ws d attrs opening items closing) =
       words_faults ws ++ (declr_faults d ++ block_items_faults items)
+  item_faults (old_function_item exts ws d attrs ds opening items closing) =
+      words_faults ws ++ (old_declr_faults ds d ++ block_items_faults items)
   item_faults (decl_item d) = decl_faults d
   item_faults (asm_item keyword group semi) = []
   item_faults (semi_item semi) = []

@@ -4,17 +4,21 @@ use Rattle.std.specs.Prelude.{ℕ, suc, Bool, true, false, not, ◌&&◌, ◌||�
 use Rattle.c_words.specs.declared.kinds.Keyword.{Keyword}
 use Rattle.c_words.specs.declared.kinds.Keyword.TheVariants as keywords
 use Rattle.c_syntax.specs.declared.parts.Identifier.{Identifier}
-use Rattle.c_tree.specs.Tree.{Expr, operation, cast, prefix, sizeof_value, sizeof_type, extension, index, call, dot, arrow, post, compound, name_use, number_use, char_use, text_use, paren, statement_expr, va_arg, va_start, va_copy, offset, Operator, comma, assign, cond, binary, SomeExpr, no_expr, some_expr, Exprs, no_exprs, more_exprs, SpecWords, no_words, more_words, SpecWord, storage, thread, inline_word, noreturn, qualifier, basic, struct_type, enum_type, typedef_name, attribute, SomeBody, no_body, some_body, StructItems, no_struct_items, more_struct_items, StructItem, member, member_semi, member_assert, MemDeclrs, no_mem_declrs, more_mem_declrs, MemDeclr, named, unnamed, SomeValue, no_value, some_value, EnumType, enum_of, no_enum_body, some_enum_body, Enumerators, no_enumerators, more_enumerators, Declr, pointer, declr_name, declr_paren, array, params, abs_pointer, abs_paren, abs_array, abs_params, SomeDeclr, no_declr, some_declr, SomeSize, no_size, some_size, ArraySize, size_value, size_star, Params, no_params, more_params, Init, init_value, init_braced, InitList, init_list, InitItems, no_init_items, more_init_items, Desigs, no_desigs, more_desigs, Desig, member_desig, index_desig, SomeInit, no_init, some_init, InitDeclrs, no_init_declrs, more_init_declrs, Declaration, declaration, Decl, decl_declaration, decl_assert, BlockItems, no_block_items, more_block_items, BlockItem, block_decl, block_stmt, Stmt, block, expr_stmt, attr_stmt, label, case_stmt, default_stmt, if_stmt, switch_stmt, while_stmt, do_stmt, for_stmt, goto_stmt, continue_stmt, break_stmt, return_stmt, asm_stmt, SomeElse, no_else, some_else, ForStart, start_declaration, start_value}
+use Rattle.c_tree.specs.Tree.{Expr, operation, cast, prefix, sizeof_value, sizeof_type, extension, index, call, dot, arrow, post, compound, name_use, number_use, char_use, text_use, paren, statement_expr, va_arg, va_start, va_copy, offset, Operator, comma, assign, cond, binary, SomeExpr, no_expr, some_expr, Exprs, no_exprs, more_exprs, SpecWords, no_words, more_words, SpecWord, storage, thread, inline_word, noreturn, qualifier, basic, struct_type, enum_type, typedef_name, attribute, SomeBody, no_body, some_body, StructItems, no_struct_items, more_struct_items, StructItem, member, member_semi, member_assert, MemDeclrs, no_mem_declrs, more_mem_declrs, MemDeclr, named, unnamed, SomeValue, no_value, some_value, EnumType, enum_of, no_enum_body, some_enum_body, Enumerators, no_enumerators, more_enumerators, Declr, pointer, declr_name, declr_paren, array, params, abs_pointer, abs_paren, abs_array, abs_params, SomeDeclr, no_declr, some_declr, SomeSize, no_size, some_size, ArraySize, size_value, size_star, Params, no_params, more_params, Init, init_value, init_braced, InitList, init_list, InitItems, no_init_items, more_init_items, Desigs, no_desigs, more_desigs, Desig, member_desig, index_desig, SomeInit, no_init, some_init, InitDeclrs, no_init_declrs, more_init_declrs, Declaration, declaration, Decl, decl_declaration, decl_assert, BlockItems, no_block_items, more_block_items, BlockItem, block_decl, block_stmt, Stmt, block, expr_stmt, attr_stmt, label, case_stmt, default_stmt, if_stmt, switch_stmt, while_stmt, do_stmt, for_stmt, goto_stmt, continue_stmt, break_stmt, return_stmt, asm_stmt, SomeElse, no_else, some_else, ForStart, start_declaration, start_value, typeof_value, typeof_type, align, auto_word, complex_part, label_use, compat, choose, generic, range_desig, old_desig, case_range, goto_value, block_labels, identifiers, base_name, Assocs, no_assocs, more_assocs, Assoc, typed_assoc, default_assoc}
 use Rattle.c_tree.specs.Tree.{Dots}
-use Rattle.c_tree.specs.Unit.{Item, function_item, decl_item, asm_item, semi_item}
+use Rattle.c_tree.specs.Unit.{Item, function_item, decl_item, asm_item, semi_item, old_function_item}
 use Rattle.tape_ops.specs.declared.specifier.TagKind.{TagKind}
 use Rattle.tape_ops.specs.declared.specifier.TagKind.TheVariants as tags
-use Rattle.type_table.specs.Types.{Words, CType, base, void, CTypes, no_types, more_types}
+use Rattle.type_table.specs.Types.{Words, CType, base, void, CTypes, no_types, more_types, words_of}
 use Rattle.name_rules.specs.Spellings.{Place, Spelling, place, Named}
-use Rattle.name_rules.specs.Scopes.{enumerator_role, Names, meaning, enter, leave, sized}
-use Rattle.name_rules.specs.Pieces.{with_words, decayed, Piece, to_pointer, to_function, applied, no_params_if}
-use Rattle.name_rules.specs.Declaring.{used, type_named, type_by, Numbered, tag_used, tag_type, Begun, tag_begun, untagged_begun, untagged_number, declared_here, linked, has_word, declared_thing, declared_some, declared_param, declared_member, unnamed_member, own_where, keep, body_entered, body_left}
-use Rattle.type_rules.specs.Tokens.{annotations, annotation, pointer_annotations, array_annotations, first_word, declared_name, some_declared_name, is_bare, is_void, says_none}
+use Rattle.name_rules.specs.Scopes.{enumerator_role, Names, meaning, enter, leave, sized, with_faults}
+use Rattle.name_rules.specs.Pieces.{with_words, decayed, Piece, to_pointer, to_function, applied, no_params_if, bare, types_in}
+use Rattle.name_rules.specs.Declaring.{used, type_named, type_by, Numbered, tag_used, tag_type, Begun, tag_begun, untagged_begun, untagged_number, declared_here, linked, has_word, declared_thing, declared_some, declared_param, declared_member, unnamed_member, own_where, keep, body_entered, body_left, is_counted_by}
+use Rattle.type_rules.specs.Tokens.{are_auto, annotations, annotation, pointer_annotations, array_annotations, first_word, declared_name, some_declared_name, is_bare, is_void, says_none}
+use Rattle.name_rules.specs.Faults.{no_type, fault_where}
+use Rattle.name_rules.specs.Values.{value}
+use Rattle.name_rules.specs.Identifiers.{Olds, identified, old_declared_some, old_faults, old_types}
+use Rattle.type_rules.specs.Shapes.{shape_of}
 
 -- what is found, and what is known of names behind it
 
@@ -49,6 +53,11 @@ with_begun it next = next it.number it.members_of it.names
 abbrev pub typed : CType → Names → Typed
 typed t s = record { type = t; names = s }
 
+-- a type without annotation words, or the base type and a fault at this token where there is none
+abbrev pub typed_by : Spelling → ℕ → Option CType → Names → Typed
+typed_by u token None s = typed (base []) (with_faults (fault_where true (place u token) no_type) s)
+typed_by u token (Some t) s = typed (bare t) s
+
 -- tags
 
 -- of the keyword before a tag
@@ -81,6 +90,10 @@ unnamed_by u (basic word) n t s = s
 unnamed_by u (enum_type e) n t s = s
 unnamed_by u (typedef_name name) n t s = s
 unnamed_by u (attribute attr) n t s = s
+unnamed_by u (typeof_value keyword opening e closing) n t s = s
+unnamed_by u (typeof_type word opening ws d closing) n t s = s
+unnamed_by u (align attr) n t s = s
+unnamed_by u (auto_word token) n t s = s
 
 abbrev pub unnamed_among : Spelling → SpecWords → ℕ → CType → Names → Names
 unnamed_among u no_words n t s = s
@@ -101,6 +114,10 @@ is_lone_word (struct_type word attrs tag body) = is_bodiless body
 is_lone_word (enum_type e) = false
 is_lone_word (typedef_name name) = false
 is_lone_word (attribute attr) = true
+is_lone_word (typeof_value keyword opening e closing) = false
+is_lone_word (typeof_type word opening ws d closing) = false
+is_lone_word (align attr) = true
+is_lone_word (auto_word token) = false
 
 abbrev pub is_lone : SpecWords → Bool
 is_lone no_words = true
@@ -126,6 +143,10 @@ said_words (more_words word ws) = words_said word ++ said_words ws where
   words_said (enum_type e) = []
   words_said (typedef_name name) = []
   words_said (attribute attr) = []
+  words_said (typeof_value keyword opening e closing) = []
+  words_said (typeof_type word opening ws d closing) = []
+  words_said (align attr) = []
+  words_said (auto_word token) = []
 
 -- whether a struct or union without a tag that has a body is among words
 abbrev pub has_untagged : SpecWords → Bool
@@ -143,6 +164,10 @@ has_untagged (more_words word ws) = is_untagged word || has_untagged ws where
   is_untagged (enum_type e) = false
   is_untagged (typedef_name name) = false
   is_untagged (attribute attr) = false
+  is_untagged (typeof_value keyword opening e closing) = false
+  is_untagged (typeof_type word opening ws d closing) = false
+  is_untagged (align attr) = false
+  is_untagged (auto_word token) = false
 
 -- the annotation words of specifiers behind one of their words, by those before it
 abbrev pub words_behind : Spelling → SpecWord → Words → Words
@@ -156,6 +181,10 @@ words_behind u (struct_type word attrs tag body) ws = ws
 words_behind u (enum_type e) ws = ws
 words_behind u (typedef_name name) ws = ws
 words_behind u (attribute attr) ws = ws
+words_behind u (typeof_value keyword opening e closing) ws = ws
+words_behind u (typeof_type word opening vs d closing) ws = ws
+words_behind u (align attr) ws = ws
+words_behind u (auto_word token) ws = ws
 
 -- the words before an ellipsis; a function without parameters takes any
 abbrev pub ellipsis : Spelling → Params → Option Dots → Option Words
@@ -202,6 +231,26 @@ module _ (u : Spelling) where
         with_typed (words_named false ws (base []) [] s)
         (λ t s. with_pieced (some_declr_named d s)
         (λ ps s. desigs_named steps (type_named (place u (first_word ws)) (applied ps t) s)))
+    expr_named c (complex_part keyword e) s = expr_named false e s
+    expr_named c (label_use token name) s = s
+    expr_named c (compat keyword opening ws d separator ws2 d2 closing) s =
+        with_typed (words_named false ws (base []) [] s)
+        (λ t s. with_pieced (some_declr_named d s)
+        (λ ps s. with_typed (words_named false ws2 (base []) [] (type_named (place u (first_word ws)) (applied ps t) s))
+        (λ t s. with_pieced (some_declr_named d2 s) (λ ps s. type_named (place u (first_word ws2)) (applied ps t) s))))
+    expr_named c (choose keyword opening e separator e2 separator2 e3 closing) s = expr_named false e3 (expr_named false e2 (expr_named false e s))
+    expr_named c (generic keyword opening e xs closing) s = assocs_named xs (expr_named false e s)
+
+    pub assocs_named : Assocs → Names → Names
+    assocs_named no_assocs s = s
+    assocs_named (more_assocs x xs) s = assocs_named xs (assoc_named x s)
+
+    pub assoc_named : Assoc → Names → Names
+    assoc_named (typed_assoc ws d colon e) s =
+        with_typed (words_named false ws (base []) [] s)
+        (λ t s. with_pieced (some_declr_named d s)
+        (λ ps s. expr_named false e (type_named (place u (first_word ws)) (applied ps t) s)))
+    assoc_named (default_assoc keyword colon e) s = expr_named false e s
 
     pub operator_named : Operator → Names → Names
     operator_named comma s = s
@@ -235,6 +284,15 @@ module _ (u : Spelling) where
     word_named alone (enum_type e) t s = typed t (enum_named e s)
     word_named alone (typedef_name name) t s = typed (type_by (meaning s (u.key name.name))) s
     word_named alone (attribute attr) t s = typed t s
+    -- by what is known behind the expression so far
+    word_named alone (typeof_value keyword opening e closing) t s =
+        typed_by u closing (shape_of u (expr_named false e s) e).type (expr_named false e s)
+    word_named alone (typeof_type word opening ws d closing) t s =
+        with_typed (words_named false ws (base []) [] s)
+        (λ t s. with_pieced (some_declr_named d s)
+        (λ ps s. typed (applied ps t) (type_named (place u (first_word ws)) (applied ps t) s)))
+    word_named alone (align attr) t s = typed t s
+    word_named alone (auto_word token) t s = typed t s
 
     pub struct_named : Bool → TagKind → ℕ → Option Identifier → SomeBody → CType → Names → Typed
     struct_named alone kind keyword tag no_body t s = tag_named u alone kind tag t s
@@ -319,6 +377,11 @@ module _ (u : Spelling) where
               ++ to_function (no_params_if (says_none ps) types) (ellipsis u ps dots) ∷ [];
           names = leave s;
         }))
+    -- the list of a function with a body is gone through with the declarations behind it; of any other one nothing is known
+    declr_named own (identifiers d opening names closing) s =
+        with_pieced (declr_named own d s)
+        (λ ps s. record { pieces = ps ++ to_function no_types None ∷ []; names = leave (enter s) })
+    declr_named own (base_name token) s = record { pieces = []; names = s }
 
     pub some_declr_named : SomeDeclr → Names → Pieced
     some_declr_named no_declr s = record { pieces = []; names = s }
@@ -359,6 +422,8 @@ module _ (u : Spelling) where
     pub desig_named : Desig → Names → Names
     desig_named (member_desig token name) s = s
     desig_named (index_desig opening e closing) s = expr_named false e s
+    desig_named (range_desig opening e dots e2 closing) s = expr_named false e2 (expr_named false e s)
+    desig_named (old_desig name colon) s = s
 
     pub some_init_named : SomeInit → Names → Names
     some_init_named no_init s = s
@@ -373,10 +438,25 @@ module _ (u : Spelling) where
         (λ ps s. some_init_named init
         (declared_some u (untagged_number is_untagged t) (declared_name d) words (applied ps t) s)))
 
+    -- A name of the type of its initialiser's value, with the words of its specifiers, is declared behind that.
+    pub auto_declrs_named : List Keyword → Bool → ℕ → CType → InitDeclrs → Names → Names
+    auto_declrs_named words is_untagged semi t no_init_declrs s = s
+    auto_declrs_named words is_untagged semi t (more_init_declrs attrs d asm_label attrs2 init ds) s =
+        auto_declrs_named words false semi t ds
+        (with_pieced (declr_named None d s) (λ ps s. auto_named words is_untagged semi t (declared_name d) init s))
+
+    pub auto_named : List Keyword → Bool → ℕ → CType → Option Named → SomeInit → Names → Names
+    auto_named words is_untagged semi t it no_init s = s
+    auto_named words is_untagged semi t it (some_init equal (init_braced list)) s = s
+    auto_named words is_untagged semi t it (some_init equal (init_value e)) s =
+        with_typed (typed_by u semi (value (shape_of u (expr_named false e s) e)) (expr_named false e s))
+        (λ bare s. declared_some u (untagged_number is_untagged t) it words (with_words (words_of t) bare) s)
+
     pub declaration_named : Declaration → Names → Names
     declaration_named (declaration exts ws ds semi) s =
         with_typed (words_named (is_tag_alone ws ds) ws (base []) [] s)
-        (λ t s. init_declrs_named (said_words ws) (has_untagged ws) t ds s)
+        (λ t s. if are_auto ws ds then auto_declrs_named (said_words ws) (has_untagged ws) semi t ds s
+        else init_declrs_named (said_words ws) (has_untagged ws) t ds s)
 
     pub decl_named : Decl → Names → Names
     decl_named (decl_declaration d) s = declaration_named d s
@@ -389,6 +469,7 @@ module _ (u : Spelling) where
     pub block_item_named : BlockItem → Names → Names
     block_item_named (block_decl d) s = decl_named d s
     block_item_named (block_stmt t) s = stmt_named t s
+    block_item_named (block_labels keyword names semi) s = s
 
     -- the statements that choose and repeat have scopes of their own, and so has each direct part of theirs
     pub stmt_named : Stmt → Names → Names
@@ -413,6 +494,8 @@ module _ (u : Spelling) where
     stmt_named (break_stmt keyword semi) s = s
     stmt_named (return_stmt keyword e semi) s = some_expr_named e s
     stmt_named (asm_stmt keyword words group semi) s = s
+    stmt_named (case_range keyword e dots e2 colon t) s = stmt_named t (expr_named false e2 (expr_named false e s))
+    stmt_named (goto_value keyword star e semi) s = expr_named false e s
 
     pub some_else_named : SomeElse → Names → Names
     some_else_named no_else s = s
@@ -431,12 +514,86 @@ module _ (u : Spelling) where
       (λ t s. with_pieced (declr_named (Some (linked (u.key it.name) (place u it.token) s)) d s)
       (λ ps s. body_left (block_items_named items
       (body_entered (place u it.token) (linked (u.key it.name) (place u it.token) s)
-      (not (has_word keywords.Inline (said_words ws)))
+      (not (has_word keywords.Inline (said_words ws))) (is_counted_by u.wide (said_words ws))
+      (declared_thing (said_words ws) (place u it.token) (u.key it.name) (applied ps t)
+      (sized (place u it.token) (applied ps t) s))))))
+
+  -- functions with lists of identifiers
+
+  abbrev pub identifiers_named : List Identifier → Olds → Olds
+  identifiers_named [] it = it
+  identifiers_named (name ∷ names) it = identifiers_named names (identified u name.token name.name it)
+
+  -- what a declaration behind such a list declares, with the initialisers that no well-formed unit has there
+  abbrev pub old_declrs_named : Option Place → List Keyword → Bool → CType → InitDeclrs → Olds → Olds
+  old_declrs_named own words is_untagged t no_init_declrs it = it
+  old_declrs_named own words is_untagged t (more_init_declrs attrs d asm_label attrs2 init ds) it =
+      old_declrs_named own words false t ds (with_pieced (declr_named None d it.names)
+      (λ ps s. initialised init (old_one own words is_untagged t (declared_name d) (applied ps t) (record it { names = s })))) where
+        initialised : SomeInit → Olds → Olds
+        initialised init it = record it { names = some_init_named init it.names }
+
+        old_one : Option Place → List Keyword → Bool → CType → Option Named → CType → Olds → Olds
+        old_one own words is_untagged t name declared it =
+            if has_word keywords.Typedef words
+            then record it { names = declared_some u (untagged_number is_untagged t) name words declared it.names }
+            else old_declared_some u own name (decayed declared) it
+
+  abbrev pub old_declaration_named : Option Place → Declaration → Olds → Olds
+  old_declaration_named own (declaration exts ws ds semi) it =
+      with_typed (words_named (is_tag_alone ws ds) ws (base []) [] it.names)
+      (λ t s. if are_auto ws ds then record it { names = auto_declrs_named (said_words ws) (has_untagged ws) semi t ds s }
+      else old_declrs_named own (said_words ws) (has_untagged ws) t ds (record it { names = s }))
+
+  abbrev pub old_declarations_named : Option Place → List Declaration → Olds → Olds
+  old_declarations_named own [] it = it
+  old_declarations_named own (d ∷ ds) it = old_declarations_named own ds (old_declaration_named own d it)
+
+  -- the pieces of such a declarator: the types of the parameters are in the order of the identifiers
+  abbrev pub old_declr_named : Option Place → List Declaration → Declr → Names → Pieced
+  old_declr_named own ds (identifiers d opening names closing) s =
+      with_pieced (declr_named None d s)
+      (λ ps s. listed own ps (old_declarations_named own ds (identifiers_named names (record { list = []; names = enter s })))) where
+        listed : Option Place → List Piece → Olds → Pieced
+        listed own ps it = record {
+          pieces = ps ++ to_function (types_in (old_types it.list)) None ∷ [];
+          names = keep own (old_faults u it.list it.names);
+        }
+  old_declr_named own ds (pointer star words d) s =
+      with_pieced (old_declr_named own ds d s)
+      (λ ps s. record { pieces = ps ++ to_pointer (pointer_annotations u words) ∷ []; names = s })
+  old_declr_named own ds (declr_paren opening attrs d closing) s = old_declr_named own ds d s
+  old_declr_named own ds (array d opening words size closing) s =
+      with_pieced (old_declr_named own ds d s)
+      (λ ps s. record { pieces = ps ++ to_pointer (array_annotations u words) ∷ []; names = some_size_named size s })
+  old_declr_named own ds (params d opening ps dots closing) s =
+      with_pieced (old_declr_named own ds d s)
+      (λ pieces s. with_listed (params_named 0 None ps (enter s))
+      (λ types s. record {
+        pieces = pieces ++ to_function (no_params_if (says_none ps) types) (ellipsis u ps dots) ∷ [];
+        names = leave s;
+      }))
+  old_declr_named own ds (declr_name token name) s = declr_named None (declr_name token name) s
+  old_declr_named own ds (base_name token) s = declr_named None (base_name token) s
+  old_declr_named own ds (abs_pointer star words d) s = declr_named None (abs_pointer star words d) s
+  old_declr_named own ds (abs_paren opening attrs d closing) s = declr_named None (abs_paren opening attrs d closing) s
+  old_declr_named own ds (abs_array d opening words size closing) s = declr_named None (abs_array d opening words size closing) s
+  old_declr_named own ds (abs_params d opening ps dots closing) s = declr_named None (abs_params d opening ps dots closing) s
+
+  abbrev pub old_function_by : Option Named → SpecWords → Declr → List Declaration → BlockItems → Names → Names
+  old_function_by None ws d ds items s = s
+  old_function_by (Some it) ws d ds items s =
+      with_typed (words_named false ws (base []) [] s)
+      (λ t s. with_pieced (old_declr_named (Some (linked (u.key it.name) (place u it.token) s)) ds d s)
+      (λ ps s. body_left (block_items_named items
+      (body_entered (place u it.token) (linked (u.key it.name) (place u it.token) s)
+      (not (has_word keywords.Inline (said_words ws))) (is_counted_by u.wide (said_words ws))
       (declared_thing (said_words ws) (place u it.token) (u.key it.name) (applied ps t)
       (sized (place u it.token) (applied ps t) s))))))
 
   abbrev pub item_named : Item → Names → Names
   item_named (function_item exts ws d attrs opening items closing) s = function_by (declared_name d) ws d items s
+  item_named (old_function_item exts ws d attrs ds opening items closing) s = old_function_by (declared_name d) ws d ds items s
   item_named (decl_item d) s = decl_named d s
   item_named (asm_item keyword group semi) s = s
   item_named (semi_item semi) s = s

@@ -1,10 +1,10 @@
 -- The type of each expression (C99, 6.5), by cases on the tree, over what names and types' names in it mean.
-use Rattle.std.specs.Prelude.{Bool, false, ◌&&◌, [], Option, Some}
-use Rattle.c_tree.specs.Tree.{Expr, operation, cast, prefix, sizeof_value, sizeof_type, extension, index, call, dot, arrow, post, compound, name_use, number_use, char_use, text_use, paren, statement_expr, va_arg, va_start, va_copy, offset, comma, assign, cond, binary, no_expr, some_expr, BlockItems, no_block_items, more_block_items, BlockItem, block_decl, block_stmt, Stmt, block, expr_stmt, attr_stmt, label, case_stmt, default_stmt, if_stmt, switch_stmt, while_stmt, do_stmt, for_stmt, goto_stmt, continue_stmt, break_stmt, return_stmt, asm_stmt}
-use Rattle.type_table.specs.Types.{CType, base, void}
+use Rattle.std.specs.Prelude.{Bool, false, ◌&&◌, List, [], ◌∷◌, Option, None, Some}
+use Rattle.c_tree.specs.Tree.{Expr, operation, cast, prefix, sizeof_value, sizeof_type, extension, index, call, dot, arrow, post, compound, name_use, number_use, char_use, text_use, paren, statement_expr, va_arg, va_start, va_copy, offset, comma, assign, cond, binary, no_expr, some_expr, BlockItems, no_block_items, more_block_items, BlockItem, block_decl, block_stmt, Stmt, block, expr_stmt, attr_stmt, label, case_stmt, default_stmt, if_stmt, switch_stmt, while_stmt, do_stmt, for_stmt, goto_stmt, continue_stmt, break_stmt, return_stmt, asm_stmt, complex_part, label_use, compat, choose, generic, typeof_value, typeof_type, align, auto_word, range_desig, old_desig, case_range, goto_value, block_labels, identifiers, base_name, Assocs, no_assocs, more_assocs, Assoc, typed_assoc, default_assoc}
+use Rattle.type_table.specs.Types.{CType, base, void, pointer}
 use Rattle.name_rules.specs.Spellings.{Spelling, place}
 use Rattle.name_rules.specs.Scopes.{Names}
-use Rattle.name_rules.specs.Values.{Shape, a_value, a_place, value, some_target, is_plain_void_pointer, binary_type, cond_type, index_type, some_result_type, member_type}
+use Rattle.name_rules.specs.Values.{Shape, a_value, a_place, value, some_target, is_plain_void_pointer, binary_type, cond_type, index_shape, Candidate, Association, pick_shape, selected_shape, some_result_type, member_type}
 use Rattle.name_rules.specs.Uses.{use_at, type_named_at, use_shape, prefix_shape, assigned_shape, text_type}
 use Rattle.type_rules.specs.Tokens.{first_word}
 
@@ -34,6 +34,14 @@ module _ (u : Spelling) (s : Names) where
   is_zero (va_start keyword opening e separator e2 closing) = false
   is_zero (va_copy keyword opening e separator e2 closing) = false
   is_zero (offset keyword opening ws d separator name steps closing) = false
+  is_zero (complex_part keyword e) = false
+  is_zero (label_use token name) = false
+  is_zero (compat keyword opening ws d separator ws2 d2 closing) = false
+  is_zero (choose keyword opening e separator e2 separator2 e3 closing) = false
+  is_zero (generic keyword opening e xs closing) = false
+
+  abbrev candidate : Shape → Bool → Candidate
+  candidate shape zero = record { shape = shape; is_zero = zero }
 
   abbrev mutual
     pub shape_of : Expr → Shape
@@ -49,7 +57,7 @@ module _ (u : Spelling) (s : Names) where
     shape_of (sizeof_value word e) = a_value (Some (base []))
     shape_of (sizeof_type word opening ws d closing) = a_value (Some (base []))
     shape_of (extension keyword e) = shape_of e
-    shape_of (index e opening e2 closing) = a_place (index_type (value (shape_of e)) (value (shape_of e2)))
+    shape_of (index e opening e2 closing) = index_shape u.wide (shape_of e) (shape_of e2)
     shape_of (call e opening es closing) = a_value (some_result_type (value (shape_of e)))
     shape_of (dot e token name) = a_place (member_type s.aggregates (value (shape_of e)) (u.key name.name))
     shape_of (arrow e token name) =
@@ -67,6 +75,17 @@ module _ (u : Spelling) (s : Names) where
     shape_of (va_start keyword opening e separator e2 closing) = a_value (Some (void []))
     shape_of (va_copy keyword opening e separator e2 closing) = a_value (Some (void []))
     shape_of (offset keyword opening ws d separator name steps closing) = a_value (Some (base []))
+    shape_of (complex_part keyword e) = shape_of e
+    shape_of (label_use token name) = a_value (Some (pointer [] (void [])))
+    shape_of (compat keyword opening ws d separator ws2 d2 closing) = a_value (Some (base []))
+    shape_of (choose keyword opening e separator e2 separator2 e3 closing) = pick_shape (candidate (shape_of e2) (is_zero e2) ∷ candidate (shape_of e3) (is_zero e3) ∷ [])
+    shape_of (generic keyword opening e xs closing) = selected_shape (value (shape_of e)) (associations_of xs)
+
+    pub associations_of : Assocs → List Association
+    associations_of no_assocs = []
+    associations_of (more_assocs (typed_assoc ws d colon e) xs) =
+        record { type = type_named_at s.type_names (place u (first_word ws)); candidate = candidate (shape_of e) (is_zero e) } ∷ associations_of xs
+    associations_of (more_assocs (default_assoc keyword colon e) xs) = record { type = None; candidate = candidate (shape_of e) (is_zero e) } ∷ associations_of xs
 
     -- the value of a statement expression is that of its last item, where that is an expression
     pub items_value : BlockItems → Option CType
@@ -77,6 +96,7 @@ module _ (u : Spelling) (s : Names) where
     pub item_value : BlockItem → Option CType
     item_value (block_decl d) = Some (void [])
     item_value (block_stmt t) = stmt_value t
+    item_value (block_labels keyword names semi) = Some (void [])
 
     pub stmt_value : Stmt → Option CType
     stmt_value (expr_stmt (some_expr e) semi) = value (shape_of e)
@@ -96,3 +116,9 @@ module _ (u : Spelling) (s : Names) where
     stmt_value (break_stmt keyword semi) = Some (void [])
     stmt_value (return_stmt keyword e semi) = Some (void [])
     stmt_value (asm_stmt keyword words group semi) = Some (void [])
+    stmt_value (case_range keyword e dots e2 colon t) = Some (void [])
+    stmt_value (goto_value keyword star e semi) = Some (void [])
+
+  -- an expression that may be picked
+  abbrev pub candidate_of : Expr → Candidate
+  candidate_of e = candidate (shape_of e) (is_zero e)

@@ -8,7 +8,8 @@ use Rattle.c_syntax.specs.declared.parts.PointerWord.{PointerWord}
 use Rattle.c_syntax.specs.declared.parts.PointerWord.TheVariants as pointer_words
 use Rattle.c_syntax.specs.declared.parts.ArrayWord.{ArrayWord}
 use Rattle.c_syntax.specs.declared.parts.ArrayWord.TheVariants as array_words
-use Rattle.c_tree.specs.Tree.{SpecWords, no_words, more_words, SpecWord, storage, thread, inline_word, noreturn, qualifier, basic, struct_type, enum_type, typedef_name, attribute, EnumType, enum_of, Declr, pointer, declr_name, declr_paren, array, params, abs_pointer, abs_paren, abs_array, abs_params, SomeDeclr, no_declr, some_declr, Params, no_params, more_params}
+use Rattle.c_tree.specs.WellFormed.{has_auto}
+use Rattle.c_tree.specs.Tree.{InitDeclrs, no_init_declrs, more_init_declrs, SomeInit, no_init, some_init, init_value, init_braced, SpecWords, no_words, more_words, SpecWord, storage, thread, inline_word, noreturn, qualifier, basic, struct_type, enum_type, typedef_name, attribute, EnumType, enum_of, Declr, pointer, declr_name, declr_paren, array, params, abs_pointer, abs_paren, abs_array, abs_params, SomeDeclr, no_declr, some_declr, Params, no_params, more_params, typeof_value, typeof_type, align, auto_word, identifiers, base_name, complex_part, label_use, compat, choose, generic, range_desig, old_desig, case_range, goto_value, block_labels, Assocs, no_assocs, more_assocs, Assoc, typed_assoc, default_assoc}
 use Rattle.type_table.specs.Types.{Words}
 use Rattle.name_rules.specs.Spellings.{Spelling, annotation_at, Named}
 
@@ -49,6 +50,10 @@ word_token (struct_type word attrs tag body) = word.token
 word_token (enum_type e) = enum_token e
 word_token (typedef_name name) = name.token
 word_token (attribute attr) = attr.keyword
+word_token (typeof_value keyword opening e closing) = keyword
+word_token (typeof_type word opening ws d closing) = word.token
+word_token (align attr) = attr.keyword
+word_token (auto_word token) = token
 
 -- of a type's name that begins with these words; token 0 where there is none, as in no well-formed unit
 abbrev pub first_word : SpecWords → ℕ
@@ -67,6 +72,8 @@ abbrev mutual
   declared_name (abs_paren opening attrs d closing) = declared_name d
   declared_name (abs_array d opening words size closing) = some_declared_name d
   declared_name (abs_params d opening ps dots closing) = some_declared_name d
+  declared_name (identifiers d opening names closing) = declared_name d
+  declared_name (base_name token) = None
 
   pub some_declared_name : SomeDeclr → Option Named
   some_declared_name no_declr = None
@@ -83,6 +90,8 @@ is_bare (abs_pointer star words d) = false
 is_bare (abs_paren opening attrs d closing) = false
 is_bare (abs_array d opening words size closing) = false
 is_bare (abs_params d opening ps dots closing) = false
+is_bare (identifiers d opening names closing) = false
+is_bare (base_name token) = false
 
 abbrev pub is_void : Keyword → Bool
 is_void keywords.Void = true
@@ -100,6 +109,10 @@ leaves_void (struct_type word attrs tag body) = false
 leaves_void (enum_type e) = false
 leaves_void (typedef_name name) = false
 leaves_void (attribute attr) = true
+leaves_void (typeof_value keyword opening e closing) = false
+leaves_void (typeof_type word opening ws d closing) = false
+leaves_void (align attr) = true
+leaves_void (auto_word token) = false
 
 abbrev pub leave_void : SpecWords → Bool
 leave_void no_words = true
@@ -111,3 +124,18 @@ says_none no_params = false
 says_none (more_params ws no_declr attrs no_params) = leave_void ws
 says_none (more_params ws no_declr attrs (more_params ws2 d attrs2 ps)) = false
 says_none (more_params ws (some_declr d) attrs ps) = false
+
+abbrev pub has_value : SomeInit → Bool
+has_value no_init = false
+has_value (some_init equal (init_value e)) = true
+has_value (some_init equal (init_braced list)) = false
+
+-- whether each declarator has an initialiser that is no list
+abbrev pub have_values : InitDeclrs → Bool
+have_values no_init_declrs = true
+have_values (more_init_declrs attrs d asm_label attrs2 init ds) = has_value init && have_values ds
+
+-- whether the names of a declaration have the types of their initialisers; without those, as in no well-formed unit, it is one
+-- like any other
+abbrev pub are_auto : SpecWords → InitDeclrs → Bool
+are_auto words ds = has_auto words && have_values ds

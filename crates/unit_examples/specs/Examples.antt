@@ -1,6 +1,6 @@
 -- Small sources with their tokens, their trees and their heights, which were worked out elsewhere. The trees were made from
 -- the sources by a program outside the repository.
-use Rattle.std.specs.Prelude.{◌≡◌, ℕ, List, [], ◌∷◌, None, Some, is_some, true}
+use Rattle.std.specs.Prelude.{◌≡◌, ℕ, List, [], ◌∷◌, None, Some, is_some, true, false}
 use Rattle.c_words.specs.declared.kinds.TokenKind.{TokenKind}
 use Rattle.c_words.specs.declared.kinds.TokenKind.TheVariants as kinds
 use Rattle.c_words.specs.declared.kinds.Keyword.TheVariants as keywords
@@ -15,12 +15,12 @@ use Rattle.c_units.specs.Units.{items_scopes, numbered}
 pub record IsExample (tokens : List TokenKind) (items : List Item) (height : ℕ) : Type 0 where
   pub spelled : AreTokensOf (numbered tokens) items
   pub high : unit_height items ≡ height
-  pub named : is_some (items_scopes items file_scope) ≡ true
+  pub named : is_some (items_scopes items (file_scope false)) ≡ true
 
 -- the tokens are those of the items, and some name has not the kind of its place
 pub record IsMisnamed (tokens : List TokenKind) (items : List Item) : Type 0 where
   pub spelled : AreTokensOf (numbered tokens) items
-  pub misnamed : items_scopes items file_scope ≡ None
+  pub misnamed : items_scopes items (file_scope false) ≡ None
 
 --
 abbrev pub items_1 : List Item

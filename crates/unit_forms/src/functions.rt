@@ -9,6 +9,7 @@ ghost use Rattle.reader_base.specs.Lent.{Lends, sized_specs};
 ghost use Rattle.unit_forms.specs.Listed.{ReadsItem};
 
 use crate::declared::{declaration_with_attrs, declaration_with_label};
+use crate::old::{lists_identifiers, old_function};
 use c_nodes::{PresentDeclr, SizedSpecs, above};
 use c_reading::{Fault, Mode};
 use c_syntax::{Attr, Item};
@@ -163,6 +164,9 @@ where
     )?;
     let closed = found.closed;
     let declr = known_declr(found.declr, place)?;
+    if lists_identifiers(&declr.declr) {
+        return old_function(lent, exts, words, declr, room, place, depth);
+    }
     place.scopes.release(Kind::Value)?;
     behind_declr(lent, exts, words, declr, closed, room, place, depth)
 }

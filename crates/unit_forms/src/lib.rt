@@ -3,6 +3,7 @@
 
 mod declared;
 mod functions;
+mod old;
 mod units;
 
 pub use units::{item, items};

@@ -10,9 +10,9 @@ ghost use Rattle.unit_forms.specs.Listed.{known_items, item_turn, items_at};
 
 use crate::declared::declaration_here;
 use crate::functions::first_declr;
-use c_reading::turns_take_tokens;
+use c_reading::{Role, turns_take_tokens};
 use c_syntax::Item;
-use decl_forms::has_typedef;
+use decl_forms::{has_auto, has_typedef};
 use decl_nodes::{push_item, semi_item};
 use reader_base::{
     Answer, Ask, Place, ReadError, extensions, group, is_asm, is_end, is_semicolon,
@@ -66,8 +66,11 @@ where
     ensures { ReadsItem place.old place.new result (listed.declared_item (knot depth) room) }
 {
     let exts = extensions(room, place)?;
-    let words = specs_here(lent, room, place, depth)?;
-    if is_semicolon(kind_at(place.rest)) || has_typedef(words.words.as_slice()) {
+    let words = specs_here(lent, Role::Declaring, room, place, depth)?;
+    if has_auto(words.words.as_slice())
+        || is_semicolon(kind_at(place.rest))
+        || has_typedef(words.words.as_slice())
+    {
         return declaration_here(lent, exts, words, room, place, depth);
     }
     first_declr(lent, exts, words, room, place, depth)

@@ -8,7 +8,7 @@ use Rattle.unit_names.specs.Shown.{names_of}
 
 pub begun : (t : ℕ → CType) (s : Names) → s.declared ≡ [] → s.scopes ≡ no_scope ∷ [] → s.aggregates ≡ [] → s.things
     ≡ [] → s.statics.items ≡ [] → s.round ≡ []
-    → s.uses.items ≡ [] → s.type_names.items ≡ [] → s.faults.items ≡ [] → s.bodies ≡ [] → s.enclosing ≡ None → s.kept
+    → s.uses ≡ [] → s.type_names ≡ [] → s.faults.items ≡ [] → s.bodies ≡ [] → s.enclosing ≡ None → s.kept
     ≡ None → names_of t s ≡ no_names
 unfolding names_of
 begun t s declared scopes aggregates things statics round uses type_names faults bodies enclosing kept =

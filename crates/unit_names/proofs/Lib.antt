@@ -1,3 +1,5 @@
 mod Begun
+mod Finding
+mod Knowing
 mod Sharing
 mod Views

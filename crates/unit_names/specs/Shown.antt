@@ -51,6 +51,7 @@ abbrev pub rule_of : Rule → fault_rules.Rule
 rule_of rule_names.Undeclared = fault_rules.undeclared
 rule_of rule_names.DefinedTwice = fault_rules.defined_twice
 rule_of rule_names.TypeTooLarge = fault_rules.type_too_large
+rule_of rule_names.NoType = fault_rules.no_type
 
 abbrev pub fault_of : Fault → fault_rules.Fault
 fault_of it = record { at = it.at; rule = rule_of it.rule }
@@ -94,8 +95,8 @@ module _ (t : ℕ → CType) where
         things = s.things;
         statics = reverse s.statics.items;
         round = s.round;
-        uses = map name_use_of s.uses.items;
-        type_names = map type_named_of s.type_names.items;
+        uses = map name_use_of s.uses;
+        type_names = map type_named_of s.type_names;
         faults = map fault_of s.faults.items;
         bodies = map bodied_of s.bodies;
         enclosing = s.enclosing;

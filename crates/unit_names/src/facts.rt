@@ -5,7 +5,7 @@ ghost use Rattle.std.specs.List.{last_or};
 ghost use Rattle.type_table.specs.Types.{CType};
 ghost use Rattle.name_rules.specs.Faults.{fault_where};
 ghost use Rattle.name_rules.specs.Scopes.{with_faults, with_declared, with_aggregate, with_body, with_key, with_member, with_unnamed, or_no_body, body_of, has_body, owner_at};
-ghost use Rattle.name_rules.specs.Declaring.{opened, has_body_in, linked, or_at, scope_kept};
+ghost use Rattle.name_rules.specs.Declaring.{opened, has_body_in, linked, or_at, body_begun};
 ghost use Rattle.name_records.specs.Held.{bodied_of};
 ghost use Rattle.unit_names.specs.Shown.{names_of, meaning_of, declared_of, rule_of, use_of};
 
@@ -219,19 +219,23 @@ impl Names {
         self.bodies.has(unit, first)
     }
 
-    /// A function has a body, which is gone on with, in the scope that is kept. Constant time but for growth.
+    /// A function has a body. Constant time but for growth.
     #[tactic(auto, using(crate::proofs::Views::views), unfolding(crate::specs::Shown::names_of))]
     pub fn push_body(&mut self, body: &Bodied) -> Result<(), NoMemory>
         ensures { OnOk result ((t : ℕ → CType) → names_of t self.new
-            ≡ record (names_of t self.old) {
-              bodies = bodied_of body.now ∷ (names_of t self.old).bodies;
-              scopes = scope_kept (names_of t self.old).kept (names_of t self.old).scopes;
-              enclosing = Some body.now.first;
-              kept = None;
-            }) }
+            ≡ record (names_of t self.old)
+            { bodies = bodied_of body.now ∷ (names_of t self.old).bodies }) }
     {
-        self.bodies.push(body)?;
-        self.enclosing = Some(body.first);
+        self.bodies.push(body)
+    }
+
+    /// The body goes on of the function that was first declared at this place, in the scope that is kept. Constant time but for growth.
+    #[tactic(auto, using(crate::proofs::Views::views), unfolding(crate::specs::Shown::names_of))]
+    pub fn begin_body(&mut self, first: &Place) -> Result<(), NoMemory>
+        ensures { OnOk result ((t : ℕ → CType) → names_of t self.new
+            ≡ body_begun first.now (names_of t self.old)) }
+    {
+        self.enclosing = Some(*first);
         match self.kept.take() {
             Some(scope) => self.scopes.reopen(scope)?,
             None => {}

@@ -3,13 +3,14 @@
 ghost use Rattle.std.specs.Prelude.{◌≡◌, ℕ, map, reverse, option_map};
 ghost use Rattle.type_table.specs.Types.{CType};
 ghost use Rattle.name_rules.specs.Scopes.{declared_at};
+ghost use Rattle.name_rules.specs.Uses.{use_at, type_named_at};
 ghost use Rattle.name_records.specs.Held.{bodied_of};
-ghost use Rattle.unit_names.specs.Shown.{names_of, declared_of, aggregate_of, name_use_of, type_named_of, fault_of};
+ghost use Rattle.unit_names.specs.Shown.{names_of, use_of, declared_of, aggregate_of, name_use_of, type_named_of, fault_of};
 
 use crate::names::Names;
-use name_records::{Aggregate, Bodied, Declared, Fault, NameUse, TypeNamed};
+use name_records::{Aggregate, Bodied, Declared, Fault, NameUse, TypeNamed, Use};
 use name_scopes::Place;
-use qual_base::{NameId, UnitNo};
+use qual_base::{NameId, TypeId, UnitNo};
 
 impl Names {
     /// The declarations, in the order of the text.
@@ -28,6 +29,26 @@ impl Names {
             ≡ declared_at (names_of t self.now).declared at.now }
     {
         self.declared.first_at(at)
+    }
+
+    /// What the name at a place stands for. Constant time.
+    #[tactic(auto, using(crate::proofs::Finding::use_found), unfolding(crate::specs::Shown::names_of))]
+    pub fn use_at(&self, at: &Place) -> Use
+        ensures { (t : ℕ → CType) → use_of result ≡ use_at (names_of t self.now).uses at.now }
+    {
+        match self.uses.first_at(at) {
+            Some(it) => it.use_of,
+            None => Use::Missing,
+        }
+    }
+
+    /// The type whose name begins at a place. Constant time.
+    #[tactic(auto, using(crate::proofs::Finding::type_found), unfolding(crate::specs::Shown::names_of))]
+    pub fn type_at(&self, at: &Place) -> Option<TypeId>
+        ensures { (t : ℕ → CType) → option_map t result
+            ≡ type_named_at (names_of t self.now).type_names at.now }
+    {
+        self.type_names.first_at(at)
     }
 
     /// The structs, unions and enums, by their numbers.

@@ -3,6 +3,7 @@
 
 mod facts;
 mod found;
+mod members;
 mod names;
 mod scope;
 mod shared;

@@ -6,7 +6,7 @@ ghost use Rattle.name_rules.specs.Units.{no_names};
 ghost use Rattle.unit_names.specs.Shown.{names_of};
 
 use name_lists::NameList;
-use name_records::{Aggregates, Bodies, Declarations, Fault, NameUse, Things, TypeNamed};
+use name_records::{Aggregates, Bodies, Declarations, Fault, Things, TypeNames, Uses};
 use name_scopes::{Place, Scope, Scopes};
 use qual_base::{NameId, NoMemory, UnitNo};
 use std::alloc::Global;
@@ -24,8 +24,8 @@ pub struct Names {
     pub(crate) things: Things,
     pub(crate) statics: Vec<(UnitNo, NameId)>,
     pub(crate) round: NameList<Place>,
-    pub(crate) uses: Vec<NameUse>,
-    pub(crate) type_names: Vec<TypeNamed>,
+    pub(crate) uses: Uses,
+    pub(crate) type_names: TypeNames,
     pub(crate) faults: Vec<Fault>,
     pub(crate) bodies: Bodies,
     pub(crate) enclosing: Option<Place>,
@@ -48,8 +48,8 @@ impl Names {
             things: Things::new(alloc),
             statics: Vec::new(alloc),
             round: NameList::new(alloc),
-            uses: Vec::new(alloc),
-            type_names: Vec::new(alloc),
+            uses: Uses::new(alloc),
+            type_names: TypeNames::new(alloc),
             faults: Vec::new(alloc),
             bodies: Bodies::new(alloc),
             enclosing: None,

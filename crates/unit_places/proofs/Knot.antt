@@ -81,6 +81,8 @@ never_places = record {
     begins = λ role room less. absurd (lower room less);
     room = λ role words room s ts x e. absurd cc;
     low = λ role words s ts x e. absurd cc;
+    auto = λ role words room s ts x fits e. absurd cc;
+    based = λ role words room less. absurd (lower room less);
   };
   declrs = record {
     good = λ mode wanted flag room less. absurd (lower_number flag room less);

@@ -4,17 +4,19 @@ ghost use Rattle.std.specs.Prelude.{◌≡◌, IfErr, IfOk, OnOk, option_map};
 ghost use Rattle.tape_ops.specs.declared.initialiser.InitOp.TheVariants as inits;
 ghost use Rattle.name_rules.specs.Uses.{use_at};
 ghost use Rattle.tape_ops.specs.declared.statement.StmtOp.TheVariants as stmts;
+ghost use Rattle.unit_names.specs.Shown.{declared_of, role_of};
 ghost use Rattle.row_rules.specs.Worlds.{World, at};
 ghost use Rattle.row_rules.specs.Rows as rows;
 ghost use Rattle.row_steps.specs.Rounds as rules;
 ghost use Rattle.tape_rounds.specs.Views.{naming_of};
 ghost use Rattle.row_steps.specs.OpRows as op_rows;
-ghost use Rattle.row_world.specs.Shown.{Shows, skel};
+ghost use Rattle.row_world.specs.Shown.{Shows, skel, type};
 ghost use Rattle.row_adding.specs.Adding.{Adds, Halts};
 ghost use Rattle.row_adding.specs.Kinds.{kind_of};
 ghost use Rattle.skel_steps.specs.Stepping.{state_of};
 
 use flow_graph::{FlowGraph, GraphFault};
+use name_records::{Declared, Role};
 use qual_base::{NoMemory, SkelId, TokenId};
 use row_adding as adding;
 use row_adding::RowKind;
@@ -150,15 +152,64 @@ fn parameter_kind(
     }
 }
 
-/// The kind of the row of a declarator's name, by what it is. Constant time.
-fn naming_kind(known: &Known, naming: Naming) -> Result<RowKind, NoMemory>
+/// The kind of the row of a parameter by its identifier, by what its declaration is as. Constant time.
+fn numbered_kind(known: &Known, function: &Option<TokenId>, role: Role) -> Result<RowKind, NoMemory>
     ensures { IfOk result (λ kind. (w : World) → Shows known.now w
-        → kind_of (skel known.now) kind ≡ op_rows.naming_row w (naming_of naming)) }
+        → kind_of (skel known.now) kind
+        ≡ rows.numbered_row (op_rows.function_skeleton w function.now) (role_of role)) }
+{
+    match role {
+        Role::Typedef => Ok(RowKind::Nothing),
+        Role::Object => Ok(RowKind::Nothing),
+        Role::Function => Ok(RowKind::Nothing),
+        Role::Parameter(number) => parameter_kind(known, function, number),
+        Role::Field(_, _) => Ok(RowKind::Nothing),
+        Role::Enumerator => Ok(RowKind::Nothing),
+    }
+}
+
+/// The kind of the row of a parameter by its identifier, by its declaration. Constant time.
+fn kind_by(
+    known: &Known,
+    function: &Option<TokenId>,
+    declared: &Option<Declared>,
+) -> Result<RowKind, NoMemory>
+    ensures { IfOk result (λ kind. (w : World) → Shows known.now w
+        → kind_of (skel known.now) kind
+        ≡ rows.identified_by (op_rows.function_skeleton w function.now)
+        (option_map (declared_of (type known.now)) declared.now)) }
+{
+    match declared {
+        Some(declared) => numbered_kind(known, function, declared.role),
+        None => Ok(RowKind::Nothing),
+    }
+}
+
+/// The kind of the row of a parameter by its identifier: its number is that of its declaration, where that is one of a parameter.
+/// Constant time.
+fn identified_kind(
+    known: &Known,
+    function: &Option<TokenId>,
+    token: TokenId,
+) -> Result<RowKind, NoMemory>
+    ensures { IfOk result (λ kind. (w : World) → Shows known.now w
+        → kind_of (skel known.now) kind
+        ≡ op_rows.identified_row w (op_rows.function_skeleton w function.now) token) }
+{
+    let declared = known.declared_here(token);
+    kind_by(known, function, &declared)
+}
+
+/// The kind of the row of a declarator's name, by what it is. Constant time.
+fn naming_kind(known: &Known, naming: Naming, token: TokenId) -> Result<RowKind, NoMemory>
+    ensures { IfOk result (λ kind. (w : World) → Shows known.now w
+        → kind_of (skel known.now) kind ≡ op_rows.naming_row w (naming_of naming) token) }
 {
     match naming {
         Naming::Name => Ok(RowKind::Name),
         Naming::OwnParam { function, number } => parameter_kind(known, &function, number),
         Naming::OtherParam => Ok(RowKind::Nothing),
+        Naming::Identified { function } => identified_kind(known, &function, token),
     }
 }
 
@@ -172,13 +223,13 @@ pub(crate) fn declared_row(
 ) -> Result<(), GraphFault>
     ensures ok { OnOk result (Adds known.now graph.old graph.new (λ w.
         rows.row_at w (op_rows.naming_row w
-        (rules.naming (state_of known.now stacks.now).rounds)) token)) }
+        (rules.naming (state_of known.now stacks.now).rounds) token) token)) }
     ensures err { IfErr result (λ fault. Halts known.now graph.old graph.new fault (λ w.
         rows.row_at w (op_rows.naming_row w
-        (rules.naming (state_of known.now stacks.now).rounds)) token)) }
+        (rules.naming (state_of known.now stacks.now).rounds) token) token)) }
 {
     let naming = stacks.naming();
-    match naming_kind(known, naming) {
+    match naming_kind(known, naming, token) {
         Ok(kind) => adding::declared(alloc, known, graph, &kind, token),
         Err(_) => Err(GraphFault::NoMemory),
     }

@@ -5,6 +5,7 @@ mod adding;
 mod flows;
 mod forms;
 mod operators;
+mod picks;
 mod rows;
 
 pub use adding::add_rows;

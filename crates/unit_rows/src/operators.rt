@@ -19,7 +19,7 @@ use qual_base::{SkelId, TokenId};
 use row_adding as adding;
 use row_world::{Known, contents, further, parameter};
 use skel_stacks::Stacks;
-use skel_steps::{indexed, value_at};
+use skel_steps::{indexed, is_carrying, is_vector_index, value_at};
 
 /// An assignment.
 pub(crate) fn assign_row(
@@ -122,6 +122,27 @@ pub(crate) fn binary_row(
     )
 }
 
+/// A `&` before a place that was come to by a pointer.
+fn address_row(
+    known: &Known,
+    stacks: &Stacks,
+    graph: &mut FlowGraph,
+    token: TokenId,
+) -> Result<(), GraphFault>
+    ensures ok { OnOk result (Adds known.now graph.old graph.new (λ w.
+        rows.carried w (states.val_at 0 (state_of known.now stacks.now)).skel
+        (state_of known.now stacks.now).carried (vals.own w token) (span w token token))) }
+    ensures err { IfErr result (λ fault. Halts known.now graph.old graph.new fault (λ w.
+        rows.carried w (states.val_at 0 (state_of known.now stacks.now)).skel
+        (state_of known.now stacks.now).carried (vals.own w token) (span w token token))) }
+{
+    let operand = stacks.val_at(known.vars, 0);
+    let pointer = stacks.carried(known.vars);
+    let own = known.own(token);
+    let span = known.span(token, token);
+    adding::carried(known, graph, operand.skel, pointer, own, &span)
+}
+
 /// An operator before its operand.
 pub(crate) fn prefix_row(
     known: &Known,
@@ -130,17 +151,21 @@ pub(crate) fn prefix_row(
     sign: Punct,
     token: TokenId,
     last: TokenId,
+    aims: bool,
 ) -> Result<(), GraphFault>
     ensures ok { OnOk result (Adds known.now graph.old graph.new (λ w.
-        op_rows.expr_row w (state_of known.now stacks.now) (exprs.Prefix sign token last))) }
+        op_rows.expr_row w (state_of known.now stacks.now) (exprs.Prefix sign token last aims))) }
     ensures err { IfErr result (λ fault. Halts known.now graph.old graph.new fault (λ w.
-        op_rows.expr_row w (state_of known.now stacks.now) (exprs.Prefix sign token last))) }
+        op_rows.expr_row w (state_of known.now stacks.now) (exprs.Prefix sign token last aims))) }
 {
+    if is_carrying(known, sign, aims) {
+        return address_row(known, stacks, graph, token);
+    }
     let is_zero = stacks.is_zero_at(0);
     let operand = stacks.val_at(known.vars, 0);
     let own = known.own(token);
     let span = known.span(token, last);
-    adding::prefixed(known, graph, sign, is_zero, &operand, own, &span)
+    adding::prefixed(known, graph, sign, is_zero, &operand, own, aims, &span)
 }
 
 /// `++` or `--` behind its operand.
@@ -170,21 +195,23 @@ pub(crate) fn index_row(
     graph: &mut FlowGraph,
     first: TokenId,
     last: TokenId,
+    aims: bool,
 ) -> Result<(), GraphFault>
     ensures ok { OnOk result (Adds known.now graph.old graph.new (λ w.
-        rows.dereferenced w (if vals.is_ref (states.value_at 1 (state_of known.now stacks.now))
-        then states.value_at 1 (state_of known.now stacks.now)
-        else states.value_at 0 (state_of known.now stacks.now)) (span w first last))) }
+        rows.index_demand w (states.value_at 1 (state_of known.now stacks.now))
+        (states.value_at 0 (state_of known.now stacks.now)) aims (span w first last))) }
     ensures err { IfErr result (λ fault. Halts known.now graph.old graph.new fault (λ w.
-        rows.dereferenced w (if vals.is_ref (states.value_at 1 (state_of known.now stacks.now))
-        then states.value_at 1 (state_of known.now stacks.now)
-        else states.value_at 0 (state_of known.now stacks.now)) (span w first last))) }
+        rows.index_demand w (states.value_at 1 (state_of known.now stacks.now))
+        (states.value_at 0 (state_of known.now stacks.now)) aims (span w first last))) }
 {
     let one = value_at(known, stacks, 1);
     let other = value_at(known, stacks, 0);
+    if is_vector_index(known, one, other) {
+        return Ok(());
+    }
     let at = indexed(known.vars, one, other);
     let span = known.span(first, last);
-    adding::dereferenced(known, graph, at, &span)
+    adding::dereferenced(known, graph, at, aims, &span)
 }
 
 /// What a pointer before `->` points at.
@@ -194,17 +221,18 @@ pub(crate) fn arrow_row(
     graph: &mut FlowGraph,
     first: TokenId,
     last: TokenId,
+    aims: bool,
 ) -> Result<(), GraphFault>
     ensures ok { OnOk result (Adds known.now graph.old graph.new (λ w.
-        rows.dereferenced w (states.value_at 0 (state_of known.now stacks.now))
+        rows.dereferenced w (states.value_at 0 (state_of known.now stacks.now)) aims
         (span w first last))) }
     ensures err { IfErr result (λ fault. Halts known.now graph.old graph.new fault (λ w.
-        rows.dereferenced w (states.value_at 0 (state_of known.now stacks.now))
+        rows.dereferenced w (states.value_at 0 (state_of known.now stacks.now)) aims
         (span w first last))) }
 {
     let at = value_at(known, stacks, 0);
     let span = known.span(first, last);
-    adding::dereferenced(known, graph, at, &span)
+    adding::dereferenced(known, graph, at, aims, &span)
 }
 
 /// The function that is called, under so many arguments that are not behind us. Constant time.

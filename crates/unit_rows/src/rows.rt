@@ -10,6 +10,7 @@ use crate::forms::{cast_row, va_arg_row, va_copy_row, va_start_row};
 use crate::operators::{
     argument_row, arrow_row, assign_row, binary_row, cond_row, index_row, post_row, prefix_row,
 };
+use crate::picks::{choose_row, select_row};
 use flow_graph::{FlowGraph, GraphFault};
 use row_adding as adding;
 use row_world::Known;
@@ -55,17 +56,33 @@ fn expression_row(
             first,
             last,
         } => binary_row(known, stacks, graph, sign, token, first, last),
-        ExprOp::Prefix { sign, token, last } => prefix_row(known, stacks, graph, sign, token, last),
+        ExprOp::Prefix {
+            sign,
+            token,
+            last,
+            aims,
+        } => prefix_row(known, stacks, graph, sign, token, last, aims),
         ExprOp::Post { token, first, .. } => post_row(known, stacks, graph, token, first),
-        ExprOp::Index { first, last, .. } => index_row(known, stacks, graph, first, last),
+        ExprOp::Index {
+            first,
+            last,
+            aims,
+            ..
+        } => index_row(known, stacks, graph, first, last, aims),
         ExprOp::Arg {
             behind,
             first,
             last,
         } => argument_row(known, stacks, graph, behind, first, last),
         ExprOp::Call { .. } => Ok(()),
-        ExprOp::Arrow { first, last, .. } => arrow_row(known, stacks, graph, first, last),
+        ExprOp::Arrow {
+            first,
+            last,
+            aims,
+            ..
+        } => arrow_row(known, stacks, graph, first, last, aims),
         ExprOp::Dot { .. } => Ok(()),
+        ExprOp::Label { token } => adding::form_here(known, graph, token),
     }
 }
 
@@ -92,6 +109,11 @@ fn form_row(
         FormOp::OffsetMember { .. } => Ok(()),
         FormOp::OffsetIndex { .. } => Ok(()),
         FormOp::Offset { .. } => Ok(()),
+        FormOp::Compat { .. } => Ok(()),
+        FormOp::Control => Ok(()),
+        FormOp::NoType => Ok(()),
+        FormOp::Choose { token } => choose_row(known, stacks, graph, token),
+        FormOp::Generic { token, count } => select_row(known, stacks, graph, token, count),
     }
 }
 
@@ -141,6 +163,9 @@ fn specifier_row(known: &Known, graph: &mut FlowGraph, op: SpecOp) -> Result<(),
         SpecOp::BodyEnd => Ok(()),
         SpecOp::Enumerator { .. } => Ok(()),
         SpecOp::UnnamedMember { token } => adding::form_here(known, graph, token),
+        SpecOp::PartBegin => Ok(()),
+        SpecOp::TypeofEnd { .. } => Ok(()),
+        SpecOp::TypeEnd => Ok(()),
         SpecOp::SpecsEnd => Ok(()),
     }
 }
@@ -167,6 +192,10 @@ fn declarator_row(
         DeclrOp::Array => Ok(()),
         DeclrOp::Function { .. } => Ok(()),
         DeclrOp::Declare => Ok(()),
+        DeclrOp::AutoBegin => Ok(()),
+        DeclrOp::AutoEnd { .. } => Ok(()),
+        DeclrOp::Identifier { .. } => Ok(()),
+        DeclrOp::OldParam => Ok(()),
         DeclrOp::Member => Ok(()),
         DeclrOp::TypeName { .. } => Ok(()),
         DeclrOp::DeclarationEnd => Ok(()),

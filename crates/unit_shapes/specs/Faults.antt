@@ -14,6 +14,7 @@ rule_of rule_names.ArgCount = rules.argument_count
 rule_of rule_names.NotPlace = rules.not_place
 rule_of rule_names.DefinedTwice = rules.defined_twice
 rule_of rule_names.TypeTooLarge = rules.type_too_large
+rule_of rule_names.NoType = rules.no_type
 
 abbrev pub fault_of : Fault → rules.Fault
 fault_of it = record { at = it.at; rule = rule_of it.rule }

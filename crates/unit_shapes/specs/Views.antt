@@ -1,5 +1,5 @@
 -- What a program knows of names, with the types of a table in place of their numbers.
-use Rattle.std.specs.Prelude.{◌≡◌, List}
+use Rattle.std.specs.Prelude.{◌≡◌, ◌<◌, List, length}
 use Rattle.type_table.specs.declared.row.Row.{Row}
 use Rattle.type_table.specs.Rows.{type_of}
 use Rattle.name_rules.specs.Scopes as rules
@@ -15,3 +15,5 @@ names_in rows s = names_of (type_of rows) s
 pub record AreImplicit (rows : List Row) (it : ImplicitTypes) : Type 0 where
   pub plain : ArePlain rows it.plain
   pub function : type_of rows it.function ≡ undeclared_function
+  -- it is a type of the table, so that these stay as they are while it grows
+  pub low : it.plain.base < length rows

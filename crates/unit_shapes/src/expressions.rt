@@ -11,19 +11,19 @@ ghost use Rattle.tape_ops.specs.declared.form.FormOp.TheVariants as forms;
 use crate::members::{member_of_type, member_type};
 use crate::uses::{ImplicitTypes, shape_of_use};
 use expr_shapes as shapes;
-use found_names::FoundNames;
 use qual_base::{NameId, NoMemory, TokenId};
 use shape_stacks::Stacks;
 use shape_values::ValueType;
 use tape_ops::{ExprOp, FormOp};
 use type_table::TypeTable;
+use unit_names::Names;
 use unit_spelling::Spelling;
 
 /// A name. Constant time but for growth.
 fn name(
     stacks: &mut Stacks,
     spelling: &Spelling,
-    names: &FoundNames,
+    names: &Names,
     types: &TypeTable,
     implicit: &ImplicitTypes,
     token: TokenId,
@@ -43,7 +43,7 @@ fn name(
 fn dot(
     stacks: &mut Stacks,
     spelling: &Spelling,
-    names: &FoundNames,
+    names: &Names,
     types: &TypeTable,
     name: NameId,
 ) -> Result<(), NoMemory>
@@ -61,7 +61,7 @@ fn dot(
 fn offset_member(
     stacks: &mut Stacks,
     spelling: &Spelling,
-    names: &FoundNames,
+    names: &Names,
     types: &TypeTable,
     name: NameId,
 ) -> Result<(), NoMemory>
@@ -79,7 +79,7 @@ fn offset_member(
 pub(crate) fn expression(
     stacks: &mut Stacks,
     spelling: &Spelling,
-    names: &FoundNames,
+    names: &Names,
     types: &TypeTable,
     implicit: &ImplicitTypes,
     op: ExprOp,
@@ -105,11 +105,12 @@ pub(crate) fn expression(
         ExprOp::Binary { sign, .. } => shapes::binary(stacks, types, plain, sign),
         ExprOp::Prefix { sign, .. } => shapes::prefix(stacks, types, plain, sign),
         ExprOp::Post { .. } => shapes::post(stacks, types),
-        ExprOp::Index { .. } => shapes::index(stacks, types),
+        ExprOp::Index { .. } => shapes::index(stacks, types, spelling.wide),
         ExprOp::Arg { .. } => Ok(()),
         ExprOp::Call { count, .. } => shapes::call(stacks, types, count),
         ExprOp::Arrow { .. } => shapes::arrow(stacks, types),
         ExprOp::Dot { name, .. } => dot(stacks, spelling, names, types, name),
+        ExprOp::Label { .. } => shapes::label(stacks, types, plain),
     }
 }
 
@@ -117,7 +118,7 @@ pub(crate) fn expression(
 pub(crate) fn form(
     stacks: &mut Stacks,
     spelling: &Spelling,
-    names: &FoundNames,
+    names: &Names,
     types: &TypeTable,
     implicit: &ImplicitTypes,
     op: FormOp,
@@ -138,5 +139,10 @@ pub(crate) fn form(
         FormOp::OffsetMember { name, .. } => offset_member(stacks, spelling, names, types, name),
         FormOp::OffsetIndex { .. } => shapes::offset_index(stacks, types),
         FormOp::Offset { .. } => shapes::offset(stacks, types, plain),
+        FormOp::Compat { .. } => shapes::compat(stacks, types, plain),
+        FormOp::Control => Ok(()),
+        FormOp::NoType => shapes::no_type(stacks),
+        FormOp::Choose { .. } => shapes::choose(stacks, types),
+        FormOp::Generic { count, .. } => shapes::select(stacks, types, count),
     }
 }

@@ -26,6 +26,8 @@ pub enum Rule {
     DefinedTwice,
     /// A declared type or a type's name has over 4,096 constructors.
     TypeTooLarge,
+    /// An expression that a type is made by has none by what is known behind it.
+    NoType,
 }
 
 /// A rule that fails at a place.
@@ -49,6 +51,7 @@ impl Rule {
             Rule::NotPlace => 6,
             Rule::DefinedTwice => 7,
             Rule::TypeTooLarge => 8,
+            Rule::NoType => 9,
         }
     }
 }

@@ -12,18 +12,18 @@ ghost use Rattle.unit_shapes.specs.Views.{names_in};
 
 use crate::targets::{list_of, number_behind, target_in, with_member};
 use crate::uses::type_declared;
-use found_names::FoundNames;
 use qual_base::{NameId, NoMemory, TypeId};
 use shape_stacks::{Braces, Stacks};
 use tape_ops::InitOp;
 use type_table::TypeTable;
+use unit_names::Names;
 use unit_spelling::Spelling;
 
 /// The type of the name that was declared last. Constant time.
 fn type_of_name(
     stacks: &Stacks,
     spelling: &Spelling,
-    names: &FoundNames,
+    names: &Names,
     types: &TypeTable,
 ) -> Option<TypeId>
     ensures { some_type types.now result
@@ -40,7 +40,7 @@ fn type_of_name(
 fn rule(
     stacks: &mut Stacks,
     spelling: &Spelling,
-    names: &FoundNames,
+    names: &Names,
     types: &TypeTable,
 ) -> Result<(), NoMemory>
     ensures { OnOk result (state_in types.now stacks.new
@@ -54,7 +54,7 @@ fn rule(
 }
 
 /// A list in braces begins. Constant time but for growth.
-fn begin_list(stacks: &mut Stacks, names: &FoundNames, types: &TypeTable) -> Result<(), NoMemory>
+fn begin_list(stacks: &mut Stacks, names: &Names, types: &TypeTable) -> Result<(), NoMemory>
     ensures { OnOk result (state_in types.now stacks.new
         ≡ steps.within (steps.list_of (steps.target_in (names_in types.now names.now)
         (states.first_braces (state_in types.now stacks.old).braces)))
@@ -79,7 +79,7 @@ fn is_listed(it: &Braces) -> bool
 
 fn member(
     stacks: &mut Stacks,
-    names: &FoundNames,
+    names: &Names,
     types: &TypeTable,
     name: NameId,
 ) -> Result<(), NoMemory>
@@ -112,7 +112,7 @@ fn end_list(stacks: &mut Stacks, types: &TypeTable) -> Result<(), NoMemory>
 pub(crate) fn initialiser(
     stacks: &mut Stacks,
     spelling: &Spelling,
-    names: &FoundNames,
+    names: &Names,
     types: &TypeTable,
     op: InitOp,
 ) -> Result<(), NoMemory>

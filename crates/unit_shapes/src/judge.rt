@@ -16,13 +16,13 @@ use crate::fault::{Fault, Rule, keep};
 use crate::op_faults::note_faults;
 use crate::steps::step;
 use crate::uses::ImplicitTypes;
-use found_names::FoundNames;
 use name_records as records;
 use qual_base::NoMemory;
 use shape_stacks::Stacks;
 use std::alloc::Global;
 use tape_ops::Op;
 use type_table::TypeTable;
+use unit_names::Names;
 use unit_spelling::Spelling;
 
 /// A rule of names among all rules.
@@ -33,6 +33,7 @@ fn rule_of_names(rule: &records::Rule) -> Rule
         records::Rule::Undeclared => Rule::Undeclared,
         records::Rule::DefinedTwice => Rule::DefinedTwice,
         records::Rule::TypeTooLarge => Rule::TypeTooLarge,
+        records::Rule::NoType => Rule::NoType,
     }
 }
 
@@ -64,10 +65,10 @@ fn earliest(faults: &[records::Fault]) -> Option<Fault>
 }
 
 /// The first of the faults of names; none where they have none. Linear in them.
-pub fn first_of_names(names: &FoundNames) -> Option<Fault>
+pub fn first_of_names(names: &Names) -> Option<Fault>
     ensures { (t : ℕ → CType) → IsFirstOf (some_fault_of result) (names_of t names.now).faults }
 {
-    earliest(names.names().faults())
+    earliest(names.faults())
 }
 
 /// Keeps the first one of some faults and of these faults of names. Linear in them.
@@ -84,7 +85,7 @@ fn judge(
     best: &mut Option<Fault>,
     stacks: &mut Stacks,
     spelling: &Spelling,
-    names: &FoundNames,
+    names: &Names,
     types: &TypeTable,
     implicit: &ImplicitTypes,
     tape: &[Op],
@@ -107,7 +108,7 @@ pub fn judge_tape(
     alloc: Global,
     best: &mut Option<Fault>,
     spelling: &Spelling,
-    names: &FoundNames,
+    names: &Names,
     types: &TypeTable,
     implicit: &ImplicitTypes,
     tape: &[Op],

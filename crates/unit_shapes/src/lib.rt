@@ -13,7 +13,6 @@ mod targets;
 mod uses;
 
 pub use fault::{Fault, Rule};
-pub use found_names::FoundNames;
 pub use judge::{first_of_names, judge_tape, keep_of_names};
 pub use steps::step;
 pub use uses::ImplicitTypes;

@@ -9,14 +9,14 @@ ghost use Rattle.shape_values.specs.Views.{some_type, some_value_type, value_typ
 ghost use Rattle.unit_names.specs.Shown.{names_of, known_of};
 ghost use Rattle.unit_shapes.specs.Views.{names_in};
 
-use found_names::FoundNames;
 use name_records::Known;
 use qual_base::{NameId, NoMemory, Numbered, StructId, TypeId};
 use shape_values::ValueType;
 use type_table::{Shape, TypeTable};
+use unit_names::Names;
 
 /// A member of what has a type. Constant time.
-fn member_of(names: &FoundNames, types: &TypeTable, ty: TypeId, name: NameId) -> Option<Known>
+fn member_of(names: &Names, types: &TypeTable, ty: TypeId, name: NameId) -> Option<Known>
     ensures { option_map (known_of (type_of types.now)) result
         ≡ rules.member_of (names_in types.now names.now).aggregates (type_of types.now ty) name }
 {
@@ -27,7 +27,7 @@ fn member_of(names: &FoundNames, types: &TypeTable, ty: TypeId, name: NameId) ->
 }
 
 /// A member of a value. Constant time.
-fn member(names: &FoundNames, types: &TypeTable, value: &ValueType, name: NameId) -> Option<Known>
+fn member(names: &Names, types: &TypeTable, value: &ValueType, name: NameId) -> Option<Known>
     ensures { option_map (known_of (type_of types.now)) result
         ≡ rules.member_of (names_in types.now names.now).aggregates
         (value_type types.now value.now) name }
@@ -40,7 +40,7 @@ fn member(names: &FoundNames, types: &TypeTable, value: &ValueType, name: NameId
 
 /// The type of a member, where that is known. Constant time.
 pub(crate) fn member_type(
-    names: &FoundNames,
+    names: &Names,
     types: &TypeTable,
     value: &Option<ValueType>,
     name: NameId,
@@ -60,7 +60,7 @@ pub(crate) fn member_type(
 
 /// The type of a member of what has a type, where both are known. Constant time.
 pub(crate) fn member_of_type(
-    names: &FoundNames,
+    names: &Names,
     types: &TypeTable,
     ty: &Option<TypeId>,
     name: NameId,
@@ -80,7 +80,7 @@ pub(crate) fn member_of_type(
 
 /// Whether a value is known, and has no such member. Constant time.
 pub(crate) fn lacks_member(
-    names: &FoundNames,
+    names: &Names,
     types: &TypeTable,
     value: &Option<ValueType>,
     name: NameId,
@@ -96,7 +96,7 @@ pub(crate) fn lacks_member(
 
 /// The number of the own member behind a designated one. Constant time.
 pub(crate) fn behind_member(
-    names: &FoundNames,
+    names: &Names,
     types: &TypeTable,
     ty: &Option<TypeId>,
     name: NameId,

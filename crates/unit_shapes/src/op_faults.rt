@@ -17,12 +17,12 @@ use crate::members::lacks_member;
 use crate::targets::designated;
 use c_words::Punct;
 use expr_shapes as shapes;
-use found_names::FoundNames;
 use qual_base::{NameId, TokenId, TypeId};
 use shape_stacks::Stacks;
 use shape_values::{ValueType, is_no_pointer};
 use tape_ops::{ExprOp, FormOp, InitOp, Op};
 use type_table::TypeTable;
+use unit_names::Names;
 use unit_spelling::Spelling;
 
 /// The faults of an operator before its operand. Constant time.
@@ -71,7 +71,7 @@ fn call(
 fn member_of_value(
     best: &mut Option<Fault>,
     spelling: &Spelling,
-    names: &FoundNames,
+    names: &Names,
     types: &TypeTable,
     value: &Option<ValueType>,
     token: TokenId,
@@ -100,7 +100,7 @@ fn expression(
     best: &mut Option<Fault>,
     stacks: &Stacks,
     spelling: &Spelling,
-    names: &FoundNames,
+    names: &Names,
     types: &TypeTable,
     op: ExprOp,
 )
@@ -119,7 +119,7 @@ fn expression(
             note(best, fails, &spelling.place(token), Rule::NotPlace)
         }
         ExprOp::Index { token, .. } => {
-            let fails = shapes::index_has_no_pointer(stacks, types);
+            let fails = shapes::index_has_no_pointer(stacks, types, spelling.wide);
             note(best, fails, &spelling.place(token), Rule::NotPointer)
         }
         ExprOp::Call { token, count } => call(best, stacks, spelling, types, token, count),
@@ -140,7 +140,8 @@ fn expression(
         | ExprOp::Comma { .. }
         | ExprOp::Cond { .. }
         | ExprOp::Binary { .. }
-        | ExprOp::Arg { .. } => {}
+        | ExprOp::Arg { .. }
+        | ExprOp::Label { .. } => {}
     }
 }
 
@@ -149,7 +150,7 @@ fn form(
     best: &mut Option<Fault>,
     stacks: &Stacks,
     spelling: &Spelling,
-    names: &FoundNames,
+    names: &Names,
     types: &TypeTable,
     op: FormOp,
 )
@@ -172,7 +173,12 @@ fn form(
         | FormOp::VaArg { .. }
         | FormOp::VaStart { .. }
         | FormOp::VaCopy { .. }
-        | FormOp::Offset { .. } => {}
+        | FormOp::Offset { .. }
+        | FormOp::Compat { .. }
+        | FormOp::Control
+        | FormOp::NoType
+        | FormOp::Choose { .. }
+        | FormOp::Generic { .. } => {}
     }
 }
 
@@ -181,7 +187,7 @@ fn initialiser(
     best: &mut Option<Fault>,
     stacks: &Stacks,
     spelling: &Spelling,
-    names: &FoundNames,
+    names: &Names,
     types: &TypeTable,
     op: InitOp,
 )
@@ -216,7 +222,7 @@ pub(crate) fn note_faults(
     best: &mut Option<Fault>,
     stacks: &Stacks,
     spelling: &Spelling,
-    names: &FoundNames,
+    names: &Names,
     types: &TypeTable,
     op: Op,
 )

@@ -12,11 +12,11 @@ use crate::expressions::{expression, form};
 use crate::initialisers::initialiser;
 use crate::uses::{ImplicitTypes, type_named};
 use expr_shapes as shapes;
-use found_names::FoundNames;
 use qual_base::{NoMemory, TokenId};
 use shape_stacks::Stacks;
 use tape_ops::{DeclrOp, Op, SpecOp, StmtOp};
 use type_table::TypeTable;
+use unit_names::Names;
 use unit_spelling::Spelling;
 
 /// What a word of specifiers does. Constant time but for growth.
@@ -36,7 +36,13 @@ fn specifier(stacks: &mut Stacks, types: &TypeTable, op: SpecOp) -> Result<(), N
         | SpecOp::Untagged { .. }
         | SpecOp::BodyEnd
         | SpecOp::Enumerator { .. }
-        | SpecOp::UnnamedMember { .. } => Ok(()),
+        | SpecOp::UnnamedMember { .. }
+        | SpecOp::PartBegin
+        | SpecOp::TypeofEnd { .. } => Ok(()),
+        SpecOp::TypeEnd => {
+            stacks.drop_operands(1);
+            Ok(())
+        }
         SpecOp::SpecsEnd => stacks.open(),
     }
 }
@@ -45,7 +51,7 @@ fn specifier(stacks: &mut Stacks, types: &TypeTable, op: SpecOp) -> Result<(), N
 fn type_name(
     stacks: &mut Stacks,
     spelling: &Spelling,
-    names: &FoundNames,
+    names: &Names,
     types: &TypeTable,
     first: TokenId,
 ) -> Result<(), NoMemory>
@@ -62,7 +68,7 @@ fn type_name(
 fn declarator(
     stacks: &mut Stacks,
     spelling: &Spelling,
-    names: &FoundNames,
+    names: &Names,
     types: &TypeTable,
     op: DeclrOp,
 ) -> Result<(), NoMemory>
@@ -80,8 +86,12 @@ fn declarator(
         | DeclrOp::ParamsEnd
         | DeclrOp::Pointer
         | DeclrOp::Array
-        | DeclrOp::Function { .. } => Ok(()),
+        | DeclrOp::Function { .. }
+        | DeclrOp::AutoBegin
+        | DeclrOp::Identifier { .. } => Ok(()),
         DeclrOp::Declare => stacks.declare(),
+        DeclrOp::AutoEnd { .. } => stacks.declare(),
+        DeclrOp::OldParam => stacks.declare(),
         DeclrOp::Member => stacks.leave_name(),
         DeclrOp::TypeName { first } => type_name(stacks, spelling, names, types, first),
         DeclrOp::DeclarationEnd => {
@@ -114,7 +124,7 @@ fn statement(stacks: &mut Stacks, types: &TypeTable, op: StmtOp)
 pub fn step(
     stacks: &mut Stacks,
     spelling: &Spelling,
-    names: &FoundNames,
+    names: &Names,
     types: &TypeTable,
     implicit: &ImplicitTypes,
     op: Op,

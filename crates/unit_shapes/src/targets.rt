@@ -15,10 +15,10 @@ ghost use Rattle.unit_shapes.specs.Targets.{target_of, number_behind};
 ghost use Rattle.unit_shapes.specs.Views.{names_in};
 
 use crate::members::{behind_member, member_of_type};
-use found_names::FoundNames;
 use qual_base::{NameId, NoMemory, StructId, TypeId};
 use shape_stacks::Braces;
 use type_table::{Shape, TypeTable};
+use unit_names::Names;
 
 /// What an item initialises: nothing, or what has a type, where that is known.
 #[derive(Clone, Copy, PartialEq, Eq, Debug, Drop)]
@@ -40,7 +40,7 @@ fn only_target(ty: TypeId, is_first: bool) -> Target
 }
 
 /// What an item without designators initialises in a struct. Constant time.
-fn own_target(names: &FoundNames, number: StructId, next: usize) -> Target
+fn own_target(names: &Names, number: StructId, next: usize) -> Target
     ensures { (t : ℕ → CType) → target_of t result
         ≡ rules.to_own (slice_get (rules.own_of (names_of t names.now).aggregates number)
         (rules.own_number (names_of t names.now).aggregates number next)) }
@@ -53,7 +53,7 @@ fn own_target(names: &FoundNames, number: StructId, next: usize) -> Target
 
 /// What an item without designators initialises. Constant time.
 fn next_target(
-    names: &FoundNames,
+    names: &Names,
     types: &TypeTable,
     ty: &Option<TypeId>,
     is_first: bool,
@@ -76,7 +76,7 @@ fn next_target(
 }
 
 /// What the next item initialises. Constant time.
-pub(crate) fn target_in(names: &FoundNames, types: &TypeTable, it: &Braces) -> Target
+pub(crate) fn target_in(names: &Names, types: &TypeTable, it: &Braces) -> Target
     ensures { target_of (type_of types.now) result
         ≡ steps.target_in (names_in types.now names.now) (braces_in types.now it.now) }
 {
@@ -97,7 +97,7 @@ pub(crate) fn target_in(names: &FoundNames, types: &TypeTable, it: &Braces) -> T
 
 /// The number of the member behind a designated one, in a list. Constant time.
 pub(crate) fn number_behind(
-    names: &FoundNames,
+    names: &Names,
     types: &TypeTable,
     name: NameId,
     it: &Braces,
@@ -124,7 +124,7 @@ pub(crate) fn number_behind(
 /// A list behind a designator of a member, behind which comes the member of this number.
 /// Constant time.
 pub(crate) fn with_member(
-    names: &FoundNames,
+    names: &Names,
     types: &TypeTable,
     name: NameId,
     behind: usize,

@@ -11,7 +11,6 @@ ghost use Rattle.unit_names.specs.Shown.{use_of, role_of};
 ghost use Rattle.unit_shapes.specs.Views.{names_in, AreImplicit};
 
 use expr_shapes::Plain;
-use found_names::FoundNames;
 use name_records::{Declared, Role, Use};
 use name_scopes::Place;
 use name_types::{SoFar, Types};
@@ -19,6 +18,7 @@ use qual_base::{NoMemory, TypeId};
 use shape_values::{ExprShape, ValueType};
 use std::alloc::Global;
 use type_table::TypeTable;
+use unit_names::Names;
 
 /// The numbers of types that no declaration writes: those that operators give, and that of a
 /// function that is called without a declaration.
@@ -46,12 +46,7 @@ fn declared_shape(implicit: &ImplicitTypes, types: &TypeTable, declared: &Declar
 }
 
 /// What the first declaration at a place is in an expression. Constant time.
-fn shape_at(
-    names: &FoundNames,
-    implicit: &ImplicitTypes,
-    types: &TypeTable,
-    at: &Place,
-) -> ExprShape
+fn shape_at(names: &Names, implicit: &ImplicitTypes, types: &TypeTable, at: &Place) -> ExprShape
     requires { AreImplicit types.now implicit.now }
     ensures { shape_in types.now result
         ≡ some_declared_shape (declared_at (names_in types.now names.now).declared at.now) }
@@ -64,7 +59,7 @@ fn shape_at(
 
 /// What the name at a place is in an expression. Constant time.
 pub(crate) fn shape_of_use(
-    names: &FoundNames,
+    names: &Names,
     implicit: &ImplicitTypes,
     types: &TypeTable,
     at: &Place,
@@ -82,7 +77,7 @@ pub(crate) fn shape_of_use(
 }
 
 /// The type of the first declaration at a place. Constant time.
-pub(crate) fn type_declared(names: &FoundNames, types: &TypeTable, at: &Place) -> Option<TypeId>
+pub(crate) fn type_declared(names: &Names, types: &TypeTable, at: &Place) -> Option<TypeId>
     ensures { some_type types.now result
         ≡ type_declared (declared_at (names_in types.now names.now).declared at.now) }
 {
@@ -94,7 +89,7 @@ pub(crate) fn type_declared(names: &FoundNames, types: &TypeTable, at: &Place) -
 }
 
 /// The type whose name begins at a place. Constant time.
-pub(crate) fn type_named(names: &FoundNames, types: &TypeTable, at: &Place) -> Option<TypeId>
+pub(crate) fn type_named(names: &Names, types: &TypeTable, at: &Place) -> Option<TypeId>
     ensures { some_type types.now result
         ≡ type_named_at (names_in types.now names.now).type_names at.now }
 {

@@ -1,5 +1,5 @@
 -- What the vectors of a spelling say of tokens and names.
-use Rattle.std.specs.Prelude.{ℕ, Bool, false, List, slice_get, unwrap_or}
+use Rattle.std.specs.Prelude.{false, slice_get, unwrap_or}
 use Rattle.name_rules.specs.Spellings as rules
 use Rattle.unit_spelling.specs.declared.spelling.Spelling.{Spelling}
 
@@ -7,6 +7,7 @@ abbrev pub spelling_of : Spelling → rules.Spelling
 spelling_of s =
     record {
       unit = s.unit;
+      wide = s.wide;
       annotates = λ token. unwrap_or (slice_get s.annotates.items token) false;
       is_naught = λ token. unwrap_or (slice_get s.is_naught.items token) false;
       key = λ name. unwrap_or (slice_get s.keys.items name) name;

@@ -11,6 +11,8 @@ use qual_base::{NameId, Numbered, TokenId, UnitNo};
 #[derive(Drop)]
 pub struct Spelling {
     pub unit: UnitNo,
+    /// Whether the unit is one of wider C.
+    pub wide: bool,
     /// Whether the word at a token is an annotation: a `$` word, an index word, or a keyword that a lattice names. Past the end
     /// none is.
     pub annotates: Vec<bool>,

@@ -1,10 +1,13 @@
 -- What the parts of the program stand for, with the types of a table in place of their numbers.
-use Rattle.std.specs.Prelude.{List, [], ◌∷◌, Option, None, Some, if◌then◌else◌}
+use Rattle.std.specs.Prelude.{Bool, List, [], ◌∷◌, Option, None, Some, if◌then◌else◌}
+use Rattle.c_words.specs.declared.kinds.Punct.{Punct}
+use Rattle.c_words.specs.declared.kinds.Punct.TheVariants as signs
 use Rattle.type_table.specs.declared.row.Row.{Row}
-use Rattle.type_table.specs.Types.{CType}
+use Rattle.type_table.specs.Types.{CType, base}
 use Rattle.type_table.specs.Rows.{type_of}
 use Rattle.name_rules.specs.Spellings.{Place, Spelling}
 use Rattle.name_rules.specs.Scopes.{Names}
+use Rattle.name_rules.specs.Values.{Shape, Candidate, address, is_fresh_pick, pick_shape}
 use Rattle.qual_types.specs.Skel.{within}
 use Rattle.row_rules.specs.Starting as rules
 use Rattle.unit_starts.specs.declared.start.Start.{Start}
@@ -25,7 +28,7 @@ starts_in rows (Some it) = start_in rows it ∷ []
 
 abbrev pub around_in : Spelling → Names → Around → rules.Around
 around_in u s it =
-    record { spelling = u; names = s; enclosing = it.enclosing; is_quiet = it.is_quiet }
+    record { spelling = u; names = s; enclosing = it.enclosing; is_quiet = it.is_quiet; access = it.access }
 
 -- a skeleton that is fresh at a place
 abbrev pub fresh_at : Around → Place → CType → List rules.Start
@@ -36,3 +39,12 @@ fresh_at it at t =
 abbrev pub some_fresh_at : Around → Place → Option CType → List rules.Start
 some_fresh_at it at None = []
 some_fresh_at it at (Some t) = fresh_at it at t
+
+-- what an operator before its operand begins at a place
+abbrev pub prefix_at : Punct → Bool → Around → Place → Shape → List rules.Start
+prefix_at signs.Ampersand carries it at e = rules.fresh_where carries (some_fresh_at it at (address e))
+prefix_at sign carries it at e = rules.fresh_where (rules.is_fresh_prefix sign) (fresh_at it at (base []))
+
+-- what a pick begins at a place
+abbrev pub pick_at : List Candidate → Around → Place → List rules.Start
+pick_at all it at = rules.fresh_where (is_fresh_pick all) (some_fresh_at it at (pick_shape all).type)

@@ -1,28 +1,34 @@
 //! What begins at operands and operators.
 
-ghost use Rattle.std.specs.Prelude.{◌≡◌, not, ◌&&◌, []};
+ghost use Rattle.std.specs.Prelude.{◌≡◌, not, ◌&&◌, [], List};
 ghost use Rattle.type_table.specs.Types.{base, void};
 ghost use Rattle.row_rules.specs.Starting as rules;
-ghost use Rattle.row_steps.specs.Starting.{expr_op_starts, form_op_starts};
+ghost use Rattle.row_steps.specs.Starting.{expr_op_starts, form_op_starts, selected_among};
 ghost use Rattle.shape_steps.specs.State as states;
 ghost use Rattle.shape_stacks.specs.Views.{state_in};
 ghost use Rattle.unit_spelling.specs.Spelled.{spelling_of};
 ghost use Rattle.unit_shapes.specs.Views.{names_in, AreImplicit};
-ghost use Rattle.unit_starts.specs.Views.{starts_in, fresh_at, some_fresh_at};
-ghost use Rattle.name_rules.specs.Values.{cond_type};
+ghost use Rattle.unit_starts.specs.Views.{starts_in, fresh_at, some_fresh_at, prefix_at, pick_at};
+ghost use Rattle.name_rules.specs.Values.{Candidate, address, cond_type};
+ghost use Rattle.shape_steps.specs.Steps.{chosen};
+ghost use Rattle.shape_values.specs.Views.{shape_in};
+ghost use Rattle.shape_values.specs.Picks.{IsPicked};
 
 use crate::names::use_start;
 use crate::operands::{
-    condition_value, is_fresh_binary, is_fresh_condition, is_fresh_prefix, type_at,
+    condition_value, control, is_fresh_binary, is_fresh_condition, is_fresh_prefix, type_at,
 };
 use crate::start::{Around, Start};
+use c_words::Punct;
+use expr_shapes::{chosen, selected};
+use found_names::FoundNames;
 use name_scopes::Place;
 use shape_stacks::Stacks;
-use shape_values::ValueType;
+use shape_values::{ExprShape, Picked, ValueType, address};
 use tape_ops::{ExprOp, FormOp};
 use tape_rounds::Rounds;
 use type_table::TypeTable;
-use unit_shapes::{FoundNames, ImplicitTypes};
+use unit_shapes::ImplicitTypes;
 use unit_spelling::Spelling;
 
 /// A fresh skeleton of a number, where there is one. Constant time.
@@ -83,6 +89,94 @@ fn condition(types: &TypeTable, stacks: &Stacks, around: &Around, at: &Place) ->
     }
 }
 
+/// What begins at a `&`, where its pointer is to carry the one by which its operand came to its place. Constant time.
+fn carrying(
+    types: &TypeTable,
+    stacks: &Stacks,
+    around: &Around,
+    is_fresh: bool,
+    at: &Place,
+) -> Option<Start>
+    ensures { starts_in types.now result ≡ rules.fresh_where is_fresh
+        (some_fresh_at around.now at.now (address (states.shape_at 0 (state_in types.now stacks.now)))) }
+{
+    if is_fresh {
+        around.some_fresh(types, at, &address(&stacks.shape_at(0)))
+    } else {
+        None
+    }
+}
+
+/// What begins at an operator before its operand; `carries`: the pointer that `&` makes is to carry the one by which its operand came to
+/// its place. Constant time.
+fn prefix(
+    types: &TypeTable,
+    implicit: &ImplicitTypes,
+    stacks: &Stacks,
+    around: &Around,
+    sign: Punct,
+    carries: bool,
+    at: &Place,
+) -> Option<Start>
+    requires { AreImplicit types.now implicit.now }
+    ensures { starts_in types.now result
+        ≡ prefix_at sign carries around.now at.now
+        (states.shape_at 0 (state_in types.now stacks.now)) }
+{
+    match sign {
+        Punct::Ampersand => carrying(types, stacks, around, carries, at),
+        _ => fresh_number(types, implicit, around, is_fresh_prefix(sign), at),
+    }
+}
+
+/// A fresh skeleton of the type of a shape, where that is known. Constant time.
+fn fresh_shape(types: &TypeTable, around: &Around, at: &Place, shape: &ExprShape) -> Option<Start>
+    ensures { starts_in types.now result
+        ≡ some_fresh_at around.now at.now (shape_in types.now shape.now).type }
+{
+    match shape {
+        ExprShape::Value(value) => around.some_fresh(types, at, value),
+        ExprShape::Place(ty) => around.fresh_named(types, at, ty),
+    }
+}
+
+/// What begins at a pick: a value of its own where several candidates are left. Constant time.
+fn fresh_pick(types: &TypeTable, around: &Around, at: &Place, picked: &Picked) -> Option<Start>
+    ensures { (all : List Candidate) → IsPicked types.now all picked.now
+        → starts_in types.now result ≡ pick_at all around.now at.now }
+{
+    if picked.is_fresh() {
+        fresh_shape(types, around, at, &picked.shape())
+    } else {
+        None
+    }
+}
+
+/// What begins at a choice. Constant time.
+fn choice(types: &TypeTable, stacks: &Stacks, around: &Around, at: &Place) -> Option<Start>
+    ensures { starts_in types.now result
+        ≡ pick_at (chosen (state_in types.now stacks.now)) around.now at.now }
+{
+    fresh_pick(types, around, at, &chosen(stacks, types))
+}
+
+/// What begins at a selection of so many associations; nothing where the control has no type. Linear in them.
+fn selection(
+    types: &TypeTable,
+    stacks: &Stacks,
+    around: &Around,
+    at: &Place,
+    count: u32,
+) -> Option<Start>
+    ensures { starts_in types.now result
+        ≡ pick_at (selected_among count (state_in types.now stacks.now)) around.now at.now }
+{
+    match control(types, stacks, count) {
+        Some(_) => fresh_pick(types, around, at, &selected(stacks, types, count)),
+        None => None,
+    }
+}
+
 /// What begins at an operand or operator. Constant time.
 pub(crate) fn expression(
     stacks: &Stacks,
@@ -123,9 +217,22 @@ pub(crate) fn expression(
             let is_fresh = is_fresh_binary(types, stacks, sign);
             fresh_number(types, implicit, &around, is_fresh, &spelling.place(token))
         }
-        ExprOp::Prefix { sign, token, .. } => {
-            let is_fresh = is_fresh_prefix(sign);
-            fresh_number(types, implicit, &around, is_fresh, &spelling.place(token))
+        ExprOp::Prefix {
+            sign,
+            token,
+            aims,
+            ..
+        } => {
+            let carries = around.carries(aims);
+            prefix(
+                types,
+                implicit,
+                stacks,
+                &around,
+                sign,
+                carries,
+                &spelling.place(token),
+            )
         }
         ExprOp::Post { .. } => None,
         ExprOp::Index { .. } => None,
@@ -133,10 +240,15 @@ pub(crate) fn expression(
         ExprOp::Call { .. } => None,
         ExprOp::Arrow { .. } => None,
         ExprOp::Dot { .. } => None,
+        ExprOp::Label { token } => around.fresh(
+            types,
+            &spelling.place(token),
+            ValueType::PointerTo(implicit.plain.void),
+        ),
     }
 }
 
-/// What begins at a form. Constant time.
+/// What begins at a form. Constant time, and linear in the associations of a selection.
 pub(crate) fn form(
     stacks: &Stacks,
     spelling: &Spelling,
@@ -177,6 +289,16 @@ pub(crate) fn form(
         FormOp::Offset { token } => {
             let outside = Around::outside(spelling, names, types, rounds);
             fresh_number(types, implicit, &outside, true, &spelling.place(token))
+        }
+        FormOp::Compat { token } => {
+            let outside = Around::outside(spelling, names, types, rounds);
+            fresh_number(types, implicit, &outside, true, &spelling.place(token))
+        }
+        FormOp::Control => None,
+        FormOp::NoType => None,
+        FormOp::Choose { token } => choice(types, stacks, &around, &spelling.place(token)),
+        FormOp::Generic { token, count } => {
+            selection(types, stacks, &around, &spelling.place(token), count)
         }
     }
 }

@@ -14,13 +14,14 @@ ghost use Rattle.unit_shapes.specs.Views.{names_in, AreImplicit};
 ghost use Rattle.unit_starts.specs.Views.{starts_in, around_in};
 
 use crate::start::{Around, Start, function_at};
+use found_names::FoundNames;
 use name_records::{Declared, Role, Use};
 use name_scopes::Place;
 use qual_base::TokenId;
 use shape_values::ValueType;
 use tape_rounds::Naming;
 use type_table::TypeTable;
-use unit_shapes::{FoundNames, ImplicitTypes};
+use unit_shapes::ImplicitTypes;
 use unit_spelling::Spelling;
 
 /// Whether a declaration is of a function.
@@ -154,6 +155,10 @@ pub(crate) fn had_name(
             name_start(spelling, names, types, &function, token)
         }
         Naming::OtherParam => None,
+        Naming::Identified { function } => {
+            let function = function_at(spelling, names, types, &function);
+            name_start(spelling, names, types, &function, token)
+        }
     }
 }
 

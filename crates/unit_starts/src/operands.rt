@@ -4,6 +4,7 @@ ghost use Rattle.std.specs.Prelude.{◌≡◌, not, ◌&&◌};
 ghost use Rattle.name_rules.specs.Values.{is_additive, cond_type};
 ghost use Rattle.row_rules.specs.Starting as rules;
 ghost use Rattle.shape_steps.specs.State as states;
+ghost use Rattle.shape_steps.specs.Steps.{twice};
 ghost use Rattle.shape_stacks.specs.Views.{state_in};
 ghost use Rattle.shape_values.specs.Views.{some_type, some_value_type};
 
@@ -130,4 +131,19 @@ pub(crate) fn literal_place(types: &TypeTable, stacks: &Stacks) -> Option<ValueT
         Some(ty) => Some(ValueType::PointerTo(ty)),
         None => None,
     }
+}
+
+/// Twice a number.
+fn twice(count: u32) -> usize
+    ensures { result ≡ twice count }
+{
+    2 * count as usize
+}
+
+/// The value of the control of a selection of so many associations. Constant time.
+pub(crate) fn control(types: &TypeTable, stacks: &Stacks, count: u32) -> Option<ValueType>
+    ensures { some_value_type types.now result
+        ≡ states.value_at (twice count) (state_in types.now stacks.now) }
+{
+    stacks.value_at(types, twice(count))
 }

@@ -14,12 +14,13 @@ use crate::expressions::{expression, form};
 use crate::names::{had_name, name_start};
 use crate::operands::literal_place;
 use crate::start::{Around, Start};
+use found_names::FoundNames;
 use qual_base::TokenId;
 use shape_stacks::Stacks;
 use tape_ops::{DeclrOp, InitOp, Op, SpecOp};
 use tape_rounds::Rounds;
 use type_table::TypeTable;
-use unit_shapes::{FoundNames, ImplicitTypes};
+use unit_shapes::ImplicitTypes;
 use unit_spelling::Spelling;
 
 /// What begins at a part of an initialiser. Constant time.
@@ -81,6 +82,9 @@ fn specifier(
             let around = Around::new(spelling, names, types, rounds);
             name_start(spelling, names, types, &around.enclosing, token)
         }
+        SpecOp::PartBegin => None,
+        SpecOp::TypeofEnd { .. } => None,
+        SpecOp::TypeEnd => None,
         SpecOp::SpecsEnd => None,
     }
 }
@@ -125,6 +129,10 @@ fn declarator(
         DeclrOp::Array => None,
         DeclrOp::Function { .. } => None,
         DeclrOp::Declare => None,
+        DeclrOp::AutoBegin => None,
+        DeclrOp::AutoEnd { .. } => None,
+        DeclrOp::Identifier { .. } => None,
+        DeclrOp::OldParam => None,
         DeclrOp::Member => None,
         DeclrOp::TypeName { .. } => None,
         DeclrOp::DeclarationEnd => None,

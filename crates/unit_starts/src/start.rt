@@ -1,6 +1,6 @@
 //! A skeleton that begins, and what is around it.
 
-ghost use Rattle.std.specs.Prelude.{◌≡◌, ◌≤◌};
+ghost use Rattle.std.specs.Prelude.{◌≡◌, ◌≤◌, ◌&&◌};
 ghost use Rattle.flow_graph.specs.System.{most_variables};
 ghost use Rattle.type_table.specs.Types.{size};
 ghost use Rattle.type_table.specs.Rows.{type_of};
@@ -15,12 +15,12 @@ ghost use Rattle.unit_spelling.specs.Spelled.{spelling_of};
 ghost use Rattle.unit_shapes.specs.Views.{names_in};
 ghost use Rattle.unit_starts.specs.Views.{start_in, starts_in, fresh_at, some_fresh_at};
 
+use found_names::FoundNames;
 use name_scopes::Place;
 use qual_base::{TokenId, TypeId};
 use shape_values::ValueType;
 use tape_rounds::Rounds;
 use type_table::TypeTable;
-use unit_shapes::FoundNames;
 use unit_spelling::Spelling;
 
 /// A skeleton that begins at a place, of a type, or of a reference to it where `outer` is true. Its variables belong to the function that was first declared at `owner`. At a
@@ -45,11 +45,13 @@ impl Start {
     }
 }
 
-/// The function in whose body something stands, by its link, and whether nothing is fresh there.
+/// The function in whose body something stands, by its link, whether nothing is fresh there, and whether some lattice bounds accesses.
 #[derive(Clone, Copy, PartialEq, Eq, Debug, Drop)]
 pub(crate) struct Around {
     pub(crate) enclosing: Option<Place>,
     pub(crate) is_quiet: bool,
+    /// Whether some lattice bounds accesses.
+    pub(crate) access: bool,
 }
 
 /// The function that was declared where the name at a token was, by its link. Constant time.
@@ -98,10 +100,12 @@ impl Around {
             ≡ function_at (spelling_of spelling.now) (names_in types.now names.now)
             rounds.now.body }
         ensures quiet { result.is_quiet ≡ round_rules.is_quiet rounds.now }
+        ensures access { result.access ≡ rounds.now.access }
     {
         Around {
             enclosing: function_at(spelling, names, types, &rounds.body()),
             is_quiet: rounds.is_quiet(),
+            access: rounds.has_access(),
         }
     }
 
@@ -116,11 +120,20 @@ impl Around {
             ≡ function_at (spelling_of spelling.now) (names_in types.now names.now)
             rounds.now.body }
         ensures quiet { result.is_quiet ≡ round_rules.is_quiet (round_rules.left rounds.now) }
+        ensures access { result.access ≡ rounds.now.access }
     {
         Around {
             enclosing: function_at(spelling, names, types, &rounds.body()),
             is_quiet: rounds.is_quiet_outside(),
+            access: rounds.has_access(),
         }
+    }
+
+    /// Whether the pointer that `&` makes is to carry the one by which its operand came to its place, if it came by one.
+    pub(crate) fn carries(&self, aims: bool) -> bool
+        ensures { result ≡ (aims && self.now.access) }
+    {
+        aims && self.access
     }
 
     /// A fresh skeleton of a type, or of a reference to it. Constant time.

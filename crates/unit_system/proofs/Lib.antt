@@ -1,3 +1,4 @@
 pub mod Owners
 pub mod Units
 pub mod Showing
+pub mod Flags

@@ -1,5 +1,5 @@
 -- The system of units, by their tapes.
-use Rattle.std.specs.Prelude.{◌≡◌, ℕ, List, [], ◌∷◌, ◌++◌, length, Option, None}
+use Rattle.std.specs.Prelude.{◌≡◌, ℕ, List, [], ◌∷◌, ◌++◌, length, Option, None, Bool}
 use Rattle.lattice_core.specs.View.{LatticeView}
 use Rattle.flow_graph.specs.declared.constraint.Constraint.{Constraint}
 use Rattle.flow_graph.specs.System.{System}
@@ -7,27 +7,38 @@ use Rattle.qual_types.specs.Rows.{skel_of}
 use Rattle.name_rules.specs.Spellings.{Place, Spelling}
 use Rattle.name_rules.specs.Scopes.{Names}
 use Rattle.name_steps.specs.Units.{Tape}
-use Rattle.row_rules.specs.Starting.{Start}
+use Rattle.row_rules.specs.Starting.{Start, Selection, flag_among}
 use Rattle.row_rules.specs.Sites.{functions_of, owners_among, site_places, sites_among, variables_among}
 use Rattle.row_rules.specs.Worlds.{World, numbered_from, skeleton_among}
 use Rattle.position_laws.specs.Positions.{AreThose}
 use Rattle.row_steps.specs.Found.{unit_rows}
-use Rattle.row_steps.specs.Starting.{unit_starts}
+use Rattle.row_steps.specs.Starting.{unit_starts, selections_found}
 use Rattle.unit_shapes.specs.Views.{names_in}
 use Rattle.unit_types.specs.Resolved.{Resolved, tapes_of}
 use Rattle.unit_skeletons.specs.declared.skeletons.Skeletons.{Skeletons}
 use Rattle.unit_system.specs.Places.{skeleton_at}
+use Rattle.row_rules.specs.Annotations.{has_access}
+use Rattle.shape_steps.specs.State.{nothing}
 
 abbrev pub names_on : Resolved → Names
 names_on it = names_in it.rows it.names
 
 -- the skeletons of units, in the order of their tapes
-abbrev pub starts_among : Names → List Tape → List Start
-starts_among s [] = []
-starts_among s (it ∷ tapes) = unit_starts it.spelling s it.ops ++ starts_among s tapes
+abbrev pub starts_among : Bool → Names → List Tape → List Start
+starts_among access s [] = []
+starts_among access s (it ∷ tapes) = unit_starts access it.spelling s it.ops ++ starts_among access s tapes
 
-abbrev pub starts_on : Resolved → List Start
-starts_on it = starts_among (names_on it) (tapes_of it.units)
+-- where some lattice bounds accesses, or none does
+abbrev pub starts_on : Bool → Resolved → List Start
+starts_on access it = starts_among access (names_on it) (tapes_of it.units)
+
+-- which associations are candidates of each selection by a type
+abbrev pub selections_among : Names → List Tape → List Selection
+selections_among s [] = []
+selections_among s (it ∷ tapes) = selections_found it.spelling s nothing it.ops ++ selections_among s tapes
+
+abbrev pub selections_on : Resolved → List Selection
+selections_on it = selections_among (names_on it) (tapes_of it.units)
 
 -- What is said of words: the lattices, the lattice and element that an annotation word names, and the numbers of an index word.
 pub record Meant : Type 0 where
@@ -36,8 +47,8 @@ pub record Meant : Type 0 where
   pub index : Place → List ℕ
 
 -- what is known while the constraints of a unit are found, where these skeletons begin
-abbrev pub world_by : Meant → Names → List Start → Spelling → World
-world_by meant s starts u = record {
+abbrev pub world_by : Meant → Names → List Start → List Selection → Spelling → World
+world_by meant s starts selections u = record {
   spelling = u;
   names = s;
   skeletons = numbered_from 0 starts;
@@ -45,23 +56,26 @@ world_by meant s starts u = record {
   lattices = meant.lattices;
   mark = meant.mark;
   index = meant.index;
+  candidate = flag_among selections;
   own = None;
 }
 
 -- the constraints of units, in the order of their tapes
-abbrev pub rows_among : Meant → Names → List Start → List Tape → List Constraint
-rows_among meant s starts [] = []
-rows_among meant s starts (it ∷ tapes) = unit_rows (world_by meant s starts it.spelling) it.ops ++ rows_among meant s starts tapes
+abbrev pub rows_among : Meant → Names → List Start → List Selection → List Tape → List Constraint
+rows_among meant s starts selections [] = []
+rows_among meant s starts selections (it ∷ tapes) =
+    unit_rows (world_by meant s starts selections it.spelling) it.ops ++ rows_among meant s starts selections tapes
 
-abbrev pub system_by : Meant → Names → List Start → List Tape → System
-system_by meant s starts tapes = record {
-  constraints = rows_among meant s starts tapes;
+abbrev pub system_by : Meant → Names → List Start → List Selection → List Tape → System
+system_by meant s starts selections tapes = record {
+  constraints = rows_among meant s starts selections tapes;
   sites = sites_among (functions_of s) starts;
   owners = owners_among (functions_of s) starts;
 }
 
 abbrev pub system_on : Meant → Resolved → System
-system_on meant it = system_by meant (names_on it) (starts_on it) (tapes_of it.units)
+system_on meant it =
+    system_by meant (names_on it) (starts_on (has_access meant.lattices) it) (selections_on it) (tapes_of it.units)
 
 -- skeletons by their numbers, one behind the other: each is one of those that begin so, the first at each place found by it
 pub record AreNumbered (all : List Start) (it : Skeletons) : Type 0 where

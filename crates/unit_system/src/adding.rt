@@ -12,6 +12,7 @@ use flow_graph::{FlowGraph, GraphFault};
 use found_names::FoundNames;
 use index_words::Prelude;
 use lattice_core::Lattices;
+use place_flags::PlaceFlags;
 use place_map::{PlaceIndex, PlaceMap};
 use qual_base::{Elem, LatticeNo, SiteId};
 use qual_types::VarTable;
@@ -31,7 +32,11 @@ pub(crate) struct Shared<'a> {
     pub(crate) starts: &'a PlaceIndex,
     /// The call site at a place.
     pub(crate) sites: &'a PlaceMap<SiteId>,
+    /// Which associations of the selection at a place are candidates.
+    pub(crate) candidates: &'a PlaceFlags,
     pub(crate) lattices: &'a Lattices,
+    /// The lattices with an element that bounds accesses, a bit for each.
+    pub(crate) access: u16,
     /// The lattice and the element that the annotation word at a place names.
     pub(crate) marks: &'a PlaceMap<(LatticeNo, Elem)>,
     pub(crate) prelude: &'a Prelude,
@@ -50,7 +55,9 @@ impl<'a> Shared<'a> {
             vars: self.vars,
             starts: self.starts,
             sites: self.sites,
+            candidates: self.candidates,
             lattices: self.lattices,
+            access: self.access,
             marks: self.marks,
             prelude: self.prelude,
         }

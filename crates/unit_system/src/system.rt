@@ -1,12 +1,17 @@
 //! The system of units.
 
-ghost use Rattle.std.specs.Prelude.{◌≡◌, ◌<◌, ◌≤◌, length, map, IfOk, OnOk, IsErrOf};
+ghost use Rattle.std.specs.Prelude.{◌≡◌, ℕ, ◌<◌, ◌≤◌, length, map, IfOk, OnOk, IsErrOf};
 ghost use Rattle.flow_graph.specs.System.{most_constraints, most_variables};
 ghost use Rattle.row_rules.specs.Sites.{variables_among};
+ghost use Rattle.name_rules.specs.Spellings.{Place};
+ghost use Rattle.place_flags.specs.Flags.{flag_at};
+ghost use Rattle.row_rules.specs.Starting.{flag_among};
+ghost use Rattle.unit_starts.specs.Selecting.{AddsSelections};
 ghost use Rattle.unit_starts.specs.Views.{start_in};
 ghost use Rattle.unit_system.specs.Sharing.{meant_by};
-ghost use Rattle.unit_system.specs.Systems.{starts_on, system_on};
+ghost use Rattle.unit_system.specs.Systems.{starts_on, selections_on, system_on};
 ghost use Rattle.unit_system.specs.Numberings.{IsNumberingOf};
+ghost use Rattle.row_rules.specs.Annotations.{has_access};
 
 use crate::adding::{Shared, add_units};
 use crate::fault::{GenerateFault, of_constraints, of_variables};
@@ -14,8 +19,10 @@ use crate::owning::number_sites;
 use flow_graph::FlowGraph;
 use index_words::Prelude;
 use lattice_core::Lattices;
+use place_flags::PlaceFlags;
 use place_map::PlaceMap;
 use qual_base::{Elem, LatticeNo, NoMemory, SiteId};
+use row_world::access_lattices;
 use std::alloc::Global;
 use unit_skeletons::{CallSites, Skeletons, functions_of, number_skeletons};
 use unit_starts::{Start, Starts, add_starts};
@@ -29,6 +36,8 @@ pub struct Numbering {
     pub graph: FlowGraph,
     /// The first call site at each place.
     pub places: PlaceMap<SiteId>,
+    /// Which associations of the selection by a type at each place are candidates.
+    pub candidates: PlaceFlags,
 }
 
 /// Units by numbers, and where their skeletons begin, 40 bytes a skeleton: it is of no use where constraints are made, and may be let go
@@ -48,11 +57,18 @@ pub struct UnitSystem {
     pub graph: FlowGraph,
 }
 
-/// Where the skeletons of units begin. Linear in their tapes, but for the members of the structs one of which an op names.
-#[tactic(auto, using(crate::proofs::Units::starts_next, crate::proofs::Units::starts_end))]
-fn starts_of(alloc: Global, program: &Program) -> Result<Starts, NoMemory>
-    ensures { IfOk result
-        (λ it. map (start_in program.now.rows) it ≡ starts_on program.now) }
+/// Where the skeletons of units begin, and which associations are candidates. Linear in their tapes, but for the members of the structs
+/// one of which an op names.
+fn starts_of(
+    alloc: Global,
+    program: &Program,
+    access: bool,
+    candidates: &mut PlaceFlags,
+) -> Result<Starts, NoMemory>
+    ensures starts { IfOk result
+        (λ it. map (start_in program.now.rows) it ≡ starts_on access program.now) }
+    ensures selections { OnOk result
+        (AddsSelections candidates.old candidates.new (selections_on program.now)) }
 {
     let mut found = Starts::new(alloc);
     let units = program.units();
@@ -60,10 +76,12 @@ fn starts_of(alloc: Global, program: &Program) -> Result<Starts, NoMemory>
         add_starts(
             alloc,
             &mut found,
+            candidates,
             &unit.spelling,
             program.found_names(),
             program.types(),
             program.implicit(),
+            access,
             &unit.ops,
         )?;
     }
@@ -71,12 +89,20 @@ fn starts_of(alloc: Global, program: &Program) -> Result<Starts, NoMemory>
 }
 
 /// Numbers the skeletons and the call sites of units. Linear in the variables.
-fn number(alloc: Global, program: &Program, starts: &[Start]) -> Result<Numbering, GenerateFault>
-    requires { map (start_in program.now.rows) starts.now ≡ starts_on program.now }
-    ensures numbers { IfOk result (λ it. IsNumberingOf program.now it) }
-    ensures few { OnOk result (variables_among (starts_on program.now) ≤ most_variables) }
+fn number(
+    alloc: Global,
+    program: &Program,
+    access: bool,
+    starts: &[Start],
+    candidates: PlaceFlags,
+) -> Result<Numbering, GenerateFault>
+    requires starts { map (start_in program.now.rows) starts.now ≡ starts_on access program.now }
+    requires candidates { (p : Place) (n : ℕ)
+        → flag_at candidates p n ≡ flag_among (selections_on program.now) p n }
+    ensures numbers { IfOk result (λ it. IsNumberingOf access program.now it) }
+    ensures few { OnOk result (variables_among (starts_on access program.now) ≤ most_variables) }
     ensures too_many { IsErrOf result GenerateFault.TooManyVariables
-        → most_variables < variables_among (starts_on program.now) }
+        → most_variables < variables_among (starts_on access program.now) }
     ensures apart { IsErrOf result GenerateFault.TooManyConstraints → ⊥ }
 {
     let functions = match functions_of(alloc, program.types(), program.found_names()) {
@@ -92,6 +118,7 @@ fn number(alloc: Global, program: &Program, starts: &[Start]) -> Result<Numberin
             skeletons,
             graph,
             places,
+            candidates,
         }),
         Err(NoMemory) => Err(GenerateFault::NoMemory),
     }
@@ -102,19 +129,24 @@ fn number(alloc: Global, program: &Program, starts: &[Start]) -> Result<Numberin
 ///
 /// There may be too many variables, or want of memory; never too many constraints. Linear in the tapes and in the variables, but for
 /// growth and for the members of the structs one of which an op names; memory is linear in the tokens and in the variables.
-pub fn number_units(alloc: Global, program: &Program) -> Result<NumberedUnits, GenerateFault>
-    ensures numbers { IfOk result (λ it. IsNumberingOf program.now it.numbering) }
+pub fn number_units(
+    alloc: Global,
+    program: &Program,
+    access: bool,
+) -> Result<NumberedUnits, GenerateFault>
+    ensures numbers { IfOk result (λ it. IsNumberingOf access program.now it.numbering) }
     ensures starts { IfOk result
-        (λ it. map (start_in program.now.rows) it.starts ≡ starts_on program.now) }
-    ensures few { OnOk result (variables_among (starts_on program.now) ≤ most_variables) }
+        (λ it. map (start_in program.now.rows) it.starts ≡ starts_on access program.now) }
+    ensures few { OnOk result (variables_among (starts_on access program.now) ≤ most_variables) }
     ensures too_many { IsErrOf result GenerateFault.TooManyVariables
-        → most_variables < variables_among (starts_on program.now) }
+        → most_variables < variables_among (starts_on access program.now) }
     ensures apart { IsErrOf result GenerateFault.TooManyConstraints → ⊥ }
 {
-    let Ok(starts) = starts_of(alloc, program) else {
+    let mut candidates = PlaceFlags::new(alloc);
+    let Ok(starts) = starts_of(alloc, program, access, &mut candidates) else {
         return Err(GenerateFault::NoMemory);
     };
-    let numbering = number(alloc, program, starts.as_slice())?;
+    let numbering = number(alloc, program, access, starts.as_slice(), candidates)?;
     Ok(NumberedUnits { starts, numbering })
 }
 
@@ -131,7 +163,7 @@ pub fn constrain_units(
     marks: &PlaceMap<(LatticeNo, Elem)>,
     numbering: Numbering,
 ) -> Result<UnitSystem, GenerateFault>
-    requires { IsNumberingOf program.now numbering }
+    requires { IsNumberingOf (has_access lattices.now) program.now numbering }
     ensures system { IfOk result (λ it. it.graph
         ≡ system_on (meant_by lattices.now marks.now prelude.now) program.now) }
     ensures skeletons { IfOk result (λ it. it.skeletons ≡ numbering.skeletons) }
@@ -146,6 +178,7 @@ pub fn constrain_units(
         skeletons,
         mut graph,
         places,
+        candidates,
     } = numbering;
     // Most programs have fewer constraints than variables.
     graph.reserve(skeletons.vars().count());
@@ -155,7 +188,9 @@ pub fn constrain_units(
         vars: skeletons.vars(),
         starts: skeletons.starts(),
         sites: &places,
+        candidates: &candidates,
         lattices,
+        access: access_lattices(lattices),
         marks,
         prelude,
     };

@@ -17,6 +17,7 @@ fault_in (faults.ArgCount unit token) = Some (fault_where unit token rules.argum
 fault_in (faults.NotPlace unit token) = Some (fault_where unit token rules.not_place)
 fault_in (faults.DefinedTwice unit token) = Some (fault_where unit token rules.defined_twice)
 fault_in (faults.TypeTooLarge unit token) = Some (fault_where unit token rules.type_too_large)
+fault_in (faults.NoType unit token) = Some (fault_where unit token rules.no_type)
 fault_in faults.NoMemory = None
 
 -- memory was wanting, or it is the first of some faults

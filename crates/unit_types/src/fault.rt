@@ -26,6 +26,8 @@ pub enum ShapeFault {
     DefinedTwice(UnitNo, TokenId),
     /// A declared type or a type's name has over 4,096 constructors.
     TypeTooLarge(UnitNo, TokenId),
+    /// An expression that a type is made by has none by what is known behind it.
+    NoType(UnitNo, TokenId),
     /// There was not enough memory.
     NoMemory,
 }
@@ -44,5 +46,6 @@ pub(crate) fn found(fault: &Fault) -> ShapeFault
         Rule::NotPlace => ShapeFault::NotPlace(unit, token),
         Rule::DefinedTwice => ShapeFault::DefinedTwice(unit, token),
         Rule::TypeTooLarge => ShapeFault::TypeTooLarge(unit, token),
+        Rule::NoType => ShapeFault::NoType(unit, token),
     }
 }

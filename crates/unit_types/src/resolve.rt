@@ -13,12 +13,13 @@ ghost use Rattle.unit_types.specs.Resolved.{tapes_of, names_on, faults_among, fa
 use crate::fault::{ShapeFault, found};
 use crate::program::{Program, UnitTape};
 use c_names::name_unit;
+use found_names::FoundNames;
 use name_types::Types;
 use qual_base::NoMemory;
 use std::alloc::Global;
 use type_table::TypeTable;
 use unit_names::Names;
-use unit_shapes::{Fault, FoundNames, ImplicitTypes, first_of_names, judge_tape, keep_of_names};
+use unit_shapes::{Fault, ImplicitTypes, first_of_names, judge_tape, keep_of_names};
 
 /// Units with their first fault, if they have one.
 #[derive(Drop)]
@@ -28,13 +29,20 @@ struct Judged {
 }
 
 /// The names of units and their types, one unit behind the other.
-fn name_units(alloc: Global, types: &mut Types, units: &[UnitTape]) -> Result<Names, NoMemory>
-    ensures { IfOk result (λ names. (t : ℕ → CType) → Knows t types.new
+fn name_units(
+    alloc: Global,
+    types: &mut Types,
+    implicit: &ImplicitTypes,
+    units: &[UnitTape],
+) -> Result<Names, NoMemory>
+    requires { AreImplicit types.old implicit.now }
+    ensures named { IfOk result (λ names. (t : ℕ → CType) → Knows t types.new
         → names_of t names ≡ names_on (tapes_of units.now)) }
+    ensures implicit { OnOk result (AreImplicit types.new implicit.now) }
 {
     let mut names = Names::new(alloc)?;
     for unit in units {
-        names = name_unit(alloc, names, &unit.spelling, types, &unit.ops)?;
+        names = name_unit(alloc, names, &unit.spelling, types, implicit, &unit.ops)?;
     }
     Ok(names)
 }
@@ -44,7 +52,7 @@ fn first_of_declarations(alloc: Global, names: &FoundNames) -> Result<Option<Fau
     ensures { IfOk result (λ first. (t : ℕ → CType) → IsFirstOf (some_fault_of first)
         ((names_of t names.now).faults ++ body_faults (names_of t names.now))) }
 {
-    let mut best = first_of_names(names);
+    let mut best = first_of_names(names.names());
     let bodies = names.body_faults(alloc)?;
     keep_of_names(&mut best, &bodies);
     Ok(best)
@@ -70,7 +78,7 @@ fn first_fault(
             alloc,
             &mut best,
             &unit.spelling,
-            names,
+            names.names(),
             types,
             implicit,
             &unit.ops,
@@ -88,8 +96,8 @@ fn judge(alloc: Global, units: Vec<UnitTape>) -> Result<Judged, NoMemory>
         (faults_on (tapes_of units.items))) }
 {
     let mut types = Types::new(alloc)?;
-    let named = name_units(alloc, &mut types, &units)?;
     let implicit = ImplicitTypes::push(alloc, &mut types)?;
+    let named = name_units(alloc, &mut types, &implicit, &units)?;
     let found = FoundNames::new(alloc, named)?;
     let first = first_fault(alloc, &found, types.table(), &implicit, &units)?;
     let program = Program {

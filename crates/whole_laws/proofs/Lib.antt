@@ -1,5 +1,6 @@
 mod Parts
 mod Programs
+mod Selections
 mod Starts
 mod Uses
 mod Whole

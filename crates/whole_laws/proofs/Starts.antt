@@ -1,6 +1,8 @@
 -- Skeletons begin along tapes at the places of their ops, one an op at most.
-use Rattle.std.proofs.Common.{◌≡◌, ℕ, Bool, true, false, List, [], ◌∷◌, ◌++◌, Option, None, Some, refl, sym, ap, subst}
+use Rattle.std.proofs.Common.{◌≡◌, ℕ, Bool, true, false, All, List, [], ◌∷◌, ◌++◌, Option, None, Some, refl, sym, ap, subst}
 use Rattle.std.specs.Prelude.{not, ◌&&◌, if◌then◌else◌}
+use Rattle.c_words.specs.declared.kinds.Punct.{Punct}
+use Rattle.c_words.specs.declared.kinds.Punct.TheVariants as signs
 use Rattle.tape_ops.specs.declared.op.Op.{Op}
 use Rattle.tape_ops.specs.declared.op.Op.TheVariants as ops
 use Rattle.tape_ops.specs.declared.expression.ExprOp.{ExprOp}
@@ -19,16 +21,16 @@ use Rattle.name_rules.specs.Spellings.{Spelling, Place, place}
 use Rattle.name_rules.specs.Scopes.{Role, typedef_role, object_role, function_role, parameter_role, field_role, enumerator_role, Declared, declared_at, Use, means, called, missing, Names}
 use Rattle.name_rules.specs.Linking.{link_of}
 use Rattle.name_rules.specs.Uses.{use_at, text_type}
-use Rattle.name_rules.specs.Values.{undeclared_function}
+use Rattle.name_rules.specs.Values.{undeclared_function, Shape, address, pick_shape, is_fresh_pick}
 use Rattle.type_rules.specs.Program.{Source, names_of}
 use Rattle.shape_steps.specs.State.{State, nothing, value_at, is_zero_at, type_at, shape_at, type_of_operand, first_operand, operands_below}
-use Rattle.shape_steps.specs.Steps.{step, expr_step}
-use Rattle.row_rules.specs.Starting.{Start, Around, fresh, some_fresh, declared_start, some_declared_start, instance, use_by_role, some_use_start, use_start, some_place, is_some_pointer, is_fresh_binary, is_fresh_prefix, fresh_where, Having, with_skeleton, of_function, without_skeleton, had_name}
+use Rattle.shape_steps.specs.Steps.{chosen, step, expr_step}
+use Rattle.row_rules.specs.Starting.{Start, Around, fresh, some_fresh, declared_start, some_declared_start, instance, use_by_role, some_use_start, use_start, some_place, is_some_pointer, is_fresh_binary, is_fresh_prefix, prefix_starts, fresh_where, Having, with_skeleton, of_function, without_skeleton, had_name}
 use Rattle.row_rules.specs.Sites.{AreDifferent}
 use Rattle.row_steps.specs.Rounds.{Rounds, file, naming, left, round_step}
-use Rattle.row_steps.specs.Starting.{around, naming_has, expr_op_starts, form_op_starts, init_op_starts, spec_op_starts, declr_op_starts, op_starts, starts_found, unit_starts}
+use Rattle.row_steps.specs.Starting.{around, naming_has, selected_among, expr_op_starts, form_op_starts, init_op_starts, spec_op_starts, declr_op_starts, op_starts, starts_found, unit_starts}
 use Rattle.constraint_rules.specs.Systems.{starts_of}
-use Rattle.start_laws.specs.Laws.{StartsOfProgramAreFound, found_on}
+use Rattle.start_laws.specs.Laws.{IsSound, StartsOfProgramAreFound, found_on}
 use Rattle.key_laws.specs.Keys.{expr_key, form_key, init_key, spec_key, declr_key, op_key, key_place, key_places}
 use Rattle.key_laws.specs.Differing.{keys_among}
 use Rattle.scope_laws.proofs.Places.{declared_place}
@@ -64,6 +66,10 @@ module _ (a : Around) (token : ℕ) where
   where_at : (b : Bool) (xs : List Start) → AtToken xs → AtToken (fresh_where b xs)
   where_at true xs h = h
   where_at false xs h = nothing_at
+
+  prefix_at : (sign : Punct) (carries : Bool) (e : Shape) → AtToken (prefix_starts sign carries a token e)
+  prefix_at signs.Ampersand carries e = where_at carries _ (some_fresh_at (address e))
+  prefix_at sign carries e = where_at (is_fresh_prefix sign) _ (fresh_at (base []))
 
   instance_at : (p : Place) (t : CType) → AtToken (instance a token p t)
   instance_at p t = by a.is_quiet
@@ -140,7 +146,8 @@ module _ (u : Spelling) (s : Names) (st : State) (r : Rounds) where
   expr_part (exprs.Binary sign token first last) =
       where_at here token (is_fresh_binary sign (is_some_pointer (value_at 1 st)) (is_some_pointer (value_at 0 st))) _
       (fresh_at here token (base []))
-  expr_part (exprs.Prefix sign token last) = where_at here token (is_fresh_prefix sign) _ (fresh_at here token (base []))
+  expr_part (exprs.Prefix sign token last aims) = prefix_at here token sign (aims && r.access) (shape_at 0 st)
+  expr_part (exprs.Label token) = fresh_at here token (pointer [] (void []))
   expr_part op = none
 
   form_part : (op : FormOp) → Part (form_op_starts u s st r op) (form_key op)
@@ -153,6 +160,14 @@ module _ (u : Spelling) (s : Names) (st : State) (r : Rounds) where
   form_part (forms.OffsetMember token name) = none
   form_part (forms.OffsetIndex token) = none
   form_part (forms.Offset token) = fresh_at (around u s (left r)) token (base [])
+  form_part (forms.Compat token) = fresh_at (around u s (left r)) token (base [])
+  form_part forms.Control = none
+  form_part forms.NoType = none
+  form_part (forms.Choose token) =
+      where_at here token (is_fresh_pick (chosen st)) _ (some_fresh_at here token (pick_shape (chosen st)).type)
+  form_part (forms.Generic token count) =
+      let its = selected_among count st in
+      where_at here token (is_fresh_pick its) _ (some_fresh_at here token (pick_shape its).type)
 
   init_part : (op : InitOp) → Part (init_op_starts u s st r op) (init_key op)
   init_part (inits.Literal token) =
@@ -188,15 +203,16 @@ tape_part u s (op ∷ tape) st r =
     (sym (starts_joined (op_starts u s st r op) (starts_found u s next around_next tape)))
     (joined_part (op_part u s st r op) (tape_part u s tape next around_next))
 
-sources_part : (s : Names) (sources : List Source) → IsPart (start_places (found_on s sources)) (keys_among sources)
-sources_part s [] = none
-sources_part s (it ∷ sources) =
+sources_part : (access : Bool) (s : Names) (sources : List Source) →
+    IsPart (start_places (found_on access s sources)) (keys_among sources)
+sources_part access s [] = none
+sources_part access s (it ∷ sources) =
     subst (λ (ps : List Place). IsPart ps (key_places it.spelling (tape_of it.items) ++ keys_among sources))
-    (sym (starts_joined (unit_starts it.spelling s (tape_of it.items)) (found_on s sources)))
-    (joined_part (tape_part it.spelling s (tape_of it.items) nothing file) (sources_part s sources))
+    (sym (starts_joined (unit_starts access it.spelling s (tape_of it.items)) (found_on access s sources)))
+    (joined_part (tape_part it.spelling s (tape_of it.items) nothing (file access)) (sources_part access s sources))
 
-pub starts_differ : StartsOfProgramAreFound → (sources : List Source) → AreDifferent (keys_among sources) →
-    AreDifferent (start_places (starts_of sources))
-starts_differ found sources differ =
-    subst (λ (starts : List Start). AreDifferent (start_places starts)) (found sources)
-    (part_differs (sources_part (names_of sources) sources) differ)
+pub starts_differ : StartsOfProgramAreFound → (sources : List Source) → All IsSound sources →
+    AreDifferent (keys_among sources) → (access : Bool) → AreDifferent (start_places (starts_of access sources))
+starts_differ found sources sound differ access =
+    subst (λ (starts : List Start). AreDifferent (start_places starts)) (found access sources sound)
+    (part_differs (sources_part access (names_of sources) sources) differ)

@@ -15,15 +15,18 @@ use Rattle.tape_ops.specs.declared.declarator.DeclrOp.{DeclrOp}
 use Rattle.tape_ops.specs.declared.declarator.DeclrOp.TheVariants as declrs
 use Rattle.tape_ops.specs.declared.statement.StmtOp.{StmtOp}
 use Rattle.tape_ops.specs.declared.statement.StmtOp.TheVariants as stmts
-use Rattle.type_table.specs.Types.{CType}
+use Rattle.type_table.specs.Types.{CType, words_of}
 use Rattle.c_tape.specs.Tape.{tape_of}
 use Rattle.name_rules.specs.Spellings.{Spelling, Place, place, Named}
-use Rattle.name_rules.specs.Scopes.{object_role, Declared, NameUse, Names, is_at_file, innermost, tag_in, tag_through, body_of, has_body, sized, is_place, with_key}
-use Rattle.name_rules.specs.Pieces.{is_function, decayed}
+use Rattle.name_rules.specs.Scopes.{object_role, Declared, NameUse, Names, is_at_file, innermost, tag_in, tag_through, body_of, has_body, sized, is_place, with_key, with_faults}
+use Rattle.name_rules.specs.Pieces.{is_function, decayed, with_words}
+use Rattle.name_rules.specs.Values.{value}
 use Rattle.name_rules.specs.Declaring.{Numbered, found_or_new, tag_used, untagged, untagged_number, opened, tag_known, begun_in, linked, thing_where, static_where, declared_by, declared_here, declared_thing, declared_typedef, typedef_known, declared_some, declared_param, declared_member, has_word, keep}
+use Rattle.name_rules.specs.Faults.{no_type, undeclared, fault_where}
+use Rattle.name_rules.specs.Identifiers.{OldParameter, Olds, number_of_identifier, old_declared, old_declared_some, is_unknown, old_faults}
 use Rattle.name_rules.specs.Units.{no_names, unit_begun}
-use Rattle.name_steps.specs.State.{State, with_names}
-use Rattle.name_steps.specs.Steps.{declaration, body, parameters, expression_step, specifier_step, declarator_step, body_entered_by, is_plain, statement_step, step, run}
+use Rattle.name_steps.specs.State.{State, with_names, with_innermost}
+use Rattle.name_steps.specs.Steps.{declaration, body, parameters, expression_step, specifier_step, shape_of_part, part_ended, bare_or_base, olds, with_olds, name_ended, name_declared, declarator_step, body_entered_by, is_counted, is_plain, statement_step, step, run}
 use Rattle.name_steps.specs.Units.{tapes_named}
 use Rattle.type_rules.specs.Program.{Source, names_of}
 use Rattle.name_laws.specs.NameLaws.{IsSound, NamesOfTapes, tape_of_source}
@@ -115,9 +118,27 @@ keep_same : (own : Option Place) (s : Names) → (keep own s).uses ≡ s.uses
 keep_same None s = refl
 keep_same (Some own) s = refl
 
-entered_same : (is_plain : Bool) (d : Option Declared) (s : Names) → (body_entered_by is_plain d s).uses ≡ s.uses
-entered_same is_plain None s = refl
-entered_same is_plain (Some d) s = refl
+entered_same : (plain counted : Bool) (d : Option Declared) (s : Names) → (body_entered_by plain counted d s).uses ≡ s.uses
+entered_same plain counted None s = refl
+entered_same plain true (Some d) s = refl
+entered_same plain false (Some d) s = refl
+
+-- lists of identifiers
+
+unknown_same : (u : Spelling) (its : List OldParameter) (s : Names) → (old_faults u its s).uses ≡ s.uses
+unknown_same u [] s = refl
+unknown_same u (it ∷ its) s =
+    unknown_same u its (with_faults (fault_where (is_unknown it.type) (place u it.token) undeclared) s)
+
+old_same : (u : Spelling) (own : Option Place) (it : Named) (t : CType) (i : Option ℕ) (olds : Olds) →
+    (old_declared u own it t i olds).names.uses ≡ olds.names.uses
+old_same u own it t None olds = refl
+old_same u own it t (Some i) olds = refl
+
+some_old_same : (u : Spelling) (own : Option Place) (it : Option Named) (t : CType) (olds : Olds) →
+    (old_declared_some u own it t olds).names.uses ≡ olds.names.uses
+some_old_same u own None t olds = refl
+some_old_same u own (Some it) t olds = old_same u own it t (number_of_identifier (u.key it.name) olds.list) olds
 
 -- steps
 
@@ -134,20 +155,41 @@ module _ (u : Spelling) where
       begun_same (has_body (body_of it.names.aggregates it.number)) (place u token) kind None it
   spec_same st op = refl
 
+  name_same : (st : State) → (name_declared u st).names.uses ≡ st.names.uses
+  name_same st =
+      some_same u (untagged_number (declaration st).is_untagged (declaration st).type) (declaration st).name
+      (declaration st).storage (declaration st).declared st.names
+
   declr_same : (st : State) (op : DeclrOp) → (declarator_step u st op).names.uses ≡ st.names.uses
   declr_same st declrs.Param =
       param_same u (declaration st).name (length (parameters st).types) (parameters st).own
       (decayed (declaration st).declared) st.names
-  declr_same st declrs.ParamsEnd = keep_same (parameters st).own st.names
-  declr_same st declrs.Declare =
-      some_same u (untagged_number (declaration st).is_untagged (declaration st).type) (declaration st).name
-      (declaration st).storage (declaration st).declared st.names
+  declr_same st declrs.ParamsEnd =
+      keep_same (parameters st).own (old_faults u (parameters st).identifiers st.names)
+      ∙ unknown_same u (parameters st).identifiers st.names
+  declr_same st declrs.Declare = name_same st
+  declr_same st (declrs.AutoEnd token) =
+      let t = value (shape_of_part u st) in
+      name_same (record (part_ended st) {
+        names = with_faults (fault_where (is_unknown t) (place u token) no_type) st.names;
+        declarations = with_innermost
+            (record (declaration st) { declared = with_words (words_of (declaration st).type) (bare_or_base t) })
+            st.declarations;
+      })
+  declr_same st declrs.OldParam = by (has_word keywords.Typedef (declaration st).storage)
+    where
+      by : (b : Bool) → (if b then name_declared u st else name_ended (with_olds
+          (old_declared_some u (parameters st).own (declaration st).name (decayed (declaration st).declared) (olds st)) st)).names.uses
+          ≡ st.names.uses
+      by true = name_same st
+      by false =
+          some_old_same u (parameters st).own (declaration st).name (decayed (declaration st).declared) (olds st)
   declr_same st declrs.Member =
       member_same u (declaration st).name (body st).members_of (declaration st).declared st.names
   declr_same st op = refl
 
   stmt_same : (st : State) (op : StmtOp) → (statement_step u st op).names.uses ≡ st.names.uses
-  stmt_same st stmts.FunctionBody = entered_same (is_plain st) (last_or None st.names.declared) st.names
+  stmt_same st stmts.FunctionBody = entered_same (is_plain st) (is_counted u st) (last_or None st.names.declared) st.names
   stmt_same st op = refl
 
   module _ (st : State) (keys : List Place) (h : IsPart (use_places st.names.uses) keys) where

@@ -8,11 +8,12 @@ use Rattle.type_rules.specs.Program.{Source, names_of}
 use Rattle.name_laws.specs.NameLaws.{IsSound, NamesOfTapes}
 use Rattle.row_rules.specs.Sites.{AreDifferent, has_place}
 use Rattle.meaning_laws.specs.Meanings.{Differ}
-use Rattle.start_laws.specs.Laws.{StartsOfProgramAreFound}
+use Rattle.start_laws.specs.Laws.{SelectionsOfProgramAreFound, StartsOfProgramAreFound}
 use Rattle.key_laws.specs.Differing.{IsRead, KeysDiffer, keys_among}
 use Rattle.scope_laws.specs.Apart.{DeclarationsDiffer}
 use Rattle.missing_laws.specs.Programs.{declared_places}
 use Rattle.whole_laws.specs.Programs.{PlacesOfReadDiffer}
+use Rattle.whole_laws.proofs.Selections.{selections_differ}
 use Rattle.whole_laws.proofs.Starts.{starts_differ}
 use Rattle.whole_laws.proofs.Uses.{uses_differ}
 
@@ -36,12 +37,14 @@ sound_of (it ∷ sources) h =
     let read = All-head IsRead it sources h in
     All-cons IsSound it sources (read.all, read.rules) (sound_of sources (All-tail IsRead it sources h))
 
-pub places_differ : KeysDiffer → NamesOfTapes → DeclarationsDiffer → StartsOfProgramAreFound → PlacesOfReadDiffer
-places_differ keys names declarations starts sources read units =
+pub places_differ : KeysDiffer → NamesOfTapes → DeclarationsDiffer → StartsOfProgramAreFound → SelectionsOfProgramAreFound →
+    PlacesOfReadDiffer
+places_differ keys names declarations starts selections sources read units =
     let sound = sound_of sources read in
     let differ : AreDifferent (keys_among sources) = keys sources read units in
     record {
       declared = declared_differ (names_of sources).declared (declarations sources sound differ);
       uses = uses_differ names sources sound differ;
-      starts = starts_differ starts sources differ;
+      starts = starts_differ starts sources sound differ;
+      selections = selections_differ selections sources differ;
     }

@@ -8,11 +8,11 @@ use Rattle.key_laws.specs.Differing.{AreNumbered, IsRead, UnitsDiffer}
 use Rattle.first_laws.specs.Firsts.{NamesDiffer}
 use Rattle.missing_laws.specs.Programs.{EachHasSkeletons, EachMissesNothing, PlacesDiffer}
 
--- A unit as it is read from text: it is what is well formed of some tokens, scopes of names included. No two tokens have one number, and
--- no two names have one number in all units.
+-- A unit as it is read from text, as wider C or not: it is what is well formed of some tokens, scopes of names included. No two tokens have
+-- one number, and no two names have one number in all units.
 pub record IsParsed (it : Source) : Type 0 where
   pub all : List Lexeme
-  pub formed : IsWellFormed all it.items
+  pub formed : IsWellFormed it.spelling.wide all it.items
   pub numbers : AreNumbered all
   pub names : NamesDiffer it.spelling all
 

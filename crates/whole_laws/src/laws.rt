@@ -11,7 +11,7 @@ use key_laws::keys_differ;
 use missing_laws::{programs_have_skeletons, programs_miss_nothing};
 use name_laws::names_of_tapes;
 use scope_laws::declarations_differ;
-use start_laws::starts_of_program_are_found;
+use start_laws::{selections_of_program_are_found, starts_of_program_are_found};
 
 /// No two declarations, uses of names or skeletons are at one place, in units that are well formed of differently numbered tokens
 /// and have different numbers.
@@ -22,6 +22,7 @@ pub fn places_differ()
     names_of_tapes();
     declarations_differ();
     starts_of_program_are_found();
+    selections_of_program_are_found();
 }
 
 /// Each expression of a program that was read and has no fault, whose constraints count, has the skeleton of its type, or of a

@@ -88,20 +88,24 @@ late_fits {A} least room ts us q h = by_room (nat_le least room)
     by_room false = inl refl
 
 -- a question, behind whose token the second goes on where it has room
-pub both_fits : {A S D : Type 0} (least room wide : ℕ) (ts : List Lexeme) (r q : Read A) → room ≤ wide → (S → Late (behind_first ts) q) → Both S (least ≤ room) ts r q → Both S D ts (fits least room ts r) (fits least wide ts q)
+pub both_fits_in : {A S D : Type 0} (least room wide : ℕ) (ts : List Lexeme) (r q : Read A) → room ≤ wide → (S → least ≤ wide → Late (behind_first ts) q) → Both S (least ≤ room) ts r q →
+    Both S D ts (fits least room ts r) (fits least wide ts q)
 unfolding fits
-both_fits {A} {S} {D} least room wide ts r q less past h = record { late = late_fits least wide ts ts q h.late; pass = λ s d. by_room (nat_le least room) refl s }
+both_fits_in {A} {S} {D} least room wide ts r q less past h = record { late = late_fits least wide ts ts q h.late; pass = λ s d. by_room (nat_le least room) refl s }
   where
-    by_wide : (b : Bool) → S → Passes {A = A} ts (refuses TooDeep ts) (if b then q else refuses TooDeep ts)
-    by_wide true s = inr (record { at = ts; left = all_left ts; is = refl; late = past s })
-    by_wide false s = inl refl
+    by_wide : (b : Bool) → nat_le least wide ≡ b → S → Passes {A = A} ts (refuses TooDeep ts) (if b then q else refuses TooDeep ts)
+    by_wide true is s = inr (record { at = ts; left = all_left ts; is = refl; late = past s (leb-true least wide is) })
+    by_wide false is s = inl refl
 
     by_room : (b : Bool) → nat_le least room ≡ b → S → Passes ts (if b then r else refuses TooDeep ts) (if nat_le least wide then q else refuses TooDeep ts)
     by_room true is s =
         let low : least ≤ room = leb-true least room is in
         let lower : least ≤ wide = omega (arith, less, low) in
         subst (λ (b : Bool). Passes ts r (if b then q else refuses TooDeep ts)) (sym (le-leb least wide lower)) (h.pass s low)
-    by_room false is s = by_wide (nat_le least wide) s
+    by_room false is s = by_wide (nat_le least wide) refl s
+
+pub both_fits : {A S D : Type 0} (least room wide : ℕ) (ts : List Lexeme) (r q : Read A) → room ≤ wide → (S → Late (behind_first ts) q) → Both S (least ≤ room) ts r q → Both S D ts (fits least room ts r) (fits least wide ts q)
+both_fits least room wide ts r q less past h = both_fits_in least room wide ts r q less (λ s low. past s) h
 
 pub late_take : (s : HeldScopes) (ts : List Lexeme) → Late ts (take_one s ts)
 late_take s [] = inr (late_refused [])
@@ -176,6 +180,11 @@ both_run turn other m a s ts = both_turns turn other m (suc (length ts)) a s ts
 pub both_guarded : {A S D : Type 0} {ts : List Lexeme} (b : Bool) (r q : Read A) → (b ≡ true → Both S D ts r q) → BothTurn S D ts (if b then Some r else None) (if b then Some q else None)
 both_guarded true r q h = h refl
 both_guarded false r q h = tt
+
+-- a test that ends a loop
+pub both_unless : {A : Type 0} (S D : Type 0) (ts : List Lexeme) (b : Bool) (r q : Option (Read A)) → BothTurn S D ts r q → BothTurn S D ts (if b then None else r) (if b then None else q)
+both_unless S D ts true r q h = tt
+both_unless S D ts false r q h = h
 
 pub both_repeated : {T S D : Type 0} (begins : TokenKind → Bool) (read other : Reader T) → ((s : HeldScopes) (ts : List Lexeme) → begins (kind_at ts) ≡ true → Both S D ts (read s ts) (other s ts)) → (s : HeldScopes) (ts : List Lexeme) →
     Both S D ts (repeated begins read s ts) (repeated begins other s ts)

@@ -1,5 +1,8 @@
 -- The items of a unit with more room, the readers of all numbers, and units with more room.
-use Rattle.std.proofs.Common.{◌≡◌, ℕ, zero, suc, false, if◌then◌else◌, ◌∷◌, ◌⊎◌, inl, Ok, ◌+◌, ◌<◌, ◌≤◌, Bool, true, List, [], inr, Option, Some, None, refl, arith}
+use Rattle.c_reading.specs.declared.kinds.Role.TheVariants.{Declaring, Naming}
+use Rattle.c_tree.specs.WellFormed.{has_auto, lists_identifiers}
+use Rattle.std.proofs.Common.{◌≡◌, ℕ, zero, suc, false, if◌then◌else◌, ◌∷◌, ◌⊎◌, inl, Ok, ◌+◌, ◌<◌, ◌≤◌, Bool, true, List, [], inr, Option, Some, None, refl, subst, arith}
+use Rattle.c_reading.specs.Specifying.{begins_role}
 use Rattle.std.specs.Prelude.{◌-◌, not}
 use Rattle.c_words.specs.declared.kinds.TokenKind.{TokenKind}
 use Rattle.c_words.specs.declared.kinds.TokenKind.TheVariants as kinds
@@ -7,27 +10,27 @@ use Rattle.c_words.specs.declared.kinds.Punct.TheVariants as puncts
 use Rattle.typedef_scope.specs.declared.kind.Kind.{Kind}
 use Rattle.c_tree.specs.declared.lexeme.Lexeme.{Lexeme}
 use Rattle.c_syntax.specs.declared.parts.Attr.{Attr}
-use Rattle.c_tree.specs.Tree.{SpecWords, Declr, no_init, declaration}
+use Rattle.c_tree.specs.Tree.{no_words, SpecWords, Declr, no_init, declaration}
 use Rattle.c_tree.specs.Specifiers.{storage_words}
 use Rattle.c_tree.specs.Height.{declr_height}
 use Rattle.typedef_scope.specs.declared.kind.Kind.TheVariants.{Value}
-use Rattle.c_units.specs.HeldScopes.{HeldScopes, HeldScope, reopen, release}
+use Rattle.c_units.specs.HeldScopes.{HeldScopes, HeldScope, reopen, release, enter, innermost, leave}
 use Rattle.c_units.specs.Scoping.{has_typedef_word}
 use Rattle.c_reading.specs.declared.kinds.Mode.TheVariants.{Named}
 use Rattle.c_reading.specs.Reading.{Found, Read, Reader, Next, CommaList, comma_turn, comma_turn_by, with_next, is_comma, and_then, ends, run, listed, kind_at, behind_first, token_at}
 use Rattle.c_reading.specs.Tokens.{is_equal, is_open_brace, is_semicolon, is_asm, is_static_assert, is_end}
 use Rattle.c_reading.specs.Parts.{Inner, never, DeclrItem, init_declrs_from}
 use Rattle.c_reading.specs.Stating.{some_init_with, next_init_declr, declrs_with, declr_behind}
-use Rattle.c_reading.specs.Items.{goes_on_declared, function_with, attrs_behind, function_or_not, behind_function, behind_declr, first_declr, declared_item, asm_item_with, item_with, items_with}
+use Rattle.c_reading.specs.Items.{goes_on_declared, function_with, attrs_behind, function_or_not, behind_function, behind_declr, first_declr, declared_item, asm_item_with, item_with, items_with, old_declaration, old_function_with}
 use Rattle.c_tree.specs.Unit.{Item}
 use Rattle.c_reading.specs.Knot.{tied, knot, alone}
 use Rattle.room_laws.specs.Rooms.{number_of, unit_of}
-use Rattle.wide_laws.specs.Wide.{Late, Both, InnerBoth, WithMoreRoomItPasses}
+use Rattle.wide_laws.specs.Wide.{Near, Late, Both, InnerBoth, WithMoreRoomItPasses}
 use Rattle.wide_laws.proofs.Both.{both_guarded, run_ends, all_left, late_bind, late_if, late_refused, past_take, late_down, behind_left, ready, refused, when, both_same, both_bind, both_behind, both_then, both_asks, both_fits, both_if, both_choice, both_commas, past_run, BothTurn, both_repeated}
 use Rattle.wide_laws.proofs.Words.{late_token, past_token, late_group, assert_both, attrs_both, exts_both}
 use Rattle.wide_laws.proofs.Exprs.{expr_both, whole_past, assigned_past, expr_past}
 use Rattle.wide_laws.proofs.Specs.{specs_here_both, specs_two, specs_both, specs_past, late_present}
-use Rattle.wide_laws.proofs.Declr.{declr_both, type_name_both}
+use Rattle.wide_laws.proofs.Declr.{declr_both, type_name_both, type_name_past}
 use Rattle.wide_laws.proofs.Stmts.{init_both, past_label, init_list_both, init_list_past, some_init_both, declr_behind_both, next_init_declr_both, declrs_both, bare_both, declaration_behind_both, block_body_both, block_both, stmt_both}
 
 -- a semicolon is no comma
@@ -66,17 +69,17 @@ commas_end {T} {E} next a s ts is = run_ends (comma_turn next) a s ts (no_turn a
     no_turn None [] is = refl
     no_turn None (t ∷ ts) is = rw (no_comma t.kind is) refl
 
-module _ {S : Type 0} (n : ℕ) (inner other : Inner) (m : InnerBoth S n inner other) where
+module _ {S : Type 0} (n gap : ℕ) (inner other : Inner) (m : InnerBoth S n gap inner other) where
   -- Items of a unit.
 
-  module _ (room wide : ℕ) (less : room < suc n) (wider : room ≤ wide) where
+  module _ (room wide : ℕ) (less : room < suc n) (wider : Near gap room wide) where
     attrs_behind_both : (d : Declr) (attrs : List Attr) (s : HeldScopes) (ts : List Lexeme) → Both S (2 ≤ room) ts (attrs_behind inner d attrs (room - 1) s ts) (attrs_behind other d attrs (wide - 1) s ts)
     unfolding attrs_behind
     attrs_behind_both d attrs s ts =
-        both_bind _ _ _ _ (when (λ two. omega (arith, two)) (some_init_both n inner other m (room - 1) (wide - 1) (omega (arith, less)) (omega (arith, wider)) s ts)) (λ init. ready _)
+        both_bind _ _ _ _ (when (λ two. omega (arith, two)) (some_init_both n gap inner other m (room - 1) (wide - 1) (omega (arith, less)) (omega (arith, wider)) s ts)) (λ init. ready _)
 
     next_late : (kind : Kind) (comma : ℕ) (s : HeldScopes) (ts : List Lexeme) → Late ts (next_init_declr other kind (wide - 1) comma s ts)
-    next_late kind comma s ts = (next_init_declr_both n inner other m (room - 1) (wide - 1) (omega (arith, less)) (omega (arith, wider)) kind comma s ts).late
+    next_late kind comma s ts = (next_init_declr_both n gap inner other m (room - 1) (wide - 1) (omega (arith, less)) (omega (arith, wider)) kind comma s ts).late
 
     -- behind a first that goes on behind the first token
     declrs_past : (exts : List ℕ) (words : SpecWords) (kind : Kind) (first : Reader DeclrItem) (s : HeldScopes) (ts : List Lexeme) → Late (behind_first ts) (first s ts) → Late (behind_first ts) (declrs_with other exts words kind wide first s ts)
@@ -112,7 +115,7 @@ module _ {S : Type 0} (n : ℕ) (inner other : Inner) (m : InnerBoth S n inner o
     attrs_behind_past d attrs s ts is =
         late_bind (behind_first ts) _ _
         (late_if (behind_first ts) (is_equal (kind_at ts)) _ _
-        (λ on. past_take s ts _ (λ equal. late_bind equal.rest _ _ (init_both n inner other m (room - 1 - 1) (wide - 1 - 1) (omega (arith, wider)) equal.scopes equal.rest).late (λ init. all_left init.rest))) (λ off. absurd cc))
+        (λ on. past_take s ts _ (λ equal. late_bind equal.rest _ _ (init_both n gap inner other m (room - 1 - 1) (wide - 1 - 1) (omega (arith, wider)) equal.scopes equal.rest).late (λ init. all_left init.rest))) (λ off. absurd cc))
         (λ init. all_left init.rest)
 
     attrs_behind_is : (d : Declr) (attrs : List Attr) (s : HeldScopes) (ts : List Lexeme) → is_equal (kind_at ts) ≡ false →
@@ -135,54 +138,74 @@ module _ {S : Type 0} (n : ℕ) (inner other : Inner) (m : InnerBoth S n inner o
     unfolding function_or_not function_with
     function_or_not_both exts words d attrs closed s ts =
         both_if (is_open_brace (kind_at ts)) _ _ _ _
-        (both_bind _ _ _ _ (when (λ two. omega (arith, two)) (block_body_both n inner other m (room - 1) (wide - 1) (omega (arith, less)) (omega (arith, wider)) (reopen closed s) ts).both) (λ body. ready _))
+        (both_bind _ _ _ _ (when (λ two. omega (arith, two)) (block_body_both n gap inner other m (room - 1) (wide - 1) (omega (arith, less)) (omega (arith, wider)) (reopen closed s) ts).both) (λ body. ready _))
         (both_choice (goes_on_declared (kind_at ts)) _ _ _ _
-        (λ is. both_fits (2 + declr_height d) room wide ts _ _ wider (λ strict. late_bind (behind_first ts) _ _ (goes_past exts words d attrs s ts is) (λ d. all_left d.rest))
-        (when (λ fit. omega (arith, fit)) (both_bind _ _ _ _ (declrs_both n inner other m room wide less wider exts words Value _ _ s ts (attrs_behind_both d attrs s ts)) (λ d. ready _)))) (λ off. refused _ ts))
+        (λ is. both_fits (2 + declr_height d) room wide ts _ _ wider.0 (λ strict. late_bind (behind_first ts) _ _ (goes_past exts words d attrs s ts is) (λ d. all_left d.rest))
+        (when (λ fit. omega (arith, fit)) (both_bind _ _ _ _ (declrs_both n gap inner other m room wide less wider exts words Value _ _ s ts (attrs_behind_both d attrs s ts)) (λ d. ready _)))) (λ off. refused _ ts))
 
     declared_both : (d : Declr) (s : HeldScopes) (ts : List Lexeme) → Both S (2 ≤ room) ts (declr_behind inner [] d (room - 1) s ts) (declr_behind other [] d (wide - 1) s ts)
-    declared_both d s ts = when (λ two. omega (arith, two)) (declr_behind_both n inner other m (room - 1) (wide - 1) (omega (arith, less)) (omega (arith, wider)) [] d s ts)
+    declared_both d s ts = when (λ two. omega (arith, two)) (declr_behind_both n gap inner other m (room - 1) (wide - 1) (omega (arith, less)) (omega (arith, wider)) [] d s ts)
 
     declr_behind_past : (d : Declr) (s : HeldScopes) (ts : List Lexeme) → is_asm (kind_at ts) ≡ true → Late (behind_first ts) (declr_behind other [] d (wide - 1) s ts)
     unfolding declr_behind
     declr_behind_past d s ts is =
         late_bind (behind_first ts) _ _ (past_label s ts is) (λ name. late_bind name.rest _ _ (attrs_both {S = ⊥} {D = ⊥} (room - 1) (wide - 1) (omega (arith, wider)) name.scopes name.rest).late
-        (λ attrs. late_bind attrs.rest _ _ (some_init_both n inner other m (room - 1) (wide - 1) (omega (arith, less)) (omega (arith, wider)) attrs.scopes attrs.rest).late (λ init. all_left init.rest)))
+        (λ attrs. late_bind attrs.rest _ _ (some_init_both n gap inner other m (room - 1) (wide - 1) (omega (arith, less)) (omega (arith, wider)) attrs.scopes attrs.rest).late (λ init. all_left init.rest)))
 
     behind_declr_both : (exts : List ℕ) (words : SpecWords) (d : Declr) (closed : Option HeldScope) (s : HeldScopes) (ts : List Lexeme) →
         Both S (2 ≤ room) ts (behind_declr inner exts words d closed room s ts) (behind_declr other exts words d closed wide s ts)
     unfolding behind_function
-    behind_declr_both exts words d None s ts = both_bind _ _ _ _ (declrs_both n inner other m room wide less wider exts words Value _ _ s ts (declared_both d s ts)) (λ d. ready _)
+    behind_declr_both exts words d None s ts = both_bind _ _ _ _ (declrs_both n gap inner other m room wide less wider exts words Value _ _ s ts (declared_both d s ts)) (λ d. ready _)
     behind_declr_both exts words d (Some closed) s ts =
         both_choice (is_asm (kind_at ts)) _ _ _ _
-        (λ is. both_fits (2 + declr_height d) room wide ts _ _ wider
+        (λ is. both_fits (2 + declr_height d) room wide ts _ _ wider.0
         (λ strict. late_bind (behind_first ts) _ _ (declrs_past exts words Value (declr_behind other [] d (wide - 1)) s ts (declr_behind_past d s ts is)) (λ d. all_left d.rest))
-        (when (λ fit. omega (arith, fit)) (both_bind _ _ _ _ (declrs_both n inner other m room wide less wider exts words Value _ _ s ts (declared_both d s ts)) (λ d. ready _))))
-        (λ off. both_bind _ _ _ _ (attrs_both room wide wider s ts) (λ attrs. function_or_not_both exts words d attrs.tree closed attrs.scopes attrs.rest))
+        (when (λ fit. omega (arith, fit)) (both_bind _ _ _ _ (declrs_both n gap inner other m room wide less wider exts words Value _ _ s ts (declared_both d s ts)) (λ d. ready _))))
+        (λ off. both_bind _ _ _ _ (attrs_both room wide wider.0 s ts) (λ attrs. function_or_not_both exts words d attrs.tree closed attrs.scopes attrs.rest))
+
+    -- declarations behind a list of identifiers
+    old_declaration_both : {D : Type 0} (s : HeldScopes) (ts : List Lexeme) → Both S D ts (old_declaration inner (room - 1) s ts) (old_declaration other (wide - 1) s ts)
+    unfolding old_declaration
+    old_declaration_both s ts =
+        both_bind _ _ _ _ (exts_both (room - 1) (wide - 1) (omega (arith, wider)) s ts)
+        (λ exts. both_behind _ _ _ _ (specs_here_both n gap inner other m (room - 1) (wide - 1) (omega (arith, less)) (omega (arith, wider)) Declaring exts.scopes exts.rest)
+        (λ words. when (λ d. specs_two n gap inner other m Declaring (room - 1) exts.scopes exts.rest words d.1)
+        (declaration_behind_both n gap inner other m (room - 1) (wide - 1) (omega (arith, less)) (omega (arith, wider)) exts.tree words.tree words.scopes words.rest)))
+
+    old_function_both : (exts : List ℕ) (words : SpecWords) (d : Declr) (s : HeldScopes) (ts : List Lexeme) → Both S (2 ≤ room) ts (old_function_with inner exts words d room s ts) (old_function_with other exts words d wide s ts)
+    unfolding old_function_with
+    old_function_both exts words d s ts =
+        both_bind _ _ _ _ (attrs_both room wide wider.0 s ts)
+        (λ attrs. both_bind _ _ _ _ (both_repeated (λ kind. not (is_open_brace kind)) (old_declaration inner (room - 1)) (old_declaration other (wide - 1)) (λ s ts is. old_declaration_both s ts) (enter attrs.scopes) attrs.rest)
+        (λ ds. both_bind _ _ _ _
+        (when (λ two. omega (arith, two)) (block_body_both n gap inner other m (room - 1) (wide - 1) (omega (arith, less)) (omega (arith, wider)) (reopen (innermost ds.scopes) (release Value (leave ds.scopes))) ds.rest).both)
+        (λ body. ready _)))
 
     first_declr_both : (exts : List ℕ) (words : SpecWords) (s : HeldScopes) (ts : List Lexeme) → Both S (2 ≤ room) ts (first_declr inner exts words room s ts) (first_declr other exts words wide s ts)
     unfolding first_declr
     first_declr_both exts words s ts =
         both_bind _ _ _ _ (when (λ two. omega (arith, less, two)) (m.declrs Named (Some Value) true (room - 2) (wide - 2) (omega (arith, wider)) s ts))
-        (λ d. both_then _ _ _ (late_present d.tree.declr d.scopes d.rest) (λ known. behind_declr_both exts words known.tree d.tree.closed (release Value known.scopes) known.rest))
+        (λ d. both_then _ _ _ (late_present d.tree.declr d.scopes d.rest) (λ known. both_if (lists_identifiers known.tree) _ _ _ _ (old_function_both exts words known.tree known.scopes known.rest)
+        (behind_declr_both exts words known.tree d.tree.closed (release Value known.scopes) known.rest)))
 
-  module _ (room wide : ℕ) (less : room < suc n) (wider : room ≤ wide) where
+  module _ (room wide : ℕ) (less : room < suc n) (wider : Near gap room wide) where
     declared_item_both : {D : Type 0} (s : HeldScopes) (ts : List Lexeme) → Both S D ts (declared_item inner room s ts) (declared_item other wide s ts)
     unfolding declared_item
     declared_item_both s ts =
-        both_bind _ _ _ _ (exts_both room wide wider s ts) (λ exts. both_behind _ _ _ _ (specs_here_both n inner other m room wide less wider exts.scopes exts.rest)
-        (λ words. when (λ d. specs_two n inner other m room exts.scopes exts.rest words d.1)
-        (both_if (is_semicolon (kind_at words.rest)) _ _ _ _ (both_bind _ _ _ _ (bare_both n inner other m room wide less wider exts.tree words.tree words.scopes words.rest) (λ d. ready _))
-        (both_if (has_typedef_word (storage_words words.tree)) _ _ _ _ (both_bind _ _ _ _ (declaration_behind_both n inner other m room wide less wider exts.tree words.tree words.scopes words.rest) (λ d. ready _))
-        (first_declr_both room wide less wider exts.tree words.tree words.scopes words.rest)))))
+        both_bind _ _ _ _ (exts_both room wide wider.0 s ts) (λ exts. both_behind _ _ _ _ (specs_here_both n gap inner other m room wide less wider Declaring exts.scopes exts.rest)
+        (λ words. when (λ d. specs_two n gap inner other m Declaring room exts.scopes exts.rest words d.1)
+        (both_if (has_auto words.tree) _ _ _ _ (both_bind _ _ _ _ (declaration_behind_both n gap inner other m room wide less wider exts.tree words.tree words.scopes words.rest) (λ d. ready _))
+        (both_if (is_semicolon (kind_at words.rest)) _ _ _ _ (both_bind _ _ _ _ (bare_both n gap inner other m room wide less wider exts.tree words.tree words.scopes words.rest) (λ d. ready _))
+        (both_if (has_typedef_word (storage_words words.tree)) _ _ _ _ (both_bind _ _ _ _ (declaration_behind_both n gap inner other m room wide less wider exts.tree words.tree words.scopes words.rest) (λ d. ready _))
+        (first_declr_both room wide less wider exts.tree words.tree words.scopes words.rest))))))
 
     item_both : {D : Type 0} (s : HeldScopes) (ts : List Lexeme) → Both S D ts (item_with inner room s ts) (item_with other wide s ts)
     unfolding item_with asm_item_with
     item_both s ts =
-        both_if (is_semicolon (kind_at ts)) _ _ _ _ (both_asks 1 room wide s ts _ _ wider (λ semi. ready _))
+        both_if (is_semicolon (kind_at ts)) _ _ _ _ (both_asks 1 room wide s ts _ _ wider.0 (λ semi. ready _))
         (both_if (is_asm (kind_at ts)) _ _ _ _
-        (both_asks 1 room wide s ts _ _ wider (λ keyword. both_then _ _ _ (late_group keyword.scopes keyword.rest) (λ group. both_then _ _ _ (late_token is_semicolon group.scopes group.rest) (λ semi. ready _))))
-        (both_choice (is_static_assert (kind_at ts)) _ _ _ _ (λ is. assert_both room wide wider s ts _ is (λ it. all_left it.rest)) (λ off. declared_item_both s ts)))
+        (both_asks 1 room wide s ts _ _ wider.0 (λ keyword. both_then _ _ _ (late_group keyword.scopes keyword.rest) (λ group. both_then _ _ _ (late_token is_semicolon group.scopes group.rest) (λ semi. ready _))))
+        (both_choice (is_static_assert (kind_at ts)) _ _ _ _ (λ is. assert_both room wide wider.0 s ts _ is (λ it. all_left it.rest)) (λ off. declared_item_both s ts)))
 
     items_both : {D : Type 0} (s : HeldScopes) (ts : List Lexeme) → Both S D ts (items_with inner room s ts) (items_with other wide s ts)
     unfolding items_with
@@ -191,8 +214,8 @@ module _ {S : Type 0} (n : ℕ) (inner other : Inner) (m : InnerBoth S n inner o
 -- The readers of all numbers.
 
 -- what is left and refused needs no room
-slack : {S : Type 0} (n k : ℕ) (inner other : Inner) → InnerBoth S n inner other → InnerBoth ⊥ k inner other
-slack n k inner other m = record {
+slack : {S : Type 0} (n k gap : ℕ) (inner other : Inner) → InnerBoth S n gap inner other → InnerBoth ⊥ k gap inner other
+slack n k gap inner other m = record {
   exprs = λ reach begun room wide wider s ts. record { late = (m.exprs reach begun room wide wider s ts).late; pass = λ s. absurd s };
   types = λ room wide wider s ts. record { late = (m.types room wide wider s ts).late; pass = λ s. absurd s };
   words = λ role words room wide wider s ts. record { late = (m.words role words room wide wider s ts).late; pass = λ s. absurd s };
@@ -204,6 +227,7 @@ slack n k inner other m = record {
   assigned_first = λ s. absurd s;
   unary_first = λ s. absurd s;
   words_first = λ s. absurd s;
+  types_first = λ s. absurd s;
   list_first = λ s. absurd s;
 }
 
@@ -215,31 +239,32 @@ numbered : (flag : Bool) (room : ℕ) → number_of flag room < suc (suc (suc ro
 numbered true room = omega arith
 numbered false room = omega arith
 
-module _ {S : Type 0} (n : ℕ) (inner other : Inner) (m : InnerBoth S n inner other) where
-  loose : (room : ℕ) → InnerBoth ⊥ (suc (suc room)) inner other
-  loose room = slack n (suc (suc room)) inner other m
+module _ {S : Type 0} (n gap : ℕ) (inner other : Inner) (m : InnerBoth S n gap inner other) where
+  loose : (room : ℕ) → InnerBoth ⊥ (suc (suc room)) gap inner other
+  loose room = slack n (suc (suc room)) gap inner other m
 
   below : (room : ℕ) → room < suc (suc (suc room))
   below room = omega arith
 
-  tied_both : InnerBoth S (suc n) (tied inner) (tied other)
+  tied_both : InnerBoth S (suc n) gap (tied inner) (tied other)
   tied_both = record {
-    exprs = λ reach begun room wide wider s ts. split (expr_both _ inner other (loose room) room wide (below room) wider reach begun s ts) (λ less. expr_both n inner other m room wide less wider reach begun s ts);
-    types = λ room wide wider s ts. record { late = (type_name_both _ inner other (loose room) room wide (below room) wider s ts).late; pass = λ s d. (type_name_both n inner other m room wide d.0 wider _ ts).pass s d.1 };
-    words = λ role words room wide wider s ts. split (specs_both _ inner other (loose room) room wide (below room) wider role words s ts) (λ less. specs_both n inner other m room wide less wider role words s ts);
-    declrs = λ mode wanted flag room wide wider s ts. split (declr_both _ inner other (loose room) flag room wide (numbered flag room) wider mode wanted s ts) (λ less. declr_both n inner other m flag room wide less wider mode wanted s ts);
-    lists = λ room wide wider s ts. split (init_list_both _ inner other (loose room) room wide (below room) wider s ts) (λ less. init_list_both n inner other m room wide less wider s ts);
-    blocks = λ room wide wider s ts. split (block_both _ inner other (loose room) room wide (below room) wider s ts) (λ less. block_both n inner other m room wide less wider s ts);
-    stmts = λ room wide wider s ts. split (stmt_both _ inner other (loose room) room wide (below room) wider s ts) (λ less. stmt_both n inner other m room wide less wider s ts);
-    whole_first = λ strict wide s ts is. whole_past n inner other m 0 wide (omega arith) (omega arith) s ts is;
-    assigned_first = λ strict wide s ts is. assigned_past n inner other m 0 wide (omega arith) (omega arith) s ts is;
-    unary_first = λ strict wide s ts is. expr_past n inner other m 0 wide (omega arith) (omega arith) s ts is;
-    words_first = λ strict wide s ts is. specs_past n inner other m 0 wide (omega arith) (omega arith) s ts is;
-    list_first = λ strict wide s ts is. init_list_past n inner other m 0 wide (omega arith) (omega arith) s ts is;
+    exprs = λ reach begun room wide wider s ts. split (expr_both _ gap inner other (loose room) room wide (below room) wider reach begun s ts) (λ less. expr_both n gap inner other m room wide less wider reach begun s ts);
+    types = λ room wide wider s ts. record { late = (type_name_both _ gap inner other (loose room) room wide (below room) wider s ts).late; pass = λ s d. (type_name_both n gap inner other m room wide d.0 wider _ ts).pass s d.1 };
+    words = λ role words room wide wider s ts. split (specs_both _ gap inner other (loose room) room wide (below room) wider role words s ts) (λ less. specs_both n gap inner other m room wide less wider role words s ts);
+    declrs = λ mode wanted flag room wide wider s ts. split (declr_both _ gap inner other (loose room) flag room wide (numbered flag room) wider mode wanted s ts) (λ less. declr_both n gap inner other m flag room wide less wider mode wanted s ts);
+    lists = λ room wide wider s ts. split (init_list_both _ gap inner other (loose room) room wide (below room) wider s ts) (λ less. init_list_both n gap inner other m room wide less wider s ts);
+    blocks = λ room wide wider s ts. split (block_both _ gap inner other (loose room) room wide (below room) wider s ts) (λ less. block_both n gap inner other m room wide less wider s ts);
+    stmts = λ room wide wider s ts. split (stmt_both _ gap inner other (loose room) room wide (below room) wider s ts) (λ less. stmt_both n gap inner other m room wide less wider s ts);
+    whole_first = λ strict wide bound s ts is. whole_past n gap inner other m (wide - gap) wide (omega (arith, bound)) (omega (arith, bound)) s ts is;
+    assigned_first = λ strict wide bound s ts is. assigned_past n gap inner other m (wide - gap) wide (omega (arith, bound)) (omega (arith, bound)) s ts is;
+    unary_first = λ strict wide bound s ts is. expr_past n gap inner other m (wide - gap) wide (omega (arith, bound)) (omega (arith, bound)) s ts is;
+    words_first = λ strict role wide bound s ts is. specs_past n gap inner other m (wide - gap) wide (omega (arith, bound)) (omega (arith, bound)) role s ts is;
+    types_first = λ strict wide deep bound s ts is. type_name_past n gap inner other m (wide - gap) wide (omega (arith, bound)) (omega (arith, bound)) s ts (m.words_first strict Naming (wide - 1) (omega (arith, bound)) s ts is);
+    list_first = λ strict wide bound s ts is. init_list_past n gap inner other m (wide - gap) wide (omega (arith, bound)) (omega (arith, bound)) s ts is;
   }
 
 -- readers that are never called
-nothing_both : InnerBoth ⊥ 0 never never
+nothing_both : InnerBoth ⊥ 0 0 never never
 nothing_both = record {
   exprs = λ reach begun room wide wider s ts. record { late = inr (late_refused ts); pass = λ s. absurd s };
   types = λ room wide wider s ts. record { late = inr (late_refused ts); pass = λ s. absurd s };
@@ -252,13 +277,14 @@ nothing_both = record {
   assigned_first = λ s. absurd s;
   unary_first = λ s. absurd s;
   words_first = λ s. absurd s;
+  types_first = λ s. absurd s;
   list_first = λ s. absurd s;
 }
 
-knot_late : (d : ℕ) → InnerBoth ⊥ (suc d) (knot d) (knot d)
+knot_late : (d : ℕ) → InnerBoth ⊥ (suc d) 0 (knot d) (knot d)
 unfolding knot
-knot_late zero = tied_both 0 never never nothing_both
-knot_late (suc d) = tied_both (suc d) (knot d) (knot d) (knot_late d)
+knot_late zero = tied_both 0 0 never never nothing_both
+knot_late (suc d) = tied_both (suc d) 0 (knot d) (knot d) (knot_late d)
 
 none_less : (room : ℕ) → room < 0 → ⊥
 none_less room h = absurd (omega (arith, h))
@@ -266,45 +292,59 @@ none_less room h = absurd (omega (arith, h))
 none_numbered : (flag : Bool) (room : ℕ) → number_of flag room < 0 → ⊥
 none_numbered flag room h = absurd (omega (arith, h))
 
--- readers that are never called, and any others
-tied_any : (n : ℕ) (inner other : Inner) → InnerBoth ⊥ n inner other → InnerBoth (Unit {0}) 0 never (tied other)
-tied_any n inner other m =
-    let t = tied_both n inner other m in
+-- readers that are never called, and any others, whose own specifiers go on behind their first token
+tied_any : (n : ℕ) (inner other : Inner) → InnerBoth ⊥ n 0 inner other →
+    ((wide : ℕ) → 3 ≤ 0 + suc n → wide ≤ n - 1 → (s : HeldScopes) (ts : List Lexeme) → begins_role Naming s (kind_at ts) ≡ true → Late (behind_first ts) (other.specs Naming no_words wide s ts)) →
+    InnerBoth (Unit {0}) 0 (suc n) never (tied other)
+tied_any n inner other m words_on =
+    let t = tied_both n 0 inner other m in
     record {
-      exprs = λ reach begun room wide wider s ts. record { late = (t.exprs reach begun room wide wider s ts).late; pass = λ s less. absurd (none_less room less) };
-      types = λ room wide wider s ts. record { late = (t.types room wide wider s ts).late; pass = λ s less. absurd (none_less room less.0) };
-      words = λ role words room wide wider s ts. record { late = (t.words role words room wide wider s ts).late; pass = λ s less. absurd (none_less room less) };
-      declrs = λ mode wanted flag room wide wider s ts. record { late = (t.declrs mode wanted flag room wide wider s ts).late; pass = λ s less. absurd (none_numbered flag room less) };
-      lists = λ room wide wider s ts. record { late = (t.lists room wide wider s ts).late; pass = λ s less. absurd (none_less room less) };
-      blocks = λ room wide wider s ts. record { late = (t.blocks room wide wider s ts).late; pass = λ s less. absurd (none_less room less) };
-      stmts = λ room wide wider s ts. record { late = (t.stmts room wide wider s ts).late; pass = λ s less. absurd (none_less room less) };
-      whole_first = λ strict wide s ts is. whole_past n inner other m 0 wide (omega arith) (omega arith) s ts is;
-      assigned_first = λ strict wide s ts is. assigned_past n inner other m 0 wide (omega arith) (omega arith) s ts is;
-      unary_first = λ strict wide s ts is. expr_past n inner other m 0 wide (omega arith) (omega arith) s ts is;
-      words_first = λ strict wide s ts is. specs_past n inner other m 0 wide (omega arith) (omega arith) s ts is;
-      list_first = λ strict wide s ts is. init_list_past n inner other m 0 wide (omega arith) (omega arith) s ts is;
+      exprs = λ reach begun room wide wider s ts. record { late = (t.exprs reach begun wide wide (omega arith) s ts).late; pass = λ s less. absurd (none_less room less) };
+      types = λ room wide wider s ts. record { late = (t.types wide wide (omega arith) s ts).late; pass = λ s less. absurd (none_less room less.0) };
+      words = λ role words room wide wider s ts. record { late = (t.words role words wide wide (omega arith) s ts).late; pass = λ s less. absurd (none_less room less) };
+      declrs = λ mode wanted flag room wide wider s ts. record { late = (t.declrs mode wanted flag wide wide (omega arith) s ts).late; pass = λ s less. absurd (none_numbered flag room less) };
+      lists = λ room wide wider s ts. record { late = (t.lists wide wide (omega arith) s ts).late; pass = λ s less. absurd (none_less room less) };
+      blocks = λ room wide wider s ts. record { late = (t.blocks wide wide (omega arith) s ts).late; pass = λ s less. absurd (none_less room less) };
+      stmts = λ room wide wider s ts. record { late = (t.stmts wide wide (omega arith) s ts).late; pass = λ s less. absurd (none_less room less) };
+      whole_first = λ strict wide bound s ts is. whole_past n 0 inner other m wide wide (omega (arith, bound)) (omega (arith, bound)) s ts is;
+      assigned_first = λ strict wide bound s ts is. assigned_past n 0 inner other m wide wide (omega (arith, bound)) (omega (arith, bound)) s ts is;
+      unary_first = λ strict wide bound s ts is. expr_past n 0 inner other m wide wide (omega (arith, bound)) (omega (arith, bound)) s ts is;
+      words_first = λ strict role wide bound s ts is. specs_past n 0 inner other m wide wide (omega (arith, bound)) (omega (arith, bound)) role s ts is;
+      types_first = λ strict wide deep bound s ts is. type_name_past n 0 inner other m wide wide (omega (arith, bound)) (omega (arith, bound)) s ts (words_on (wide - 1) deep (omega (arith, bound)) s ts is);
+      list_first = λ strict wide bound s ts is. init_list_past n 0 inner other m wide wide (omega (arith, bound)) (omega (arith, bound)) s ts is;
     }
 
-knot_any : (d : ℕ) → InnerBoth (Unit {0}) 0 never (knot d)
+-- specifiers of every number go on behind the first token
+specs_on : (d wide : ℕ) → wide ≤ d → (s : HeldScopes) (ts : List Lexeme) → begins_role Naming s (kind_at ts) ≡ true → Late (behind_first ts) ((knot d).specs Naming no_words wide s ts)
 unfolding knot
-knot_any zero = tied_any 0 never never nothing_both
-knot_any (suc d) = tied_any (suc d) (knot d) (knot d) (knot_late d)
+specs_on zero wide bound s ts is = specs_past 0 0 never never nothing_both wide wide (omega (arith, bound)) (omega arith) Naming s ts is
+specs_on (suc d) wide bound s ts is = specs_past (suc d) 0 (knot d) (knot d) (knot_late d) wide wide (omega (arith, bound)) (omega arith) Naming s ts is
 
-knot_both : (n d : ℕ) → n < d → InnerBoth (Unit {0}) (suc n) (knot n) (knot d)
+not_deep : 3 ≤ 0 + 1 → ⊥
+not_deep h = absurd (omega (arith, h))
+
+knot_any : (d : ℕ) → InnerBoth (Unit {0}) 0 (suc d) never (knot d)
 unfolding knot
-knot_both zero zero h = absurd (omega (arith, h))
-knot_both zero (suc d) h = tied_both 0 never (knot d) (knot_any d)
-knot_both (suc n) zero h = absurd (omega (arith, h))
-knot_both (suc n) (suc d) h = tied_both (suc n) (knot n) (knot d) (knot_both n d (omega (arith, h)))
+knot_any zero = tied_any 0 never never nothing_both (λ wide deep. absurd (not_deep deep))
+knot_any (suc d) = tied_any (suc d) (knot d) (knot d) (knot_late d) (λ wide deep bound s ts is. specs_on d wide (omega (arith, bound)) s ts is)
 
-late_alone : (items : List Item) (ts : List Lexeme) → Late ts (alone items ts)
-late_alone items [] = all_left []
-late_alone items (t ∷ ts) = inr (late_refused (t ∷ ts))
+knot_both : (n d gap : ℕ) → 1 ≤ gap → d ≡ n + gap → InnerBoth (Unit {0}) (suc n) gap (knot n) (knot d)
+unfolding knot
+knot_both zero zero gap one h = absurd (omega (arith, one, h))
+knot_both zero (suc d) gap one h =
+    let same : suc d ≡ gap = omega (arith, h) in
+    subst (λ (g : ℕ). InnerBoth (Unit {0}) 1 g (tied never) (tied (knot d))) same (tied_both 0 (suc d) never (knot d) (knot_any d))
+knot_both (suc n) zero gap one h = absurd (omega (arith, one, h))
+knot_both (suc n) (suc d) gap one h = tied_both (suc n) gap (knot n) (knot d) (knot_both n d gap one (omega (arith, h)))
 
-unit_both : (room wide : ℕ) → 1 ≤ room → room < wide → (all : List Lexeme) → Both (Unit {0}) (Unit {0}) all (unit_of room all) (unit_of wide all)
-unit_both room wide one less all =
-    both_bind _ _ _ _ (items_both (suc room) (knot room) (knot wide) (knot_both room wide less) (room - 1) (wide - 1) (omega arith) (omega (arith, less)) _ all)
-    (λ items. both_same _ (late_bind items.rest _ _ (late_token is_end items.scopes items.rest) (λ last. late_alone items.tree last.rest)))
+late_alone : (dialect : Bool) (items : List Item) (ts : List Lexeme) → Late ts (alone dialect items ts)
+late_alone dialect items [] = all_left []
+late_alone dialect items (t ∷ ts) = inr (late_refused (t ∷ ts))
+
+unit_both : (room wide : ℕ) → 1 ≤ room → room < wide → (dialect : Bool) (all : List Lexeme) → Both (Unit {0}) (Unit {0}) all (unit_of room dialect all) (unit_of wide dialect all)
+unit_both room wide one less dialect all =
+    both_bind _ _ _ _ (items_both (suc room) (wide - room) (knot room) (knot wide) (knot_both room wide (wide - room) (omega (arith, less)) (omega (arith, less))) (room - 1) (wide - 1) (omega arith) (omega (arith, one, less)) _ all)
+    (λ items. both_same _ (late_bind items.rest _ _ (late_token is_end items.scopes items.rest) (λ last. late_alone dialect items.tree last.rest)))
 
 pub with_more_room_it_passes : WithMoreRoomItPasses
-with_more_room_it_passes room wide one less all = (unit_both room wide one less all).pass tt tt
+with_more_room_it_passes room wide one less dialect all = (unit_both room wide one less dialect all).pass tt tt

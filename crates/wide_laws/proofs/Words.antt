@@ -8,9 +8,9 @@ use Rattle.c_reading.specs.declared.kinds.Inside.{Inside}
 use Rattle.c_reading.specs.declared.kinds.Inside.TheVariants.{Opens, Closes, Plain, Stops}
 use Rattle.c_reading.specs.declared.kinds.Bracket.{Bracket}
 use Rattle.c_reading.specs.Reading.{Found, Read, and_then, ends, refuses, fits, kind_at, behind_first, take_one, token_at, run}
-use Rattle.c_reading.specs.Tokens.{is_attribute, is_extension, is_text, is_static_assert, is_semicolon, is_open_paren, spelled_name, name_by, name_at, tag_by, tag_at, texts_at, extensions_at, made_by, made_at, qual_of, is_made, quals_at, array_word_of, array_words_at, asm_word_of, asm_words_at, inside_of, is_same, Opened, bracket_by, bracket_step, bracket_turn_by, bracket_turn, group_at, attr_at, attrs_at, pointer_word_at, begins_pointer_word, pointer_words_at, assert_at}
+use Rattle.c_reading.specs.Tokens.{is_attribute, is_extension, is_text, is_static_assert, is_semicolon, is_open_paren, spelled_name, name_by, name_at, tag_by, tag_at, texts_at, extensions_at, made_by, made_at, qual_of, is_made, quals_at, array_word_of, array_words_at, asm_word_of, asm_words_at, inside_of, is_same, Opened, bracket_by, bracket_step, bracket_turn_by, bracket_turn, group_at, attr_at, attrs_at, pointer_word_at, begins_pointer_word, pointer_words_at, assert_at, word_qual_of, align_at}
 use Rattle.wide_laws.specs.Wide.{Late, Both}
-use Rattle.wide_laws.proofs.Both.{all_left, behind_left, late_bind, late_refused, late_if, late_take, late_repeated, both_same, both_then, both_fits, both_choice, both_run, BothTurn, both_repeated, ready}
+use Rattle.wide_laws.proofs.Both.{all_left, behind_left, late_bind, late_refused, late_if, late_take, late_repeated, both_same, both_then, both_fits, both_choice, both_run, BothTurn, both_repeated, ready, past_take}
 
 pub late_token : (test : TokenKind → Bool) (s : HeldScopes) (ts : List Lexeme) → Late ts (token_at test s ts)
 late_token test s [] = inr (late_refused [])
@@ -56,7 +56,7 @@ late_texts s ts = late_repeated is_text take_one late_take s ts
 
 pub late_quals : (s : HeldScopes) (ts : List Lexeme) → Late ts (quals_at s ts)
 unfolding quals_at
-late_quals s ts = late_repeated (λ kind. is_made (qual_of kind)) (made_at qual_of) (late_made qual_of) s ts
+late_quals s ts = late_repeated (λ kind. is_made (word_qual_of kind)) (made_at word_qual_of) (late_made word_qual_of) s ts
 
 pub late_array_words : (s : HeldScopes) (ts : List Lexeme) → Late ts (array_words_at s ts)
 unfolding array_words_at
@@ -97,6 +97,14 @@ late_attr s ts = late_bind ts _ _ (late_token is_attribute s ts) (λ keyword. la
 pub past_attr : (s : HeldScopes) (ts : List Lexeme) → is_attribute (kind_at ts) ≡ true → Late (behind_first ts) (attr_at s ts)
 unfolding attr_at
 past_attr s ts is = past_token is_attribute s ts _ is (λ keyword. late_bind keyword.rest _ _ (late_group keyword.scopes keyword.rest) (λ group. all_left group.rest))
+
+pub late_align : (s : HeldScopes) (ts : List Lexeme) → Late ts (align_at s ts)
+unfolding align_at
+late_align s ts = late_bind ts _ _ (late_take s ts) (λ keyword. late_bind keyword.rest _ _ (late_group keyword.scopes keyword.rest) (λ group. all_left group.rest))
+
+pub past_align : (s : HeldScopes) (ts : List Lexeme) → Late (behind_first ts) (align_at s ts)
+unfolding align_at
+past_align s ts = past_take s ts _ (λ keyword. late_bind keyword.rest _ _ (late_group keyword.scopes keyword.rest) (λ group. all_left group.rest))
 
 pub late_assert : (s : HeldScopes) (ts : List Lexeme) → Late ts (assert_at s ts)
 unfolding assert_at

@@ -1,5 +1,5 @@
 -- What a reader with more room does at a token that a reader with less refuses for the height: it goes on behind that token.
-use Rattle.std.specs.Prelude.{◌≡◌, ℕ, ◌<◌, ◌≤◌, ◌⊎◌, Bool, true, List, ◌++◌, Option, Ok, Err}
+use Rattle.std.specs.Prelude.{◌≡◌, ℕ, ◌<◌, ◌≤◌, ◌+◌, ◌-◌, ◌⊎◌, Bool, true, List, ◌++◌, Option, Ok, Err}
 use Rattle.c_tree.specs.declared.lexeme.Lexeme.{Lexeme}
 use Rattle.c_tree.specs.Tree.{SpecWords, no_words}
 use Rattle.typedef_scope.specs.declared.kind.Kind.{Kind}
@@ -8,11 +8,11 @@ use Rattle.c_reading.specs.declared.kinds.Fault.TheVariants.{TooDeep}
 use Rattle.c_reading.specs.declared.kinds.Reach.{Reach}
 use Rattle.c_reading.specs.declared.kinds.Reach.TheVariants.{Whole, Assigned, Unary}
 use Rattle.c_reading.specs.declared.kinds.Role.{Role}
-use Rattle.c_reading.specs.declared.kinds.Role.TheVariants.{Declaring}
+use Rattle.c_reading.specs.declared.kinds.Role.TheVariants.{Naming}
 use Rattle.c_reading.specs.declared.kinds.Mode.{Mode}
 use Rattle.c_reading.specs.Reading.{Refusal, Read, number_at, kind_at, behind_first}
 use Rattle.c_reading.specs.Tokens.{is_open_paren, is_open_brace}
-use Rattle.c_reading.specs.Specifying.{begins_specs}
+use Rattle.c_reading.specs.Specifying.{begins_role}
 use Rattle.c_reading.specs.Expressing.{begins_expr}
 use Rattle.c_reading.specs.Parts.{Inner, Begun, nothing}
 use Rattle.room_laws.specs.Rooms.{number_of, unit_of}
@@ -57,24 +57,30 @@ pub record AheadOf (A S D : Type 0) (ts : List Lexeme) (r q : Read A) : Type 0 w
 abbrev pub Ahead : {A : Type 0} → Type 0 → Type 0 → List Lexeme → Read A → Read A → Type 0
 Ahead {A} S D ts r q = AheadOf A S D ts r q
 
--- of the readers of two numbers, with rooms below the first
-pub record InnerBoth (S : Type 0) (n : ℕ) (inner other : Inner) : Type 0 where
-  pub exprs : (reach : Reach) (begun : Begun) (room wide : ℕ) → room ≤ wide → (s : HeldScopes) (ts : List Lexeme) → Both S (room < n) ts (inner.expr reach begun room s ts) (other.expr reach begun wide s ts)
-  pub types : (room wide : ℕ) → room ≤ wide → (s : HeldScopes) (ts : List Lexeme) → Both S ((room < n) × (1 ≤ room)) ts (inner.type_name room s ts) (other.type_name wide s ts)
-  pub words : (role : Role) (words : SpecWords) (room wide : ℕ) → room ≤ wide → (s : HeldScopes) (ts : List Lexeme) → Both S (room < n) ts (inner.specs role words room s ts) (other.specs role words wide s ts)
-  pub declrs : (mode : Mode) (wanted : Option Kind) (flag : Bool) (room wide : ℕ) → room ≤ wide → (s : HeldScopes) (ts : List Lexeme) →
+-- two rooms: the second is the first or more, by this at most
+abbrev pub Near : ℕ → ℕ → ℕ → Type 0
+Near gap room wide = (room ≤ wide) × (wide ≤ room + gap)
+
+-- of the readers of two numbers, the second this much above the first, with rooms below them that are as far apart at most
+pub record InnerBoth (S : Type 0) (n gap : ℕ) (inner other : Inner) : Type 0 where
+  pub exprs : (reach : Reach) (begun : Begun) (room wide : ℕ) → Near gap room wide → (s : HeldScopes) (ts : List Lexeme) → Both S (room < n) ts (inner.expr reach begun room s ts) (other.expr reach begun wide s ts)
+  pub types : (room wide : ℕ) → Near gap room wide → (s : HeldScopes) (ts : List Lexeme) → Both S ((room < n) × (1 ≤ room)) ts (inner.type_name room s ts) (other.type_name wide s ts)
+  pub words : (role : Role) (words : SpecWords) (room wide : ℕ) → Near gap room wide → (s : HeldScopes) (ts : List Lexeme) → Both S (room < n) ts (inner.specs role words room s ts) (other.specs role words wide s ts)
+  pub declrs : (mode : Mode) (wanted : Option Kind) (flag : Bool) (room wide : ℕ) → Near gap room wide → (s : HeldScopes) (ts : List Lexeme) →
       Both S (number_of flag room < n) ts (inner.declr mode wanted flag room s ts) (other.declr mode wanted flag wide s ts)
-  pub lists : (room wide : ℕ) → room ≤ wide → (s : HeldScopes) (ts : List Lexeme) → Both S (room < n) ts (inner.init_list room s ts) (other.init_list wide s ts)
-  pub blocks : (room wide : ℕ) → room ≤ wide → (s : HeldScopes) (ts : List Lexeme) → Both S (room < n) ts (inner.block room s ts) (other.block wide s ts)
-  pub stmts : (room wide : ℕ) → room ≤ wide → (s : HeldScopes) (ts : List Lexeme) → Both S (room < n) ts (inner.stmt room s ts) (other.stmt wide s ts)
-  -- where one begins, the second goes on
-  pub whole_first : S → (wide : ℕ) (s : HeldScopes) (ts : List Lexeme) → begins_expr s (kind_at ts) ≡ true → Late (behind_first ts) (other.expr Whole nothing wide s ts)
-  pub assigned_first : S → (wide : ℕ) (s : HeldScopes) (ts : List Lexeme) → begins_expr s (kind_at ts) ≡ true → Late (behind_first ts) (other.expr Assigned nothing wide s ts)
-  pub unary_first : S → (wide : ℕ) (s : HeldScopes) (ts : List Lexeme) → is_open_paren (kind_at ts) ≡ true → Late (behind_first ts) (other.expr Unary nothing wide s ts)
-  pub words_first : S → (wide : ℕ) (s : HeldScopes) (ts : List Lexeme) → begins_specs s (kind_at ts) ≡ true → Late (behind_first ts) (other.specs Declaring no_words wide s ts)
-  pub list_first : S → (wide : ℕ) (s : HeldScopes) (ts : List Lexeme) → is_open_brace (kind_at ts) ≡ true → Late (behind_first ts) (other.init_list wide s ts)
+  pub lists : (room wide : ℕ) → Near gap room wide → (s : HeldScopes) (ts : List Lexeme) → Both S (room < n) ts (inner.init_list room s ts) (other.init_list wide s ts)
+  pub blocks : (room wide : ℕ) → Near gap room wide → (s : HeldScopes) (ts : List Lexeme) → Both S (room < n) ts (inner.block room s ts) (other.block wide s ts)
+  pub stmts : (room wide : ℕ) → Near gap room wide → (s : HeldScopes) (ts : List Lexeme) → Both S (room < n) ts (inner.stmt room s ts) (other.stmt wide s ts)
+  -- where one begins, the second goes on; a type's name does where there are two readers below it
+  pub whole_first : S → (wide : ℕ) → wide ≤ n + gap - 1 → (s : HeldScopes) (ts : List Lexeme) → begins_expr s (kind_at ts) ≡ true → Late (behind_first ts) (other.expr Whole nothing wide s ts)
+  pub assigned_first : S → (wide : ℕ) → wide ≤ n + gap - 1 → (s : HeldScopes) (ts : List Lexeme) → begins_expr s (kind_at ts) ≡ true → Late (behind_first ts) (other.expr Assigned nothing wide s ts)
+  pub unary_first : S → (wide : ℕ) → wide ≤ n + gap - 1 → (s : HeldScopes) (ts : List Lexeme) → is_open_paren (kind_at ts) ≡ true → Late (behind_first ts) (other.expr Unary nothing wide s ts)
+  pub words_first : S → (role : Role) (wide : ℕ) → wide ≤ n + gap - 1 → (s : HeldScopes) (ts : List Lexeme) → begins_role role s (kind_at ts) ≡ true → Late (behind_first ts) (other.specs role no_words wide s ts)
+  pub types_first : S → (wide : ℕ) → 3 ≤ n + gap → wide ≤ n + gap - 1 → (s : HeldScopes) (ts : List Lexeme) → begins_role Naming s (kind_at ts) ≡ true → Late (behind_first ts) (other.type_name wide s ts)
+  pub list_first : S → (wide : ℕ) → wide ≤ n + gap - 1 → (s : HeldScopes) (ts : List Lexeme) → is_open_brace (kind_at ts) ≡ true → Late (behind_first ts) (other.init_list wide s ts)
 
 -- what is answered with some room is answered with more; and what is refused is refused alike, or, where that is for the height, something
 -- behind it is read or refused, or it is for the height again
 abbrev pub WithMoreRoomItPasses : Type 0
-WithMoreRoomItPasses = (room wide : ℕ) → 1 ≤ room → room < wide → (all : List Lexeme) → Passes all (unit_of room all) (unit_of wide all)
+WithMoreRoomItPasses =
+    (room wide : ℕ) → 1 ≤ room → room < wide → (dialect : Bool) (all : List Lexeme) → Passes all (unit_of room dialect all) (unit_of wide dialect all)

@@ -1,10 +1,10 @@
 use Rattle.std.proofs.Common.{◌≡◌, ℕ, ap, ◌∙◌, refl, sym, rules}
 use Rattle.c_tree.specs.Capped.{capped}
-use Rattle.c_tree.specs.Height.{expr_height, spec_word_height, struct_item_height, mem_declr_height, enum_type_height, declr_height, init_list_height, declaration_height, stmt_height, for_start_height}
-use Rattle.c_tree.specs.View.{expr_of, spec_word_of, struct_item_of, mem_declr_of, declr_of, stmt_of, for_start_of}
+use Rattle.c_tree.specs.Height.{expr_height, assoc_height, spec_word_height, struct_item_height, mem_declr_height, enum_type_height, declr_height, init_list_height, declaration_height, stmt_height, for_start_height}
+use Rattle.c_tree.specs.View.{expr_of, assoc_of, spec_word_of, struct_item_of, mem_declr_of, declr_of, stmt_of, for_start_of}
 use Rattle.c_height.proofs.HeightLemmas.{loop_begins, loop_goes_on, loop_ends}
-use Rattle.c_height.proofs.ListHeights.{of_exprs_all, of_exprs_one, of_exprs_more, of_words_all, of_words_one, of_words_more, of_struct_items_all, of_struct_items_one, of_struct_items_more, of_mem_declrs_all, of_mem_declrs_one, of_mem_declrs_more, of_enumerators_all, of_enumerators_one, of_enumerators_more, of_params_all, of_params_one, of_params_more, of_init_items_all, of_init_items_one, of_init_items_more, of_desigs_all, of_desigs_one, of_desigs_more, of_steps_all, of_steps_one, of_steps_more, of_init_declrs_all, of_init_declrs_one, of_init_declrs_more, of_block_items_all, of_block_items_one, of_block_items_more}
-use Rattle.c_tree.proofs.ViewLemmas.{cond_is, cast_is, sizeof_type_is, call_is, compound_is, statement_expr_is, va_arg_is, offset_is, struct_is, member_is, named_is, enum_is, array_is, params_is, abs_pointer_is, abs_array_is, abs_params_is, init_list_is, declaration_is, block_is, expr_stmt_is, if_is, for_is, return_is, start_value_is}
+use Rattle.c_height.proofs.ListHeights.{of_exprs_all, of_exprs_one, of_exprs_more, of_assocs_all, of_assocs_one, of_assocs_more, of_words_all, of_words_one, of_words_more, of_struct_items_all, of_struct_items_one, of_struct_items_more, of_mem_declrs_all, of_mem_declrs_one, of_mem_declrs_more, of_enumerators_all, of_enumerators_one, of_enumerators_more, of_params_all, of_params_one, of_params_more, of_init_items_all, of_init_items_one, of_init_items_more, of_desigs_all, of_desigs_one, of_desigs_more, of_steps_all, of_steps_one, of_steps_more, of_init_declrs_all, of_init_declrs_one, of_init_declrs_more, of_block_items_all, of_block_items_one, of_block_items_more}
+use Rattle.c_tree.proofs.ViewLemmas.{cond_is, cast_is, sizeof_type_is, call_is, compound_is, statement_expr_is, va_arg_is, offset_is, compat_is, generic_is, typed_assoc_is, typeof_type_is, struct_is, member_is, named_is, enum_is, array_is, params_is, abs_pointer_is, abs_array_is, abs_params_is, init_list_is, declaration_is, block_is, expr_stmt_is, if_is, for_is, return_is, start_value_is}
 use Rattle.c_height.proofs.height.+height.Goals as goal
 
 of_tree : {T : Type 0} (height : T → ℕ) (r : ℕ) (here there : T) → here ≡ there → r ≡ capped (height there) → r ≡ capped (height here)
@@ -33,6 +33,18 @@ of_expr-returns-in-VaArg t c = of_tree expr_height _ _ _ (ap expr_of c.in-VaArg.
 
 pub of_expr-returns-in-Offset : goal.of_expr-returns-in-Offset
 of_expr-returns-in-Offset t c = of_tree expr_height _ _ _ (ap expr_of c.in-Offset.is ∙ offset_is c.in-Offset.keyword c.in-Offset.«open» c.in-Offset.type_name c.in-Offset.comma c.in-Offset.member c.in-Offset.steps c.in-Offset.close) (search rules)
+
+pub of_expr-returns-in-Compat : goal.of_expr-returns-in-Compat
+of_expr-returns-in-Compat t c = of_tree expr_height _ _ _ (ap expr_of c.in-Compat.is ∙ compat_is c.in-Compat.keyword c.in-Compat.«open» c.in-Compat.left c.in-Compat.comma c.in-Compat.right c.in-Compat.close) (search rules)
+
+pub of_expr-returns-in-Generic : goal.of_expr-returns-in-Generic
+of_expr-returns-in-Generic t c = of_tree expr_height _ _ _ (ap expr_of c.in-Generic.is ∙ generic_is c.in-Generic.keyword c.in-Generic.«open» c.in-Generic.control c.in-Generic.associations c.in-Generic.close) (search rules)
+
+pub of_assoc-returns-in-Typed : goal.of_assoc-returns-in-Typed
+of_assoc-returns-in-Typed t c = of_tree assoc_height _ _ _ (ap assoc_of c.in-Typed.is ∙ typed_assoc_is c.in-Typed.type_name c.in-Typed.colon c.in-Typed.value) (search rules)
+
+pub of_word-returns-in-TypeofType : goal.of_word-returns-in-TypeofType
+of_word-returns-in-TypeofType t c = of_tree spec_word_height _ _ _ (ap spec_word_of c.in-TypeofType.is ∙ typeof_type_is c.in-TypeofType.keyword c.in-TypeofType.«open» c.in-TypeofType.type_name c.in-TypeofType.close) (search rules)
 
 pub of_word-returns-in-Struct : goal.of_word-returns-in-Struct
 of_word-returns-in-Struct t c = of_tree spec_word_height _ _ _ (ap spec_word_of c.in-Struct.is ∙ struct_is c.in-Struct.it) (search rules)
@@ -96,6 +108,15 @@ of_exprs-loop-e-preserved t c = loop_goes_on of_exprs_all of_exprs_one of_exprs_
 
 pub of_exprs-returns : goal.of_exprs-returns
 of_exprs-returns t c = loop_ends of_exprs_all of_exprs_one of_exprs_more _ _ _ c.loop-e.invariant c.loop-e-test.false
+
+pub of_assocs-loop-assoc-init : goal.of_assocs-loop-assoc-init
+of_assocs-loop-assoc-init t c = loop_begins of_assocs_all of_assocs_one of_assocs_more 0 refl c.args.assocs.now
+
+pub of_assocs-loop-assoc-preserved : goal.of_assocs-loop-assoc-preserved
+of_assocs-loop-assoc-preserved t c = loop_goes_on of_assocs_all of_assocs_one of_assocs_more _ _ _ _ _ _ c.loop-assoc.invariant c.loop-assoc-test.true c.assoc-item.is c.of_assoc.ensures c.greater-height.ensures
+
+pub of_assocs-returns : goal.of_assocs-returns
+of_assocs-returns t c = loop_ends of_assocs_all of_assocs_one of_assocs_more _ _ _ c.loop-assoc.invariant c.loop-assoc-test.false
 
 pub of_words-loop-word-init : goal.of_words-loop-word-init
 of_words-loop-word-init t c = loop_begins of_words_all of_words_one of_words_more 1 refl c.args.words.now

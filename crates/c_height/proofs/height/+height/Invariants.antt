@@ -1,9 +1,12 @@
 use Rattle.c_height.proofs.HeightLemmas.{IsGreatestSoFar}
-use Rattle.c_height.proofs.ListHeights.{of_exprs_all, of_words_all, of_struct_items_all, of_mem_declrs_all, of_enumerators_all, of_params_all, of_init_items_all, of_desigs_all, of_steps_all, of_init_declrs_all, of_block_items_all}
+use Rattle.c_height.proofs.ListHeights.{of_exprs_all, of_assocs_all, of_words_all, of_struct_items_all, of_mem_declrs_all, of_enumerators_all, of_params_all, of_init_items_all, of_desigs_all, of_steps_all, of_init_declrs_all, of_block_items_all}
 use Rattle.c_height.proofs.height.+height.Given as goal
 
 abbrev pub invariant-of_exprs-loop-e : goal.invariant-of_exprs-loop-e
 invariant-of_exprs-loop-e l = IsGreatestSoFar of_exprs_all l.es l.e-index l.height
+
+abbrev pub invariant-of_assocs-loop-assoc : goal.invariant-of_assocs-loop-assoc
+invariant-of_assocs-loop-assoc l = IsGreatestSoFar of_assocs_all l.assocs l.assoc-index l.height
 
 abbrev pub invariant-of_words-loop-word : goal.invariant-of_words-loop-word
 invariant-of_words-loop-word l = IsGreatestSoFar of_words_all l.words l.word-index l.height

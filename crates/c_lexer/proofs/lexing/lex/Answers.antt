@@ -7,26 +7,26 @@ use Rattle.c_lexer.proofs.lexing.lex.Goals as goal
 
 pub read_all-requires-clause-begins : goal.read_all-requires-clause-begins
 read_all-requires-clause-begins c =
-    let P : Front → Type 0 = λ f. Reaches c.args.unit c.args.words.now c.args.bytes.now f in
+    let P : Front → Type 0 = λ f. Reaches c.args.unit c.args.wide c.args.words.now c.args.bytes.now f in
     subst P (sym c.new-front.ensures) begins
 
 pub fault_of-requires-clause-stops : goal.fault_of-requires-clause-stops
 fault_of-requires-clause-stops c =
-    let P : ℕ × List ℕ → Type 0 = λ t. StopsBehind t.0 c.args.words.now t.1 c.read_all.new.front c.in-Err.stop in
-    (c.args.words.now, subst P (sym c.in-Ok.ensures) c.in-Err.ensures.stops)
+    let P : ℕ × List ℕ → Type 0 = λ t. StopsBehind t.0 c.args.wide c.args.words.now t.1 c.read_all.new.front c.in-Err.stop in
+    (c.args.wide, c.args.words.now, subst P (sym c.in-Ok.ensures) c.in-Err.ensures.stops)
 
 pub returns-clause-refused : goal.returns-clause-refused
 returns-clause-refused c =
-    let P : ℕ × List ℕ → Type 0 = λ t. StopsBehind t.0 c.args.words.now t.1 c.read_all.new.front c.in-Err.stop in
-    let Q : ℕ × List ℕ → Type 0 = λ t. IsRefusal t.0 c.args.words.now t.1 c.fault_of.result in
-    subst Q c.in-Ok.ensures (c.fault_of.ensures c.args.words.now (subst P (sym c.in-Ok.ensures) c.in-Err.ensures.stops))
+    let P : ℕ × List ℕ → Type 0 = λ t. StopsBehind t.0 c.args.wide c.args.words.now t.1 c.read_all.new.front c.in-Err.stop in
+    let Q : ℕ × List ℕ → Type 0 = λ t. IsRefusal t.0 c.args.wide c.args.words.now t.1 c.fault_of.result in
+    subst Q c.in-Ok.ensures (c.fault_of.ensures c.args.wide c.args.words.now (subst P (sym c.in-Ok.ensures) c.in-Err.ensures.stops))
 
 pub returns-clause-only : goal.returns-clause-only
 returns-clause-only c =
-    let P : ℕ × List ℕ → Type 0 = λ t. StopsBehind t.0 c.args.words.now t.1 c.read_all.new.front c.in-Err.stop in
-    let Q : ℕ × List ℕ → Type 0 = λ t. IsRefusal t.0 c.args.words.now t.1 c.fault_of.result in
-    refused-once c.args.unit c.args.words.now c.args.bytes.now c.fault_of.result (subst Q c.in-Ok.ensures (c.fault_of.ensures c.args.words.now (subst P (sym c.in-Ok.ensures) c.in-Err.ensures.stops)))
+    let P : ℕ × List ℕ → Type 0 = λ t. StopsBehind t.0 c.args.wide c.args.words.now t.1 c.read_all.new.front c.in-Err.stop in
+    let Q : ℕ × List ℕ → Type 0 = λ t. IsRefusal t.0 c.args.wide c.args.words.now t.1 c.fault_of.result in
+    refused-once c.args.unit c.args.wide c.args.words.now c.args.bytes.now c.fault_of.result (subst Q c.in-Ok.ensures (c.fault_of.ensures c.args.wide c.args.words.now (subst P (sym c.in-Ok.ensures) c.in-Err.ensures.stops)))
 
 pub returns-in-Ok-read_all-clause-only : goal.returns-in-Ok-read_all-clause-only
 returns-in-Ok-read_all-clause-only c =
-    answer-once c.args.unit c.args.words.now c.args.bytes.now c.in-Ok.text c.finish.result c.in-Ok.ensures c.finish.ensures.unit c.finish.ensures.bytes c.finish.ensures.spelled c.finish.ensures.memory
+    answer-once c.args.unit c.args.wide c.args.words.now c.args.bytes.now c.in-Ok.text c.finish.result c.in-Ok.ensures c.finish.ensures.unit c.finish.ensures.wide c.finish.ensures.bytes c.finish.ensures.spelled c.finish.ensures.memory

@@ -7,8 +7,8 @@ use Rattle.unit_spelling.specs.Spelled.{spelling_of}
 use Rattle.c_names.proofs.Alone.{begun_alone}
 use Rattle.c_names.proofs.run.resolve_names.Goals as goal
 
-pub name_unit-requires : goal.name_unit-requires
-name_unit-requires c = record { shown = no_names; alike = λ t knows. c.in_ok-names.ensures t }
+pub name_unit-requires-clause-shown : goal.name_unit-requires-clause-shown
+name_unit-requires-clause-shown c = record { shown = no_names; alike = λ t knows. c.in_ok-names.ensures t }
 
 pub returns-clause-named : goal.returns-clause-named
 returns-clause-named c =

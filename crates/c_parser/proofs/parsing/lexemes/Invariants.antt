@@ -3,4 +3,4 @@ use Rattle.c_parser.specs.Parsing.{numbered}
 use Rattle.c_parser.proofs.parsing.lexemes.Given as goal
 
 abbrev pub invariant-loop-number : goal.invariant-loop-number
-invariant-loop-number l = l.all.items ≡ numbered 0 (take l.number l.tokens.tokens)
+invariant-loop-number l = l.all.items ≡ take l.number (numbered 0 l.tokens.tokens)

@@ -1,4 +1,4 @@
-use Rattle.std.proofs.Common.{◌≡◌, List, Ok, Err, sym, ap, subst, ◌∙◌}
+use Rattle.std.proofs.Common.{◌≡◌, Bool, List, Ok, Err, sym, ap, subst, ◌∙◌}
 use Rattle.c_tree.specs.declared.lexeme.Lexeme.{Lexeme}
 use Rattle.c_tree.specs.Unit.{Item, items_of}
 use Rattle.c_reading.specs.Knot.{unit_at}
@@ -13,23 +13,23 @@ abbrev items_in : List Item → Read (List Item) → List Item
 items_in none (Ok x) = x.tree
 items_in none (Err refusal) = none
 
-same_items : (read : Read (List Item)) (items others : List Item) → read ≡ Ok (unit_found items) → read ≡ Ok (unit_found others) → items ≡ others
-same_items read items others one other = ap (items_in items) (sym one ∙ other)
+same_items : (wide : Bool) (read : Read (List Item)) (items others : List Item) → read ≡ Ok (unit_found wide items) → read ≡ Ok (unit_found wide others) → items ≡ others
+same_items wide read items others one other = ap (items_in items) (sym one ∙ other)
 
 pub returns-in-Ok-unit-clause-unit : goal.returns-in-Ok-unit-clause-unit
 returns-in-Ok-unit-clause-unit c =
     let same : c.as_slice.result.now ≡ lexemes_of c.args.tokens.now = c.as_slice.ensures.value ∙ c.in-Ok.ensures in
-    c.unit_is_well_formed.ensures (lexemes_of c.args.tokens.now) (numbered_from_zero c.args.tokens.now.tokens) (unit_found (items_of c.in-Ok-unit.found))
-    (ap unit_at (sym same) ∙ c.in-Ok-unit.ensures)
+    c.unit_is_well_formed.ensures c.args.tokens.now.wide (lexemes_of c.args.tokens.now) (numbered_from_zero c.args.tokens.now.tokens) (unit_found c.args.tokens.now.wide (items_of c.in-Ok-unit.found))
+    (ap (unit_at c.args.tokens.now.wide) (sym same) ∙ rw c.is_wide.ensures at c.in-Ok-unit.ensures)
 
 pub returns-in-Ok-unit-clause-only : goal.returns-in-Ok-unit-clause-only
 returns-in-Ok-unit-clause-only c =
     let same : c.as_slice.result.now ≡ lexemes_of c.args.tokens.now = c.as_slice.ensures.value ∙ c.in-Ok.ensures in
     λ items is.
-    let again = c.well_formed_is_read.ensures (lexemes_of c.args.tokens.now) (numbered_from_zero c.args.tokens.now.tokens) items is in
-    same_items _ (items_of c.in-Ok-unit.found) items c.in-Ok-unit.ensures (ap unit_at same ∙ again)
+    let again = c.well_formed_is_read.ensures c.args.tokens.now.wide (lexemes_of c.args.tokens.now) (numbered_from_zero c.args.tokens.now.tokens) items is in
+    same_items c.args.tokens.now.wide _ (items_of c.in-Ok-unit.found) items (rw c.is_wide.ensures at c.in-Ok-unit.ensures) (ap (unit_at c.args.tokens.now.wide) same ∙ again)
 
 pub refusal-requires : goal.refusal-requires
 refusal-requires c =
     let same : c.as_slice.result.now ≡ lexemes_of c.args.tokens.now = c.as_slice.ensures.value ∙ c.in-Ok.ensures in
-    subst (λ (all : List Lexeme). Fails c.in-Err.error (unit_at all)) same c.in-Err.ensures
+    subst (λ (all : List Lexeme). Fails c.in-Err.error (unit_at c.args.tokens.now.wide all)) same (rw c.is_wide.ensures at c.in-Err.ensures)

@@ -1,4 +1,4 @@
-use Rattle.std.proofs.Common.{◌≡◌, ℕ, List, Ok, Err, sym, ◌∙◌}
+use Rattle.std.proofs.Common.{◌≡◌, ℕ, Bool, List, Ok, Err, sym, ◌∙◌}
 use Rattle.c_tree.specs.Unit.{Item}
 use Rattle.c_reading.specs.Knot.{unit_at}
 use Rattle.c_reading.specs.Reading.{Read, Refusal}
@@ -9,28 +9,28 @@ use Rattle.c_parser.proofs.Refusals.{IsRefused, first_of, height_of, allowed_of,
 use Rattle.c_parser.proofs.parsing.refusal.Goals as goal
 
 -- what was refused was not read
-not_read : (read : Read (List Item)) (items : List Item) (refusal : Refusal) → read ≡ Err refusal → read ≡ Ok (unit_found items) → ⊥
-not_read read items refusal refused found = cc
+not_read : (wide : Bool) (read : Read (List Item)) (items : List Item) (refusal : Refusal) → read ≡ Err refusal → read ≡ Ok (unit_found wide items) → ⊥
+not_read wide read items refusal refused found = cc
 
 pub returns : goal.returns
 returns c =
     λ reason.
     let lexed = c.args.tokens.now in
     let found = c.fault_of.ensures reason in
-    let refused : unit_at (lexemes_of lexed) ≡ Err (found.0, found.1) =
-    refusal_of (unit_at (lexemes_of lexed)) c.args.error found.0 found.1 found.2 c.requires in
-    let it : IsRefused lexed.tokens c.fault_of.result =
+    let refused : unit_at lexed.wide (lexemes_of lexed) ≡ Err (found.0, found.1) =
+    refusal_of (unit_at lexed.wide (lexemes_of lexed)) c.args.error found.0 found.1 found.2 c.requires in
+    let it : IsRefused lexed.wide lexed.tokens c.fault_of.result =
     record { named = found.0; token = found.1; is = found.3; refused = refused } in
     record {
       none = λ items formed.
-          not_read (unit_at (lexemes_of lexed)) items (found.0, found.1) refused
-          (c.well_formed_is_read.ensures (lexemes_of lexed) (numbered_from_zero lexed.tokens) items formed);
-      first = first_of lexed.tokens c.is_ended.ensures c.place_is_first.ensures c.fault_of.result it;
-      height = height_of lexed.tokens c.is_ended.ensures c.height_alone.ensures c.fault_of.result it;
+          not_read lexed.wide (unit_at lexed.wide (lexemes_of lexed)) items (found.0, found.1) refused
+          (c.well_formed_is_read.ensures lexed.wide (lexemes_of lexed) (numbered_from_zero lexed.tokens) items formed);
+      first = first_of lexed.wide lexed.tokens c.is_ended.ensures c.place_is_first.ensures c.fault_of.result it;
+      height = height_of lexed.wide lexed.tokens c.is_ended.ensures c.height_alone.ensures c.fault_of.result it;
       allowed = λ token is.
-          allowed_of lexed.tokens c.is_ended.ensures c.syntax_is_allowed.ensures token
+          allowed_of lexed.wide lexed.tokens c.is_ended.ensures c.syntax_is_allowed.ensures token
           (record { named = found.0; token = found.1; is = sym is ∙ found.3; refused = refused });
       deep = λ token is.
-          deep_of lexed.tokens c.is_ended.ensures c.only_the_height.ensures token
+          deep_of lexed.wide lexed.tokens c.is_ended.ensures c.only_the_height.ensures token
           (record { named = found.0; token = found.1; is = sym is ∙ found.3; refused = refused });
     }

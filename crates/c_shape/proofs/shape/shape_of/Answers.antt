@@ -5,7 +5,7 @@ use Rattle.c_tree.specs.Lists.{some_declr_from, desigs_from}
 use Rattle.c_tree.specs.Tree as tree
 use Rattle.c_tree.specs.Unit.{spec_words_from}
 use Rattle.c_tree.specs.View.{expr_of, init_list_of}
-use Rattle.c_tree.proofs.ViewLemmas.{cast_is, sizeof_type_is, call_is, compound_is, statement_expr_is, va_arg_is, offset_is, init_list_is}
+use Rattle.c_tree.proofs.ViewLemmas.{cast_is, sizeof_type_is, call_is, compound_is, statement_expr_is, va_arg_is, offset_is, compat_is, generic_is, init_list_is}
 use Rattle.c_shape.specs.declared.shape.TypeShape.{TypeShape}
 use Rattle.c_shape.specs.Shapes.{words_of, declr_in}
 use Rattle.c_shape.proofs.shape.shape_of.Goals as goal
@@ -58,3 +58,15 @@ returns-in-Offset c =
     let t = c.type_shape-in-Offset in
     typed (λ ws d. tree.offset e.keyword e.«open» ws d e.comma e.member (desigs_from e.steps.items) e.close) t.result e.type_name t.ensures.words t.ensures.declr
     ∙ sym (ap expr_of e.is ∙ offset_is e.keyword e.«open» e.type_name e.comma e.member e.steps e.close)
+
+pub returns-in-Compat : goal.returns-in-Compat
+returns-in-Compat c =
+    let e = c.in-Compat in
+    let t = c.type_shape-in-Compat in
+    let t2 = c.type_shape-in-Compat-2 in
+    typed (λ ws d. tree.compat e.keyword e.«open» ws d e.comma (words_of t2.result) (declr_in t2.result) e.close) t.result e.left t.ensures.words t.ensures.declr
+    ∙ typed (λ ws d. tree.compat e.keyword e.«open» (spec_words_from e.left.specs.words.items) (some_declr_from e.left.declr) e.comma ws d e.close) t2.result e.right t2.ensures.words t2.ensures.declr
+    ∙ sym (ap expr_of e.is ∙ compat_is e.keyword e.«open» e.left e.comma e.right e.close)
+
+pub returns-in-Generic : goal.returns-in-Generic
+returns-in-Generic c = let e = c.in-Generic in sym (ap expr_of e.is ∙ generic_is e.keyword e.«open» e.control e.associations e.close)

@@ -1,4 +1,4 @@
-use Rattle.std.proofs.Common.{◌≡◌, ◌<◌, ◌≤◌, ℕ, Err, IsErrOf, sym, ap, subst}
+use Rattle.std.proofs.Common.{◌≡◌, ◌<◌, ◌≤◌, ℕ, Bool, Err, IsErrOf, sym, ap, subst}
 use Rattle.lattice_core.specs.View.{orders_of}
 use Rattle.flow_graph.specs.System.{System, IsWellOwned, most_variables}
 use Rattle.flow_graph.specs.Unfolding.{NamesElements}
@@ -6,9 +6,14 @@ use Rattle.unit_skeletons.specs.declared.skeletons.Skeletons.{Skeletons}
 use Rattle.c_types.specs.Sources.{sources_in}
 use Rattle.constraint_rules.specs.Systems.{AreNamed}
 use Rattle.unit_system.specs.declared.fault.GenerateFault.{GenerateFault}
-use Rattle.unit_system.specs.Systems.{AreNumbered, starts_on}
+use Rattle.position_laws.specs.Positions.{positions_of}
+use Rattle.row_rules.specs.Annotations.{has_access}
+use Rattle.row_rules.specs.Sites.{variables_among}
+use Rattle.unit_system.specs.Numberings.{IsNumberingOf}
+use Rattle.unit_system.specs.Systems.{AreNumbered, names_on, starts_on}
+use Rattle.constraint_gen.specs.Listing.{is_listed, listed_at}
 use Rattle.constraint_gen.specs.Programs.{program_in}
-use Rattle.constraint_gen.proofs.Sources.{counted, generated}
+use Rattle.constraint_gen.proofs.Sources.{sound_of, counted, generated}
 use Rattle.constraint_gen.proofs.Units.{numbers_differ}
 use Rattle.constraint_gen.proofs.generating.generate.Goals as goal
 
@@ -20,9 +25,13 @@ returns-in-Ok-constrain-clause-made c = λ all is.
     generated c.args.program.now all c.args.units.now is c.args.lattices.now c.args.prelude.now
     c.starts_of_program_are_found.ensures c.positions_are_counted.ensures c.positions_stand.ensures _
     (c.in-Ok-constrain.ensures.system all is)
-    (subst (λ (s : Skeletons). AreNumbered (starts_on c.args.program.now) s) (sym c.in-Ok-constrain.ensures.skeletons)
-    c.in-Ok.ensures.numbers.skeletons)
-    (c.in-Ok.ensures.listed (numbers_differ all c.args.units.now is.lexed is.differ))
+    (subst (λ (s : Skeletons). AreNumbered (starts_on (has_access c.args.lattices.now) c.args.program.now) s)
+    (sym c.in-Ok-constrain.ensures.skeletons)
+    (subst (λ (b : Bool). IsNumberingOf b c.args.program.now c.in-Ok.it.numbering) c.bounds_accesses.ensures
+    c.in-Ok.ensures.numbers).skeletons)
+    (subst (λ (b : Bool). c.in-Ok.it.listed.items
+    ≡ listed_at (is_listed c.args.units.now (names_on c.args.program.now)) 0 (positions_of (starts_on b c.args.program.now)))
+    c.bounds_accesses.ensures (c.in-Ok.ensures.listed (numbers_differ all c.args.units.now is.lexed is.differ)))
 
 pub returns-in-Ok-constrain-clause-owned : goal.returns-in-Ok-constrain-clause-owned
 returns-in-Ok-constrain-clause-owned c = λ all is.
@@ -32,30 +41,35 @@ returns-in-Ok-constrain-clause-owned c = λ all is.
 pub returns-in-Ok-constrain-clause-named : goal.returns-in-Ok-constrain-clause-named
 returns-in-Ok-constrain-clause-named c = λ all is.
     subst (λ (sys : System). AreNamed c.args.lattices.now sys) (sym (c.in-Ok-constrain.ensures.system all is))
-    (c.elements_are_named.ensures.named (program_in c.args.lattices.now c.args.prelude.now all) c.law.ensures.sized)
+    (c.elements_are_named.ensures.named (program_in c.args.lattices.now c.args.prelude.now all)
+    (sound_of (sources_in all) is.read) c.law.ensures.sized)
 
 pub returns-in-Ok-constrain-clause-elements : goal.returns-in-Ok-constrain-clause-elements
 returns-in-Ok-constrain-clause-elements c = λ all is.
     subst (λ (sys : System). NamesElements sys (orders_of c.args.lattices.now)) (sym (c.in-Ok-constrain.ensures.system all is))
-    (c.elements_are_named.ensures.lattices (program_in c.args.lattices.now c.args.prelude.now all) c.law.ensures.sized)
+    (c.elements_are_named.ensures.lattices (program_in c.args.lattices.now c.args.prelude.now all)
+    (sound_of (sources_in all) is.read) c.law.ensures.sized)
 
 pub returns-in-Ok-constrain-clause-few_variables : goal.returns-in-Ok-constrain-clause-few_variables
 returns-in-Ok-constrain-clause-few_variables c = λ all is.
     subst (λ (n : ℕ). n ≤ most_variables)
-    (counted c.args.program.now (sources_in all) is.named is.taped c.starts_of_program_are_found.ensures
-    c.positions_are_counted.ensures)
-    c.in-Ok.ensures.few
+    (counted c.args.program.now (sources_in all) (sound_of (sources_in all) is.read) is.named is.taped
+    c.starts_of_program_are_found.ensures c.positions_are_counted.ensures (has_access c.args.lattices.now))
+    (subst (λ (b : Bool). variables_among (starts_on b c.args.program.now) ≤ most_variables) c.bounds_accesses.ensures
+    c.in-Ok.ensures.few)
 
 pub returns-in-Err-constrain-clause-fit_variables : goal.returns-in-Err-constrain-clause-fit_variables
 returns-in-Err-constrain-clause-fit_variables c = λ many all is.
     subst (λ (n : ℕ). n ≤ most_variables)
-    (counted c.args.program.now (sources_in all) is.named is.taped c.starts_of_program_are_found.ensures
-    c.positions_are_counted.ensures)
-    c.in-Ok.ensures.few
+    (counted c.args.program.now (sources_in all) (sound_of (sources_in all) is.read) is.named is.taped
+    c.starts_of_program_are_found.ensures c.positions_are_counted.ensures (has_access c.args.lattices.now))
+    (subst (λ (b : Bool). variables_among (starts_on b c.args.program.now) ≤ most_variables) c.bounds_accesses.ensures
+    c.in-Ok.ensures.few)
 
 pub returns-in-Err-clause-too_many_variables : goal.returns-in-Err-clause-too_many_variables
 returns-in-Err-clause-too_many_variables c = λ many all is.
     subst (λ (n : ℕ). most_variables < n)
-    (counted c.args.program.now (sources_in all) is.named is.taped c.starts_of_program_are_found.ensures
-    c.positions_are_counted.ensures)
-    (c.in-Err.ensures.too_many (ap Err (same_fault _ _ many)))
+    (counted c.args.program.now (sources_in all) (sound_of (sources_in all) is.read) is.named is.taped
+    c.starts_of_program_are_found.ensures c.positions_are_counted.ensures (has_access c.args.lattices.now))
+    (subst (λ (b : Bool). most_variables < variables_among (starts_on b c.args.program.now)) c.bounds_accesses.ensures
+    (c.in-Err.ensures.too_many (ap Err (same_fault _ _ many))))

@@ -1,4 +1,4 @@
-use Rattle.std.proofs.Common.{arith, ℕ, ◌≤◌, List, length, subst}
+use Rattle.std.proofs.Common.{arith, ℕ, false, ◌≤◌, List, length, subst}
 use Rattle.lattice_file.specs.Faults.{IsFileFault}
 use Rattle.generated_source.specs.Source.{lattice_text}
 use Rattle.cqual_tool.specs.declared.status.Status.TheVariants.{Malformed}
@@ -14,6 +14,6 @@ returns-clause-outcome c =
     (λ answer says reason. at_equal (OfMade c.args.number) _ Malformed _ _ says.0 says.1
     (MadeLatticesRefused fault (record {
       within = within;
-      refused = subst (λ (bytes : List ℕ). IsFileFault bytes fault) c.lattice_bytes.ensures c.in-Err.ensures.refused;
+      refused = subst (λ (bytes : List ℕ). IsFileFault false bytes fault) c.lattice_bytes.ensures c.in-Err.ensures.refused;
       reason = reason;
     })))

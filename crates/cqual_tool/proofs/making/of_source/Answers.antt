@@ -1,4 +1,4 @@
-use Rattle.std.proofs.Common.{◌≡◌, ◌+◌, ◌<◌, ◌≤◌, arith, codes, List, [], ◌∷◌, length, sym, ◌∙◌, subst}
+use Rattle.std.proofs.Common.{◌≡◌, ◌+◌, ◌<◌, ◌≤◌, arith, codes, false, List, [], ◌∷◌, length, sym, ◌∙◌, subst}
 use Rattle.std.proofs.lemmas.Result.{IfOk-weaker}
 use Rattle.cqual_tool.specs.Outcome.{IsDecided, source_limit}
 use Rattle.cqual_tool.specs.Preparing.{IsEarlier, IsOneMore}
@@ -26,9 +26,9 @@ returns-in-Refused-clause-outcome c = λ read.
     let within : length bytes ≤ source_limit = omega arith in
     let may : IsEarlier 1 [] c.nothing_before.result = record { are = c.nothing_before.ensures.units; may = nothing_earlier 1 } in
     let one =
-    at_number lattices 1 c.new-unit.result (codes "generated.c") bytes [] marks c.nothing_before.result c.in_ok-answer.field-0
+    at_number false lattices 1 c.new-unit.result (codes "generated.c") bytes [] marks c.nothing_before.result c.in_ok-answer.field-0
     c.new-unit.ensures may (c.in_ok-answer.ensures lattices [] c.in_ok-words.ensures) in
-    let is = subst (IsOneMore lattices 1 (codes "generated.c") bytes [] marks) c.in-Refused.is one in
+    let is = subst (IsOneMore false lattices 1 (codes "generated.c") bytes [] marks) c.in-Refused.is one in
     of_its_bytes number lattices bytes _ _ c.requires read (made_unread number lattices bytes within c.in-Refused.answer is.0 is.1)
 
 pub returns-in-Refused-clause-decided : goal.returns-in-Refused-clause-decided
@@ -38,9 +38,9 @@ returns-in-Refused-clause-decided c =
     let marks = c.nothing_before.result.prelude in
     let may : IsEarlier 1 [] c.nothing_before.result = record { are = c.nothing_before.ensures.units; may = nothing_earlier 1 } in
     let one =
-    at_number lattices 1 c.new-unit.result (codes "generated.c") bytes [] marks c.nothing_before.result c.in_ok-answer.field-0
+    at_number false lattices 1 c.new-unit.result (codes "generated.c") bytes [] marks c.nothing_before.result c.in_ok-answer.field-0
     c.new-unit.ensures may (c.in_ok-answer.ensures lattices [] c.in_ok-words.ensures) in
-    let is = subst (IsOneMore lattices 1 (codes "generated.c") bytes [] marks) c.in-Refused.is one in
+    let is = subst (IsOneMore false lattices 1 (codes "generated.c") bytes [] marks) c.in-Refused.is one in
     subst IsDecided (sym is.0) tt
 
 pub of_units-requires : goal.of_units-requires
@@ -50,9 +50,9 @@ of_units-requires c =
     let marks = c.nothing_before.result.prelude in
     let may : IsEarlier 1 [] c.nothing_before.result = record { are = c.nothing_before.ensures.units; may = nothing_earlier 1 } in
     let one =
-    at_number lattices 1 c.new-unit.result (codes "generated.c") bytes [] marks c.nothing_before.result c.in_ok-answer.field-0
+    at_number false lattices 1 c.new-unit.result (codes "generated.c") bytes [] marks c.nothing_before.result c.in_ok-answer.field-0
     c.new-unit.ensures may (c.in_ok-answer.ensures lattices [] c.in_ok-words.ensures) in
-    let is = subst (IsOneMore lattices 1 (codes "generated.c") bytes [] marks) c.in-Units.is one in
+    let is = subst (IsOneMore false lattices 1 (codes "generated.c") bytes [] marks) c.in-Units.is one in
     record { before = (1 + 1, is.0 ∷ [], is.2) }
 
 pub returns-clause-outcome : goal.returns-clause-outcome
@@ -65,8 +65,8 @@ returns-clause-outcome c = λ read.
     let within : length bytes ≤ source_limit = omega arith in
     let may : IsEarlier 1 [] c.nothing_before.result = record { are = c.nothing_before.ensures.units; may = nothing_earlier 1 } in
     let one =
-    at_number lattices 1 c.new-unit.result (codes "generated.c") bytes [] marks c.nothing_before.result c.in_ok-answer.field-0
+    at_number false lattices 1 c.new-unit.result (codes "generated.c") bytes [] marks c.nothing_before.result c.in_ok-answer.field-0
     c.new-unit.ensures may (c.in_ok-answer.ensures lattices [] c.in_ok-words.ensures) in
-    let is = subst (IsOneMore lattices 1 (codes "generated.c") bytes [] marks) c.in-Units.is one in
+    let is = subst (IsOneMore false lattices 1 (codes "generated.c") bytes [] marks) c.in-Units.is one in
     IfOk-weaker c.of_units.result _ _ (λ answer of. of_its_bytes number lattices bytes _ _ c.requires read of)
     (c.of_units.ensures.outcome (1 + 1) is.0 is.2 (is.3 ∙ c.nothing_before.ensures.prelude) bytes within is.1)

@@ -3,7 +3,7 @@ use Rattle.cqual_tool.proofs.Joining.{one_more_may}
 use Rattle.cqual_tool.proofs.preparing.added.Goals as goal
 
 pub returns : goal.returns
-returns c = λ lattices number file bytes before unit earlier taped parses. (
+returns c = λ wide lattices number file bytes before unit earlier taped parses. (
   unit,
   parses,
   record {

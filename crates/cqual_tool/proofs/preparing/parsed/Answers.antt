@@ -5,14 +5,14 @@ use Rattle.cqual_tool.proofs.Joining.{refused}
 use Rattle.cqual_tool.proofs.preparing.parsed.Goals as goal
 
 pub returns-in-Ok : goal.returns-in-Ok
-returns-in-Ok c = λ lattices number bytes before earlier lexes.
+returns-in-Ok c = λ wide lattices number bytes before earlier lexes.
     let taped = c.in-Ok.ensures.tape in
     let unit : UnitRead = record { lexed = c.args.tokens; items = taped.items } in
-    c.added.ensures lattices number c.args.file.now bytes before unit earlier (record { lexed_is = refl; taped = taped.taped })
+    c.added.ensures wide lattices number c.args.file.now bytes before unit earlier (record { lexed_is = refl; taped = taped.taped })
     (record { lexes = lexes; formed = taped.formed })
 
 pub returns : goal.returns
-returns c = λ lattices number bytes before earlier lexes.
+returns c = λ wide lattices number bytes before earlier lexes.
     let said = c.in_ok-unit_refused-in-Err.ensures in
-    refused (SourceRefused lattices number c.args.file.now bytes) _ c.in_ok-unit_refused-in-Err.field-0 said.line
+    refused (SourceRefused wide lattices number c.args.file.now bytes) _ c.in_ok-unit_refused-in-Err.field-0 said.line
     (Unparsed _ c.in-Err.fault lexes said.reason (c.in-Err.ensures.refused c.in-Err.fault refl said.reason))

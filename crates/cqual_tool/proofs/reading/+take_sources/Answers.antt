@@ -66,14 +66,15 @@ returns-in-Refused-clause-reads g t c = λ before earlier.
     let same : read.0.bytes ≡ bytes = found.1 ∙ sym c.deref.ensures.value in
     let within : length read.0.bytes ≤ limit_in left = subst (λ (n : ℕ). length read.0.bytes ≤ n) (limit_is left c.min.result c.min.ensures) found.2 in
     let one =
-    at_number lattices number c.new-unit.result file bytes before marks c.args.earlier c.in_ok-answer-in-Some-2.field-0 c.new-unit.ensures earlier
+    at_number named.wide lattices number c.new-unit.result file bytes before marks c.args.earlier c.in_ok-answer-in-Some-2.field-0 c.new-unit.ensures earlier
     (c.in_ok-answer-in-Some-2.ensures lattices before c.requires.words) in
-    let is = subst (IsOneMore lattices number file bytes before marks) c.in-Refused.is one in
+    let is = subst (IsOneMore named.wide lattices number file bytes before marks) c.in-Refused.is one in
     at_sources _ _ named lattices before marks number left (file ∷ rest) (drop c.args.index named.sources) _ there
     (source_refused _ _ read.0 read.1 named file read.2 lattices before marks number left rest c.in-Refused.answer bytes found.0 same within is.0 is.1)
 
 pub returns-in-Refused-clause-decided : goal.returns-in-Refused-clause-decided
 returns-in-Refused-clause-decided g t c =
+    let wide = c.args.named.now.wide in
     let lattices = c.args.lattices.now in
     let marks = c.args.earlier.prelude in
     let number = c.args.index + 1 in
@@ -82,13 +83,14 @@ returns-in-Refused-clause-decided g t c =
     let some = sym c.source.ensures ∙ ap (option_map (λ name. name.now)) c.in-Some.is in
     let bytes = c.deref.result.now in
     let one =
-    at_number lattices number c.new-unit.result file bytes before marks c.args.earlier c.in_ok-answer-in-Some-2.field-0 c.new-unit.ensures
+    at_number wide lattices number c.new-unit.result file bytes before marks c.args.earlier c.in_ok-answer-in-Some-2.field-0 c.new-unit.ensures
     c.requires.before.1 (c.in_ok-answer-in-Some-2.ensures lattices before c.requires.words) in
-    let is = subst (IsOneMore lattices number file bytes before marks) c.in-Refused.is one in
+    let is = subst (IsOneMore wide lattices number file bytes before marks) c.in-Refused.is one in
     subst IsDecided (sym is.0) tt
 
 pub take_sources-requires : goal.take_sources-requires
 take_sources-requires g t c κs below =
+    let wide = c.args.named.now.wide in
     let lattices = c.args.lattices.now in
     let marks = c.args.earlier.prelude in
     let number = c.args.index + 1 in
@@ -97,9 +99,9 @@ take_sources-requires g t c κs below =
     let some = sym c.source.ensures ∙ ap (option_map (λ name. name.now)) c.in-Some.is in
     let bytes = c.deref.result.now in
     let one =
-    at_number lattices number c.new-unit.result file bytes before marks c.args.earlier c.in_ok-answer-in-Some-2.field-0 c.new-unit.ensures
+    at_number wide lattices number c.new-unit.result file bytes before marks c.args.earlier c.in_ok-answer-in-Some-2.field-0 c.new-unit.ensures
     c.requires.before.1 (c.in_ok-answer-in-Some-2.ensures lattices before c.requires.words) in
-    let is = subst (IsOneMore lattices number file bytes before marks) c.in-Units.is one in
+    let is = subst (IsOneMore wide lattices number file bytes before marks) c.in-Units.is one in
     let there = within (names_in c.args.named.now).sources c.args.index file some in
     let same = length-map c.args.named.now.sources.now (λ (name : Bor (List ℕ)). name.now) in
     let measure = c.decreases in (
@@ -124,11 +126,11 @@ returns-in-Some-2-clause-reads g t c = λ before earlier.
     let same : read.0.bytes ≡ c.in-Some-2.bytes.items = found.1 in
     let within : length read.0.bytes ≤ limit_in left = subst (λ (n : ℕ). length read.0.bytes ≤ n) (limit_is left c.min.result c.min.ensures) found.2 in
     let one =
-    at_number lattices number c.new-unit.result file bytes before marks c.args.earlier c.in_ok-answer-in-Some-2.field-0 c.new-unit.ensures earlier
+    at_number named.wide lattices number c.new-unit.result file bytes before marks c.args.earlier c.in_ok-answer-in-Some-2.field-0 c.new-unit.ensures earlier
     (c.in_ok-answer-in-Some-2.ensures lattices before c.requires.words) in
     let is =
-    subst (λ (b : List ℕ). IsOneMore lattices number file b before marks c.in_ok-answer-in-Some-2.field-0) c.deref.ensures.value one in
-    let joins = subst (IsOneMore lattices number file c.in-Some-2.bytes.items before marks) c.in-Units.is is in
+    subst (λ (b : List ℕ). IsOneMore named.wide lattices number file b before marks c.in_ok-answer-in-Some-2.field-0) c.deref.ensures.value one in
+    let joins = subst (IsOneMore named.wide lattices number file c.in-Some-2.bytes.items before marks) c.in-Units.is is in
     let size = c.in-Some-2.bytes.ok.0 in
     let count = c.len.ensures in
     let less : left - c.len.result ≡ left - length c.in-Some-2.bytes.items = omega (arith, size, count) in

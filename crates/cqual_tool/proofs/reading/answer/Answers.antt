@@ -52,9 +52,9 @@ returns-in-Some-clause-reads g c =
     (λ inputs gives.
     let content = sym (whole_is read.0 inputs.lattice found.0 gives) in
     let Short : List ℕ → Type 0 = λ b. length b ≤ lattice_limit in
-    let fails : LatticesFail inputs.lattice fault = record {
+    let fails : LatticesFail named.wide inputs.lattice fault = record {
       within = subst Short content found.2;
-      refused = subst (λ (bytes : List ℕ). IsFileFault bytes fault) (same ∙ content) c.in-Err.ensures.refused;
+      refused = subst (λ (bytes : List ℕ). IsFileFault named.wide bytes fault) (same ∙ content) c.in-Err.ensures.refused;
       reason = said.reason;
     } in
     at_equal (OfFiles named inputs) _ Malformed _ _ said.line.0 said.line.1 (LatticeRefused fault fails))
@@ -66,10 +66,10 @@ returns-in-Ok-clause-reads g c =
     let read = c.in_ok-bytes.ensures.read in
     let found = found_some lattice_limit read.0 c.in_ok-bytes.field-0 c.in-Some.bytes c.in-Some.is read.3 in
     let same : c.deref.result.now ≡ read.0.bytes = c.deref.ensures.value ∙ sym found.1 in
-    let reads : LatticesRead read.0.bytes lattices = record {
+    let reads : LatticesRead named.wide read.0.bytes lattices = record {
       within = found.2;
-      read = subst (λ (bytes : List ℕ). Reads bytes lattices) same c.in-Ok.ensures.read;
+      read = subst (λ (bytes : List ℕ). Reads named.wide bytes lattices) same c.in-Ok.ensures.read;
     } in
     lattice_goes _ _ read.0 read.1 named read.2 _ lattices found.0 reads
-    (λ inputs status text here of. LatticeRead lattices status text (subst (λ (bytes : List ℕ). LatticesRead bytes lattices) (sym here) reads) of)
+    (λ inputs status text here of. LatticeRead lattices status text (subst (λ (bytes : List ℕ). LatticesRead named.wide bytes lattices) (sym here) reads) of)
     c.take_units.result c.take_units.ensures.reads

@@ -82,11 +82,11 @@ returns-in-Some-clause-reads g c =
     (λ inputs gives.
     let content = sym (whole_is read.0 inputs.prelude found.0 gives) in
     let Short : List ℕ → Type 0 = λ b. length b ≤ source_limit in
-    let fails : PreludeFails c.args.lattices.now inputs.prelude fault = record {
+    let fails : PreludeFails named.wide c.args.lattices.now inputs.prelude fault = record {
       within = subst Short content found.2;
       words = c.args.words.now;
       mean = c.requires.words;
-      refused = subst (λ (bytes : List ℕ). IsFaultOf c.args.words.now bytes fault) (same ∙ content) c.in-Err.ensures.refused;
+      refused = subst (λ (bytes : List ℕ). IsFaultOf named.wide c.args.words.now bytes fault) (same ∙ content) c.in-Err.ensures.refused;
       reason = said.reason;
     } in
     at_equal (OfUnits named inputs c.args.lattices.now) _ Malformed _ _ said.line.0
@@ -109,11 +109,11 @@ returns-in-Ok-clause-reads g c =
     (λ inputs here.
     let content = sym here in
     let Short : List ℕ → Type 0 = λ b. length b ≤ source_limit in
-    let reads : PreludeReads lattices inputs.prelude unit marks = record {
+    let reads : PreludeReads named.wide lattices inputs.prelude unit marks = record {
       within = subst Short content found.2;
       words = c.args.words.now;
       mean = c.requires.words;
-      is = subst (λ (bytes : List ℕ). IsPrelude c.args.words.now bytes unit marks) (same ∙ content) c.in-Ok.ensures.reads;
+      is = subst (λ (bytes : List ℕ). IsPrelude named.wide c.args.words.now bytes unit marks) (same ∙ content) c.in-Ok.ensures.reads;
     } in
     OnePrelude file unit marks c.requires.named reads)
     c.take_sources.result

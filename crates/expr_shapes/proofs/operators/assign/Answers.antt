@@ -1,7 +1,6 @@
-use Rattle.std.proofs.Common.{◌≡◌, ◌∷◌, false, Option, refl, sym, ◌∙◌, ap}
+use Rattle.std.proofs.Common.{◌∙◌, ap}
 use Rattle.std.proofs.lemmas.Result.{on_ok_weaker}
-use Rattle.type_table.specs.Types.{CType}
-use Rattle.name_rules.specs.Values.{Shape, a_value}
+use Rattle.name_rules.specs.Values.{Shape}
 use Rattle.name_rules.specs.Uses.{assigned_shape}
 use Rattle.shape_steps.specs.State as states
 use Rattle.shape_stacks.specs.Views.{state_in}

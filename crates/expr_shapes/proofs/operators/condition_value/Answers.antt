@@ -1,7 +1,6 @@
-use Rattle.std.proofs.Common.{◌≡◌, ◌&&◌, Bool, Option, ◌∙◌, ap}
-use Rattle.std.proofs.lemmas.Result.{on_ok_weaker}
+use Rattle.std.proofs.Common.{Bool, Option, ◌∙◌, ap}
 use Rattle.type_table.specs.Types.{CType}
-use Rattle.name_rules.specs.Values.{a_value, cond_type, is_plain_void_pointer}
+use Rattle.name_rules.specs.Values.{cond_type}
 use Rattle.shape_values.specs.Views.{some_value_type}
 use Rattle.shape_steps.specs.State as states
 use Rattle.shape_stacks.specs.Views.{state_in}

@@ -1,11 +1,13 @@
-use Rattle.std.proofs.Common.{ℕ, Option, ◌∙◌, ap}
+use Rattle.std.proofs.Common.{◌≡◌, ℕ, Option, ◌∙◌, ap, subst}
 use Rattle.name_rules.specs.Spellings.{Place}
 use Rattle.name_rules.specs.Values.{Shape}
 use Rattle.shape_values.specs.Views.{shape_in}
 use Rattle.shape_steps.specs.State.{State}
+use Rattle.shape_steps.specs.Steps.{step}
 use Rattle.shape_stacks.specs.Views.{state_in}
 use Rattle.place_map.specs.Values.{or_else}
 use Rattle.unit_spelling.specs.Spelled.{spelling_of}
+use Rattle.unit_shapes.specs.Views.{names_in}
 use Rattle.expr_types.specs.Along.{op_shape, keyed, first_at}
 use Rattle.expr_types.specs.Keys.{op_key}
 use Rattle.expr_types.specs.Views.{found_at}
@@ -24,5 +26,7 @@ returns-clause-ended c =
     ∙ ap (λ (key : Option ℕ). or_else (known at) (first_at (keyed u key (shape_in rows c.ended-shape.result)) at)) c.key.ensures
     ∙ ap (λ (it : Shape). or_else (known at) (first_at (keyed u (op_key op) it) at))
     (c.ended-shape.ensures before c.literal-literal.ensures)
-    ∙ ap (λ (st : State). or_else (known at) (first_at (keyed u (op_key op) (op_shape before st op)) at)) c.in_ok-step.ensures)
+    ∙ ap (λ (st : State). or_else (known at) (first_at (keyed u (op_key op) (op_shape before st op)) at))
+    (subst (λ names. state_in rows c.step.new.stacks ≡ step u (names_in rows names) before op) c.names.ensures
+    c.in_ok-step.ensures))
     c.add.ensures

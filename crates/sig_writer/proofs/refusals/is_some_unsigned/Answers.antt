@@ -1,8 +1,7 @@
 use Rattle.std.proofs.Common.{◌≡◌, ℕ, true, not, inl, inr, sym, ◌∙◌, ap, subst, arith}
 use Rattle.std.proofs.lemmas.Bool.{cases_lt}
 use Rattle.sig_writer.specs.declared.says.Elements.{Elements}
-use Rattle.sig_writer.specs.Refusing.{are_within}
-use Rattle.sig_writer.specs.Saying.{elements_of, said_at}
+use Rattle.sig_writer.specs.Saying.{elements_of, said_at, AreOf}
 use Rattle.sig_writer.specs.Signatures.{has_words, lacks_words}
 use Rattle.sig_writer.proofs.Indices.{any_from}
 use Rattle.sig_writer.proofs.Ranges.{any_none, in_range, is_node}
@@ -15,11 +14,9 @@ loop-n-init c = λ v has lt. let range = in_range c.args.said.now.vars c.nodes-n
 pub has_words-requires : goal.has_words-requires
 has_words-requires c =
     let said = c.args.said.now in
-    let here = is_node said.vars c.nodes-nodes.result c.nodes-nodes.ensures c.loop-n.n c.loop-n.auto.n
-    c.loop-n-test.true in
     let is : c.elements.result ≡ elements_of (said_at said c.loop-n.n).low (said_at said c.loop-n.n).high =
     c.elements.ensures ∙ ap (λ (v : ℕ). elements_of (said_at said v).low (said_at said v).high) c.new.ensures in
-    subst (λ (e : Elements). are_within c.args.lattice.now e) (sym is) (c.requires c.loop-n.n here)
+    subst (λ (e : Elements). AreOf c.args.lattice.now.order e) (sym is) (c.requires c.loop-n.n)
 
 pub returns-then-not-has_words : goal.returns-then-not-has_words
 returns-then-not-has_words c =

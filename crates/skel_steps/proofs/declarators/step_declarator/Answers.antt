@@ -1,13 +1,6 @@
-use Rattle.std.proofs.Common.{◌≡◌, ◌∷◌, ◌+◌, ℕ, Bool, true, false, List, [], Option, option_map, suc, refl, sym, ◌∙◌, ap, add-one}
+use Rattle.std.proofs.Common.{sym, ◌∙◌, ap}
 use Rattle.std.proofs.lemmas.Result.{on_ok_weaker}
-use Rattle.type_table.specs.Types.{CType}
-use Rattle.qual_types.specs.Skel.{Skel}
-use Rattle.name_rules.specs.Spellings.{Spelling, Place}
-use Rattle.row_rules.specs.Worlds.{World}
-use Rattle.row_rules.specs.Vals as vals
-use Rattle.row_steps.specs.State as states
 use Rattle.row_steps.specs.Steps as steps
-use Rattle.row_world.specs.Shown.{Shows, skel}
 use Rattle.skel_steps.specs.Stepping.{tables_of, state_of}
 use Rattle.skel_steps.proofs.declarators.step_declarator.Goals as goal
 
@@ -76,3 +69,27 @@ returns-in-DeclarationEnd c =
     let k = c.args.known.now in
     let st = state_of k c.args.stacks.now in
     λ w shows. c.close-in-DeclarationEnd.ensures (tables_of k) ∙ ap (steps.declr_step w st) (sym c.in-DeclarationEnd.is)
+
+pub returns-in-AutoBegin : goal.returns-in-AutoBegin
+returns-in-AutoBegin c =
+    let k = c.args.known.now in
+    let st = state_of k c.args.stacks.now in
+    λ w shows. ap (steps.declr_step w st) (sym c.in-AutoBegin.is)
+
+pub returns-in-AutoEnd : goal.returns-in-AutoEnd
+returns-in-AutoEnd c =
+    let k = c.args.known.now in
+    let st = state_of k c.args.stacks.now in
+    on_ok_weaker c.declare-in-AutoEnd.result (λ done w shows. done (tables_of k) ∙ ap (steps.declr_step w st) (sym c.in-AutoEnd.is)) c.declare-in-AutoEnd.ensures
+
+pub returns-in-Identifier : goal.returns-in-Identifier
+returns-in-Identifier c =
+    let k = c.args.known.now in
+    let st = state_of k c.args.stacks.now in
+    λ w shows. ap (steps.declr_step w st) (sym c.in-Identifier.is)
+
+pub returns-in-OldParam : goal.returns-in-OldParam
+returns-in-OldParam c =
+    let k = c.args.known.now in
+    let st = state_of k c.args.stacks.now in
+    on_ok_weaker c.declare-in-OldParam.result (λ done w shows. done (tables_of k) ∙ ap (steps.declr_step w st) (sym c.in-OldParam.is)) c.declare-in-OldParam.ensures

@@ -1,13 +1,6 @@
-use Rattle.std.proofs.Common.{◌≡◌, ◌∷◌, ◌+◌, ℕ, Bool, true, false, List, [], Option, option_map, suc, refl, sym, ◌∙◌, ap, add-one}
+use Rattle.std.proofs.Common.{sym, ◌∙◌, ap}
 use Rattle.std.proofs.lemmas.Result.{on_ok_weaker}
-use Rattle.type_table.specs.Types.{CType}
-use Rattle.qual_types.specs.Skel.{Skel}
-use Rattle.name_rules.specs.Spellings.{Spelling, Place}
-use Rattle.row_rules.specs.Worlds.{World}
-use Rattle.row_rules.specs.Vals as vals
-use Rattle.row_steps.specs.State as states
 use Rattle.row_steps.specs.Steps as steps
-use Rattle.row_world.specs.Shown.{Shows, skel}
 use Rattle.skel_steps.specs.Stepping.{tables_of, state_of}
 use Rattle.skel_steps.proofs.expressions.step_expression.Goals as goal
 
@@ -112,3 +105,9 @@ returns-in-Dot c =
     let k = c.args.known.now in
     let st = state_of k c.args.stacks.now in
     on_ok_weaker c.member.result (λ done w shows. done c.in-Dot.token c.in-Dot.member w shows ∙ ap (steps.expr_step w st) (sym c.in-Dot.is)) c.member.ensures
+
+pub returns-in-Label : goal.returns-in-Label
+returns-in-Label c =
+    let k = c.args.known.now in
+    let st = state_of k c.args.stacks.now in
+    on_ok_weaker c.put_own-in-Label.result (λ done w shows. done w shows ∙ ap (steps.expr_step w st) (sym c.in-Label.is)) c.put_own-in-Label.ensures

@@ -1,13 +1,6 @@
-use Rattle.std.proofs.Common.{◌≡◌, ◌∷◌, ◌+◌, ℕ, Bool, true, false, List, [], Option, option_map, suc, refl, sym, ◌∙◌, ap, add-one}
+use Rattle.std.proofs.Common.{sym, ◌∙◌, ap}
 use Rattle.std.proofs.lemmas.Result.{on_ok_weaker}
-use Rattle.type_table.specs.Types.{CType}
-use Rattle.qual_types.specs.Skel.{Skel}
-use Rattle.name_rules.specs.Spellings.{Spelling, Place}
-use Rattle.row_rules.specs.Worlds.{World}
-use Rattle.row_rules.specs.Vals as vals
-use Rattle.row_steps.specs.State as states
 use Rattle.row_steps.specs.Steps as steps
-use Rattle.row_world.specs.Shown.{Shows, skel}
 use Rattle.skel_steps.specs.Stepping.{tables_of, state_of}
 use Rattle.skel_steps.proofs.forms.step_form.Goals as goal
 
@@ -64,3 +57,33 @@ returns-in-Offset c =
     let k = c.args.known.now in
     let st = state_of k c.args.stacks.now in
     on_ok_weaker c.put_own-in-Offset.result (λ done w shows. done w shows ∙ ap (steps.form_step w st) (sym c.in-Offset.is)) c.put_own-in-Offset.ensures
+
+pub returns-in-Compat : goal.returns-in-Compat
+returns-in-Compat c =
+    let k = c.args.known.now in
+    let st = state_of k c.args.stacks.now in
+    on_ok_weaker c.put_own-in-Compat.result (λ done w shows. done w shows ∙ ap (steps.form_step w st) (sym c.in-Compat.is)) c.put_own-in-Compat.ensures
+
+pub returns-in-Control : goal.returns-in-Control
+returns-in-Control c =
+    let k = c.args.known.now in
+    let st = state_of k c.args.stacks.now in
+    λ w shows. ap (steps.form_step w st) (sym c.in-Control.is)
+
+pub returns-in-NoType : goal.returns-in-NoType
+returns-in-NoType c =
+    let k = c.args.known.now in
+    let st = state_of k c.args.stacks.now in
+    on_ok_weaker c.put_type.result (λ done w shows. done (tables_of k) ∙ ap (steps.form_step w st) (sym c.in-NoType.is)) c.put_type.ensures
+
+pub returns-in-Choose : goal.returns-in-Choose
+returns-in-Choose c =
+    let k = c.args.known.now in
+    let st = state_of k c.args.stacks.now in
+    on_ok_weaker c.choose.result (λ done w shows. done w shows ∙ ap (steps.form_step w st) (sym c.in-Choose.is)) c.choose.ensures
+
+pub returns-in-Generic : goal.returns-in-Generic
+returns-in-Generic c =
+    let k = c.args.known.now in
+    let st = state_of k c.args.stacks.now in
+    on_ok_weaker c.select.result (λ done w shows. done w shows ∙ ap (steps.form_step w st) (sym c.in-Generic.is)) c.select.ensures

@@ -1,13 +1,8 @@
-use Rattle.std.proofs.Common.{◌≡◌, ◌∷◌, ◌+◌, ℕ, Bool, true, false, List, [], Option, option_map, suc, refl, sym, ◌∙◌, ap, add-one}
+use Rattle.std.proofs.Common.{false, ◌∙◌, ap}
 use Rattle.std.proofs.lemmas.Result.{on_ok_weaker}
-use Rattle.type_table.specs.Types.{CType}
-use Rattle.qual_types.specs.Skel.{Skel}
-use Rattle.name_rules.specs.Spellings.{Spelling, Place}
-use Rattle.row_rules.specs.Worlds.{World}
 use Rattle.row_rules.specs.Vals as vals
 use Rattle.row_steps.specs.State as states
 use Rattle.row_steps.specs.Steps as steps
-use Rattle.row_world.specs.Shown.{Shows, skel}
 use Rattle.skel_steps.specs.Stepping.{tables_of, state_of}
 use Rattle.skel_steps.proofs.operators.prefix.Goals as goal
 
@@ -16,5 +11,9 @@ returns c =
     let k = c.args.known.now in
     let st = state_of k c.args.stacks.now in
     on_ok_weaker c.put.result (λ put last w shows. put (tables_of k) ∙
-    ap (λ (v : vals.Val). states.operand_put 1 (states.expression v false) st)
-    (c.prefix-val.ensures w shows ∙ ap (vals.prefix_of w c.args.token c.args.sign) (c.val_at-operand.ensures k.types.now))) c.put.ensures
+    (λ i. states.operand_put 1 (states.expression
+    ((c.prefix-val.ensures w shows ∙
+    ap (λ (v : vals.Val). vals.prefix_of w c.args.token c.args.sign v c.args.aims) (c.val_at-operand.ensures k.types.now)) i) false)
+    ((c.carry.ensures (tables_of k) ∙
+    (λ j. steps.carrying (c.is_come_by.ensures j)
+    ((c.value-pointer.ensures ∙ ap vals.value (c.val_at-operand.ensures k.types.now)) j) st)) i))) c.put.ensures

@@ -13,9 +13,9 @@ returns-in-Ok c =
     let k = c.args.known.now in
     let st = state_of k c.args.stacks.now in
     let same : Same k (λ w. rows.row_at w (kind_of (skel k) c.in-Ok.kind) c.args.token)
-    (λ w. rows.row_at w (op_rows.naming_row w (rules.naming st.rounds)) c.args.token) =
+    (λ w. rows.row_at w (op_rows.naming_row w (rules.naming st.rounds) c.args.token) c.args.token) =
     λ w shows. ap (λ (n : rows.RowKind). rows.row_at w n c.args.token)
-    (c.in-Ok.ensures w shows ∙ ap (op_rows.naming_row w) (c.naming-naming.ensures (tables_of k))) in
+    (c.in-Ok.ensures w shows ∙ ap (λ n. op_rows.naming_row w n c.args.token) (c.naming-naming.ensures (tables_of k))) in
     record {
       ok = row_added c.declared.result k c.args.graph.now c.declared.new.graph _ _ same c.declared.ensures.ok;
       err = row_halted c.declared.result k c.args.graph.now c.declared.new.graph _ _ same c.declared.ensures.err;

@@ -102,3 +102,39 @@ returns-in-DeclarationEnd c =
       ok = none_added k c.args.graph.now _ (λ w shows. ap (op_rows.declr_row w st) c.in-DeclarationEnd.is);
       err = tt;
     }
+
+pub returns-in-AutoBegin : goal.returns-in-AutoBegin
+returns-in-AutoBegin c =
+    let k = c.args.known.now in
+    let st = state_of k c.args.stacks.now in
+    record {
+      ok = none_added k c.args.graph.now _ (λ w shows. ap (op_rows.declr_row w st) c.in-AutoBegin.is);
+      err = tt;
+    }
+
+pub returns-in-AutoEnd : goal.returns-in-AutoEnd
+returns-in-AutoEnd c =
+    let k = c.args.known.now in
+    let st = state_of k c.args.stacks.now in
+    record {
+      ok = none_added k c.args.graph.now _ (λ w shows. ap (op_rows.declr_row w st) c.in-AutoEnd.is);
+      err = tt;
+    }
+
+pub returns-in-Identifier : goal.returns-in-Identifier
+returns-in-Identifier c =
+    let k = c.args.known.now in
+    let st = state_of k c.args.stacks.now in
+    record {
+      ok = none_added k c.args.graph.now _ (λ w shows. ap (op_rows.declr_row w st) c.in-Identifier.is);
+      err = tt;
+    }
+
+pub returns-in-OldParam : goal.returns-in-OldParam
+returns-in-OldParam c =
+    let k = c.args.known.now in
+    let st = state_of k c.args.stacks.now in
+    record {
+      ok = none_added k c.args.graph.now _ (λ w shows. ap (op_rows.declr_row w st) c.in-OldParam.is);
+      err = tt;
+    }

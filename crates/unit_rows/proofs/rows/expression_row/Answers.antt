@@ -156,3 +156,12 @@ returns-in-Dot c =
       ok = none_added k c.args.graph.now _ (λ w shows. ap (op_rows.expr_row w st) c.in-Dot.is);
       err = tt;
     }
+
+pub returns-in-Label : goal.returns-in-Label
+returns-in-Label c =
+    let k = c.args.known.now in
+    let st = state_of k c.args.stacks.now in
+    record {
+      ok = row_added c.form_here-in-Label.result k c.args.graph.now c.form_here-in-Label.new.graph _ _ (λ w shows. ap (op_rows.expr_row w st) (sym c.in-Label.is)) c.form_here-in-Label.ensures.ok;
+      err = row_halted c.form_here-in-Label.result k c.args.graph.now c.form_here-in-Label.new.graph _ _ (λ w shows. ap (op_rows.expr_row w st) (sym c.in-Label.is)) c.form_here-in-Label.ensures.err;
+    }

@@ -84,3 +84,48 @@ returns-in-Offset c =
       ok = none_added k c.args.graph.now _ (λ w shows. ap (op_rows.form_row w st) c.in-Offset.is);
       err = tt;
     }
+
+pub returns-in-Compat : goal.returns-in-Compat
+returns-in-Compat c =
+    let k = c.args.known.now in
+    let st = state_of k c.args.stacks.now in
+    record {
+      ok = none_added k c.args.graph.now _ (λ w shows. ap (op_rows.form_row w st) c.in-Compat.is);
+      err = tt;
+    }
+
+pub returns-in-Control : goal.returns-in-Control
+returns-in-Control c =
+    let k = c.args.known.now in
+    let st = state_of k c.args.stacks.now in
+    record {
+      ok = none_added k c.args.graph.now _ (λ w shows. ap (op_rows.form_row w st) c.in-Control.is);
+      err = tt;
+    }
+
+pub returns-in-NoType : goal.returns-in-NoType
+returns-in-NoType c =
+    let k = c.args.known.now in
+    let st = state_of k c.args.stacks.now in
+    record {
+      ok = none_added k c.args.graph.now _ (λ w shows. ap (op_rows.form_row w st) c.in-NoType.is);
+      err = tt;
+    }
+
+pub returns-in-Choose : goal.returns-in-Choose
+returns-in-Choose c =
+    let k = c.args.known.now in
+    let st = state_of k c.args.stacks.now in
+    record {
+      ok = row_added c.choose_row.result k c.args.graph.now c.choose_row.new.graph _ _ (λ w shows. ap (op_rows.form_row w st) (sym c.in-Choose.is)) c.choose_row.ensures.ok;
+      err = row_halted c.choose_row.result k c.args.graph.now c.choose_row.new.graph _ _ (λ w shows. ap (op_rows.form_row w st) (sym c.in-Choose.is)) c.choose_row.ensures.err;
+    }
+
+pub returns-in-Generic : goal.returns-in-Generic
+returns-in-Generic c =
+    let k = c.args.known.now in
+    let st = state_of k c.args.stacks.now in
+    record {
+      ok = row_added c.select_row.result k c.args.graph.now c.select_row.new.graph _ _ (λ w shows. ap (op_rows.form_row w st) (sym c.in-Generic.is)) c.select_row.ensures.ok;
+      err = row_halted c.select_row.result k c.args.graph.now c.select_row.new.graph _ _ (λ w shows. ap (op_rows.form_row w st) (sym c.in-Generic.is)) c.select_row.ensures.err;
+    }

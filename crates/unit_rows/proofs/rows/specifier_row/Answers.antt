@@ -76,3 +76,21 @@ returns-in-UnnamedMember c =
       ok = row_added c.form_here.result k c.args.graph.now c.form_here.new.graph _ _ (λ w shows. ap (op_rows.spec_row w) (sym c.in-UnnamedMember.is)) c.form_here.ensures.ok;
       err = row_halted c.form_here.result k c.args.graph.now c.form_here.new.graph _ _ (λ w shows. ap (op_rows.spec_row w) (sym c.in-UnnamedMember.is)) c.form_here.ensures.err;
     }
+
+pub returns-in-PartBegin : goal.returns-in-PartBegin
+returns-in-PartBegin c = record {
+  ok = none_added c.args.known.now c.args.graph.now _ (λ w shows. ap (op_rows.spec_row w) c.in-PartBegin.is);
+  err = tt;
+}
+
+pub returns-in-TypeofEnd : goal.returns-in-TypeofEnd
+returns-in-TypeofEnd c = record {
+  ok = none_added c.args.known.now c.args.graph.now _ (λ w shows. ap (op_rows.spec_row w) c.in-TypeofEnd.is);
+  err = tt;
+}
+
+pub returns-in-TypeEnd : goal.returns-in-TypeEnd
+returns-in-TypeEnd c = record {
+  ok = none_added c.args.known.now c.args.graph.now _ (λ w shows. ap (op_rows.spec_row w) c.in-TypeEnd.is);
+  err = tt;
+}

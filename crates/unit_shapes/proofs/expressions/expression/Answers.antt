@@ -1,4 +1,4 @@
-use Rattle.std.proofs.Common.{sym, ◌∙◌, ap}
+use Rattle.std.proofs.Common.{refl, sym, ◌∙◌, ap}
 use Rattle.std.proofs.lemmas.Result.{on_ok_weaker}
 use Rattle.shape_steps.specs.Steps as steps
 use Rattle.shape_stacks.specs.Views.{state_in}
@@ -94,7 +94,7 @@ returns-in-Prefix c =
     let s = names_in rows c.args.names.now in
     let st = state_in rows c.args.stacks.now in
     on_ok_weaker c.prefix.result
-    (λ done. done u s c.in-Prefix.token c.in-Prefix.last ∙ ap (steps.expr_step u s st) (sym c.in-Prefix.is)) c.prefix.ensures
+    (λ done. done u s c.in-Prefix.token c.in-Prefix.last c.in-Prefix.aims ∙ ap (steps.expr_step u s st) (sym c.in-Prefix.is)) c.prefix.ensures
 
 pub returns-in-Post : goal.returns-in-Post
 returns-in-Post c =
@@ -112,7 +112,7 @@ returns-in-Index c =
     let s = names_in rows c.args.names.now in
     let st = state_in rows c.args.stacks.now in
     on_ok_weaker c.index.result
-    (λ done. done u s c.in-Index.token c.in-Index.first c.in-Index.last ∙ ap (steps.expr_step u s st) (sym c.in-Index.is)) c.index.ensures
+    (λ done. done u s c.in-Index.token c.in-Index.first c.in-Index.last c.in-Index.aims refl ∙ ap (steps.expr_step u s st) (sym c.in-Index.is)) c.index.ensures
 
 pub returns-in-Call : goal.returns-in-Call
 returns-in-Call c =
@@ -130,7 +130,7 @@ returns-in-Arrow c =
     let s = names_in rows c.args.names.now in
     let st = state_in rows c.args.stacks.now in
     on_ok_weaker c.arrow.result
-    (λ done. done u s c.in-Arrow.token c.in-Arrow.first c.in-Arrow.last ∙ ap (steps.expr_step u s st) (sym c.in-Arrow.is)) c.arrow.ensures
+    (λ done. done u s c.in-Arrow.token c.in-Arrow.first c.in-Arrow.last c.in-Arrow.aims ∙ ap (steps.expr_step u s st) (sym c.in-Arrow.is)) c.arrow.ensures
 
 pub returns-in-Dot : goal.returns-in-Dot
 returns-in-Dot c =
@@ -140,3 +140,12 @@ returns-in-Dot c =
     let st = state_in rows c.args.stacks.now in
     on_ok_weaker c.dot.result
     (λ done. done c.in-Dot.token c.in-Dot.member ∙ ap (steps.expr_step u s st) (sym c.in-Dot.is)) c.dot.ensures
+
+pub returns-in-Label : goal.returns-in-Label
+returns-in-Label c =
+    let rows = c.args.types.now in
+    let u = spelling_of c.args.spelling.now in
+    let s = names_in rows c.args.names.now in
+    let st = state_in rows c.args.stacks.now in
+    on_ok_weaker c.label.result
+    (λ done. done u s c.in-Label.token ∙ ap (steps.expr_step u s st) (sym c.in-Label.is)) c.label.ensures

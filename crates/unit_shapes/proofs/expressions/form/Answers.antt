@@ -86,3 +86,39 @@ returns-in-Offset c =
     let st = state_in rows c.args.stacks.now in
     on_ok_weaker c.offset.result
     (λ done. done u s c.in-Offset.token ∙ ap (steps.form_step u s st) (sym c.in-Offset.is)) c.offset.ensures
+
+pub returns-in-Compat : goal.returns-in-Compat
+returns-in-Compat c =
+    let rows = c.args.types.now in
+    let u = spelling_of c.args.spelling.now in
+    let s = names_in rows c.args.names.now in
+    let st = state_in rows c.args.stacks.now in
+    on_ok_weaker c.compat.result
+    (λ done. done u s c.in-Compat.token ∙ ap (steps.form_step u s st) (sym c.in-Compat.is)) c.compat.ensures
+
+pub returns-in-NoType : goal.returns-in-NoType
+returns-in-NoType c =
+    let rows = c.args.types.now in
+    let u = spelling_of c.args.spelling.now in
+    let s = names_in rows c.args.names.now in
+    let st = state_in rows c.args.stacks.now in
+    on_ok_weaker c.no_type.result
+    (λ done. done rows u s ∙ ap (steps.form_step u s st) (sym c.in-NoType.is)) c.no_type.ensures
+
+pub returns-in-Choose : goal.returns-in-Choose
+returns-in-Choose c =
+    let rows = c.args.types.now in
+    let u = spelling_of c.args.spelling.now in
+    let s = names_in rows c.args.names.now in
+    let st = state_in rows c.args.stacks.now in
+    on_ok_weaker c.choose.result
+    (λ done. done u s c.in-Choose.token ∙ ap (steps.form_step u s st) (sym c.in-Choose.is)) c.choose.ensures
+
+pub returns-in-Generic : goal.returns-in-Generic
+returns-in-Generic c =
+    let rows = c.args.types.now in
+    let u = spelling_of c.args.spelling.now in
+    let s = names_in rows c.args.names.now in
+    let st = state_in rows c.args.stacks.now in
+    on_ok_weaker c.select.result
+    (λ done. done u s c.in-Generic.token ∙ ap (steps.form_step u s st) (sym c.in-Generic.is)) c.select.ensures

@@ -1,6 +1,5 @@
 use Rattle.std.proofs.Common.{Option, None, sym, ◌∙◌, ap, subst}
 use Rattle.name_rules.specs.Faults.{Fault}
-use Rattle.unit_names.specs.declared.names.Names.{Names}
 use Rattle.unit_names.specs.Shown.{names_of}
 use Rattle.unit_shapes.specs.Faults.{keep, IsFirstOf}
 use Rattle.unit_shapes.proofs.Keeping.{kept_first}
@@ -10,6 +9,6 @@ pub returns : goal.returns
 returns c =
     λ t.
     let faults = (names_of t c.args.names.now).faults in
-    let named = c.faults.ensures t ∙ ap (λ (n : Names). (names_of t n).faults) c.names.ensures in
+    let named = c.faults.ensures t in
     let best = c.earliest.ensures ∙ ap (keep None) named in
     subst (λ (o : Option Fault). IsFirstOf o faults) (sym best) (kept_first faults)

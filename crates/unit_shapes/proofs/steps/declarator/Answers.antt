@@ -48,3 +48,21 @@ returns-in-DeclarationEnd c =
     let s = names_in rows c.args.names.now in
     let st = state_in rows c.args.stacks.now in
     c.close-in-DeclarationEnd.ensures rows ∙ ap (steps.declr_step u s st) (sym c.in-DeclarationEnd.is)
+
+pub returns-in-AutoEnd : goal.returns-in-AutoEnd
+returns-in-AutoEnd c =
+    let rows = c.args.types.now in
+    let u = spelling_of c.args.spelling.now in
+    let s = names_in rows c.args.names.now in
+    let st = state_in rows c.args.stacks.now in
+    on_ok_weaker c.declare-in-AutoEnd.result
+    (λ done. done rows ∙ ap (steps.declr_step u s st) (sym c.in-AutoEnd.is)) c.declare-in-AutoEnd.ensures
+
+pub returns-in-OldParam : goal.returns-in-OldParam
+returns-in-OldParam c =
+    let rows = c.args.types.now in
+    let u = spelling_of c.args.spelling.now in
+    let s = names_in rows c.args.names.now in
+    let st = state_in rows c.args.stacks.now in
+    on_ok_weaker c.declare-in-OldParam.result
+    (λ done. done rows ∙ ap (steps.declr_step u s st) (sym c.in-OldParam.is)) c.declare-in-OldParam.ensures

@@ -10,3 +10,8 @@ returns-in-SpecsEnd c =
     on_ok_weaker c.open.result
     (λ opened. opened rows ∙ ap (steps.spec_step (state_in rows c.args.stacks.now)) (sym c.in-SpecsEnd.is))
     c.open.ensures
+
+pub returns-in-TypeEnd : goal.returns-in-TypeEnd
+returns-in-TypeEnd c =
+    let rows = c.args.types.now in
+    c.drop_operands.ensures rows ∙ ap (steps.spec_step (state_in rows c.args.stacks.now)) (sym c.in-TypeEnd.is)

@@ -3,7 +3,7 @@ use Rattle.row_steps.specs.Starting.{expr_op_starts}
 use Rattle.shape_stacks.specs.Views.{state_in}
 use Rattle.unit_spelling.specs.Spelled.{spelling_of}
 use Rattle.unit_shapes.specs.Views.{names_in}
-use Rattle.unit_starts.proofs.Fresh.{fresh_condition}
+use Rattle.unit_starts.proofs.Fresh.{fresh_condition, fresh_prefix}
 use Rattle.unit_starts.proofs.expressions.expression.Goals as goal
 
 pub returns-in-Cond : goal.returns-in-Cond
@@ -17,4 +17,17 @@ returns-in-Cond c =
     c.condition.ensures
     ∙ fresh_condition u s c.args.rounds.now c.new-around.result known.enclosing known.quiet st it.has_middle it.token it.first
     it.last c.place-in-Cond.result c.place-in-Cond.ensures
+    ∙ ap (expr_op_starts u s st c.args.rounds.now) (sym it.is)
+
+pub returns-in-Prefix : goal.returns-in-Prefix
+returns-in-Prefix c =
+    let rows = c.args.types.now in
+    let u = spelling_of c.args.spelling.now in
+    let s = names_in rows c.args.names.now in
+    let st = state_in rows c.args.stacks.now in
+    let it = c.in-Prefix in
+    let known = c.new-around.ensures in
+    c.prefix.ensures
+    ∙ fresh_prefix u s c.args.rounds.now c.new-around.result known.enclosing known.quiet st it.sign it.token it.last it.aims
+    c.carries-carries.result c.place-in-Prefix.result c.place-in-Prefix.ensures c.carries-carries.ensures known.access
     ∙ ap (expr_op_starts u s st c.args.rounds.now) (sym it.is)

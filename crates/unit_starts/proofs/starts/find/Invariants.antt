@@ -4,12 +4,15 @@ use Rattle.shape_stacks.specs.Views.{state_in}
 use Rattle.unit_spelling.specs.Spelled.{spelling_of}
 use Rattle.unit_shapes.specs.Views.{names_in}
 use Rattle.unit_starts.specs.Views.{start_in}
+use Rattle.unit_starts.proofs.Selecting.{Selected}
 use Rattle.unit_starts.proofs.starts.find.Given as goal
 
 abbrev pub invariant-loop-op : goal.invariant-loop-op
 invariant-loop-op l =
-    map (start_in l.types) l.found
+    (map (start_in l.types) l.found
     ++ starts_found (spelling_of l.spelling) (names_in l.types l.names) (state_in l.types l.stacks) l.rounds
     (drop l.op-index l.tape)
     ≡ map (start_in l.types) l.initial.found
-    ++ starts_found (spelling_of l.spelling) (names_in l.types l.names) (state_in l.types l.initial.stacks) l.initial.rounds l.tape
+    ++ starts_found (spelling_of l.spelling) (names_in l.types l.names) (state_in l.types l.initial.stacks) l.initial.rounds l.tape)
+    × Selected (spelling_of l.spelling) (names_in l.types l.names) (state_in l.types l.initial.stacks) (state_in l.types l.stacks) l.tape
+    l.op-index l.initial.candidates l.candidates

@@ -4,4 +4,4 @@ use Rattle.unit_system.proofs.system.constrain_units.Goals as goal
 pub add_units-requires : goal.add_units-requires
 add_units-requires c =
     shared _ c.args.numbering.skeletons c.found_names.ensures c.vars-2.ensures c.starts.ensures c.requires.skeletons
-    c.requires.places
+    c.requires.places c.requires.candidates c.access_lattices.ensures

@@ -7,6 +7,7 @@ use Rattle.name_steps.specs.Steps.{run}
 use Rattle.name_steps.specs.Units.{tapes_named}
 use Rattle.unit_spelling.specs.Spelled.{spelling_of}
 use Rattle.unit_names.specs.Shown.{names_of}
+use Rattle.unit_shapes.proofs.Implicit.{implicit_grows}
 use Rattle.unit_types.specs.declared.program.UnitTape.{UnitTape}
 use Rattle.unit_types.specs.Resolved.{tapes_of}
 use Rattle.unit_types.proofs.Folding.{knows_before, names_on_from}
@@ -16,6 +17,7 @@ pub loop-unit-init : goal.loop-unit-init
 loop-unit-init c =
     record {
       shown = record { shown = no_names; alike = λ t knows. c.in_ok-names.ensures t };
+      implicit = c.requires;
       named = λ t knows. ap (tapes_named (tapes_of c.args.units.now)) (c.in_ok-names.ensures t);
     }
 
@@ -28,6 +30,7 @@ loop-unit-preserved c =
     let within : c.loop-unit.unit-index < length units = omega arith in
     record {
       shown = named.shown;
+      implicit = implicit_grows c.loop-unit.types c.name_unit.new.types c.args.implicit.now named.grown was.implicit;
       named = λ t knows.
           let before = knows_before c.loop-unit.types c.name_unit.new.types t named.grown knows in
           let u = spelling_of c.unit-item.result.spelling in
@@ -43,7 +46,10 @@ returns c =
     let units = c.args.units.now in
     let test = c.loop-unit-test.false in
     let behind : length units ≤ c.loop-unit.unit-index = omega arith in
-    λ t knows.
-    ap (λ (us : List UnitTape). tapes_named (tapes_of us) (names_of t c.loop-unit.names))
-    (sym (drop_all c.loop-unit.unit-index units behind))
-    ∙ c.loop-unit.invariant.named t knows
+    record {
+      named = λ t knows.
+          ap (λ (us : List UnitTape). tapes_named (tapes_of us) (names_of t c.loop-unit.names))
+          (sym (drop_all c.loop-unit.unit-index units behind))
+          ∙ c.loop-unit.invariant.named t knows;
+      implicit = c.loop-unit.invariant.implicit;
+    }

@@ -4,6 +4,7 @@ use Rattle.name_types.specs.Known.{Knows}
 use Rattle.name_steps.specs.Units.{tapes_named}
 use Rattle.unit_names.specs.Shown.{names_of}
 use Rattle.c_names.specs.Shown.{AreShown}
+use Rattle.unit_shapes.specs.Views.{AreImplicit}
 use Rattle.unit_types.specs.Resolved.{tapes_of, names_on}
 use Rattle.unit_types.proofs.resolve.name_units.Given as goal
 
@@ -11,6 +12,7 @@ abbrev pub invariant-loop-unit : goal.invariant-loop-unit
 invariant-loop-unit l =
     record {
       shown : AreShown l.types l.names;
+      implicit : AreImplicit l.types l.implicit;
       named : (t : ℕ → CType) → Knows t l.types
           → tapes_named (tapes_of (drop l.unit-index l.units)) (names_of t l.names) ≡ names_on (tapes_of l.units);
     }

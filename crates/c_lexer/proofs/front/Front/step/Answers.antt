@@ -27,7 +27,7 @@ returns-in-None-clause-stops c =
     let Gapless : Front → Type 0 = λ f. HasNoGap f.fresh (drop f.at bytes) in
     let Tokenless : Front → Type 0 = λ f. HasNone is_token (drop f.at bytes) in
     let Why : Front → Type 0 = λ f. c.why_stuck.result ≡ (if opens (drop f.at bytes) then Unended else BadByte) in
-    stuck c.args.unit c.args.words.now bytes c.args.self.now c.why_stuck.result (subst Why c.self.view_is (rw take_rest at c.why_stuck.ensures))
+    stuck c.args.unit c.args.wide c.args.words.now bytes c.args.self.now c.why_stuck.result (subst Why c.self.view_is (rw take_rest at c.why_stuck.ensures))
     (record {
       inside = c.requires.before;
       no_gap = subst Gapless c.self.view_is (rw take_rest at c.in_default.ensures);

@@ -13,7 +13,7 @@ pub returns-clause-takes : goal.returns-clause-takes
 returns-clause-takes c =
     let bytes = c.args.bytes.now in
     let n : c.self.inside.at + c.args.n - c.self.inside.at ≡ c.args.n = omega arith in
-    let Kind : Front → Type 0 = λ f. IsKind c.args.unit c.args.words.now f.names (take c.args.n (drop f.at bytes)) c.in_ok-kind.kind in
+    let Kind : Front → Type 0 = λ f. IsKind c.args.unit c.args.wide c.args.words.now f.names (take c.args.n (drop f.at bytes)) c.in_ok-kind.kind in
     let Tokens : Front → Type 0 = λ f. c.push_token.new.tokens.items ≡ f.tokens ++ record { kind = c.in_ok-kind.kind; start = f.at; end = f.at + c.args.n } ∷ [] in
     let Named : Front → Type 0 = λ f. c.token_kind.new.names ≡ names_behind f.names (take c.args.n (drop f.at bytes)) c.in_ok-kind.kind in
     record {

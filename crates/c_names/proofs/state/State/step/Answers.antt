@@ -1,5 +1,5 @@
-use Rattle.std.proofs.Common.{sym, ap, ◌∙◌}
-use Rattle.name_steps.specs.Steps.{step}
+use Rattle.std.proofs.Common.{sym, ap, take, ◌∙◌}
+use Rattle.name_steps.specs.Steps.{names_step}
 use Rattle.unit_spelling.specs.Spelled.{spelling_of}
 use Rattle.c_names.specs.Shown.{state_of}
 use Rattle.c_names.proofs.state.State.step.Goals as goal
@@ -8,4 +8,5 @@ pub returns-in_ok-statement-in-Stmt-clause-shown : goal.returns-in_ok-statement-
 returns-in_ok-statement-in-Stmt-clause-shown c =
     λ t knows.
     let u = spelling_of c.args.spelling.now in
-    c.in_ok-statement-in-Stmt.ensures u t ∙ ap (step u (state_of t c.args.self.now)) (sym c.in-Stmt.is)
+    let passed = take c.args.at c.args.tape.now in
+    c.in_ok-statement-in-Stmt.ensures t passed ∙ ap (names_step u (state_of t passed c.args.self.now)) (sym c.in-Stmt.is)

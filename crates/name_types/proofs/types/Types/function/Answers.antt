@@ -1,8 +1,6 @@
-use Rattle.std.proofs.Common.{◌≡◌, sym, ap, ◌∙◌, refl, map, [], List, ℕ, Bool, true, false}
-use Rattle.type_table.specs.Types.{Words, CType, CTypes, function}
-use Rattle.type_table.specs.Rows.{types_at, types_of, type_at, some_where}
-use Rattle.name_rules.specs.Pieces.{decayed}
-use Rattle.name_steps.specs.State.{types_in}
+use Rattle.std.proofs.Common.{◌≡◌, sym, ◌∙◌, refl, Bool, true, false}
+use Rattle.type_table.specs.Types.{Words}
+use Rattle.type_table.specs.Rows.{some_where}
 use Rattle.name_steps.specs.Steps.{ellipsis_where}
 use Rattle.name_types.proofs.Knowing.{knows_before, below_more, types_known, same_function}
 use Rattle.name_types.proofs.types.Types.function.Goals as goal

@@ -1,4 +1,4 @@
-use Rattle.std.proofs.Common.{arith, ◌≤◌, length}
+use Rattle.std.proofs.Common.{arith}
 use Rattle.name_types.proofs.Knowing.{parts_more}
 use Rattle.name_types.proofs.types.Types.with_words.Goals as goal
 

@@ -16,6 +16,7 @@ returns c =
       braces = c.self.inside.braces;
       leaves = c.self.inside.leaves;
       literal = c.self.inside.literal;
+      carried = c.self.inside.carried;
       declarations = c.self.inside.declarations;
       rounds = c.self.inside.rounds;
       passed = c.self.inside.passed;

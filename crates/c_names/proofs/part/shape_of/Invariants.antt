@@ -1,0 +1,12 @@
+use Rattle.std.proofs.Common.{◌≡◌, drop}
+use Rattle.shape_steps.specs.State.{nothing}
+use Rattle.shape_steps.specs.Steps.{run}
+use Rattle.shape_stacks.specs.Views.{state_in}
+use Rattle.unit_spelling.specs.Spelled.{spelling_of}
+use Rattle.unit_shapes.specs.Views.{names_in}
+use Rattle.c_names.proofs.part.shape_of.Given as goal
+
+abbrev pub invariant-loop-op : goal.invariant-loop-op
+invariant-loop-op l =
+    run (spelling_of l.spelling) (names_in l.types l.names) (state_in l.types l.stacks) (drop l.op-index l.ops)
+    ≡ run (spelling_of l.spelling) (names_in l.types l.names) nothing l.ops

@@ -1,0 +1,8 @@
+use Rattle.std.proofs.Common.{◌∙◌, arith}
+use Rattle.c_parser.proofs.Numbering.{all_lexemes}
+use Rattle.c_parser.proofs.parsing.lexemes.Goals as goal
+
+pub returns : goal.returns
+returns c =
+    c.loop-number.invariant
+    ∙ all_lexemes c.args.tokens.now.tokens c.loop-number.number (omega (arith, c.loop-number-test.false, c.len-number-end.ensures))

@@ -1,4 +1,0 @@
-mod Adding
-mod Finding
-mod Knowing
-mod MemberFinding

@@ -1,0 +1,12 @@
+use Rattle.std.proofs.Common.{◌≡◌, length, []}
+use Rattle.c_reading.specs.Reading.{run}
+use Rattle.stmt_forms.specs.InBlocks.{known_items, label_turn}
+use Rattle.stmt_forms.proofs.blocks.labels.Given as goal
+
+abbrev pub invariant-loop-known : goal.invariant-loop-known
+invariant-loop-known l =
+    run (label_turn l.depth l.room) (known_items l.known) l.place.scopes l.place.rest.now
+    ≡ run (label_turn l.depth l.room) [] l.fn.place.scopes l.fn.place.rest.now
+
+abbrev pub decreases-loop-known : goal.decreases-loop-known
+decreases-loop-known l = length l.place.rest.now
