@@ -58,6 +58,7 @@ class Setting:
         self.prelude_parts = [(name, read_file(found_file("preludes", name))) for name in preludes]
         self.models = self.named_models() + [(name, os.path.abspath(found_file("models", name))) for name in options.models]
         self.included = [os.path.abspath(found_file("models", name)) for name in options.includes]
+        self.attributes = os.path.abspath(found_file("models", "old-attributes.h"))
 
     def named_models(self):
         """The models that the preludes name."""
@@ -80,7 +81,8 @@ class Setting:
 
     def flags_with(self, flags):
         """The flags of the preprocessor, for a source with these flags of a compiler."""
-        made = ["-D__CQUAL__=1", *flags]
+        # it comes first, since a file that the flags include may ask for attributes
+        made = ["-D__CQUAL__=1", "-include", self.attributes, *flags]
         for path in self.included:
             made += ["-include", path]
         # With fortification the headers put calls of __printf_chk and of compiler's builtins in place of printf and memcpy, with bodies
