@@ -7,7 +7,7 @@ ghost use Rattle.flow_graph.specs.Unfolding.{NamesElements};
 use crate::judging::judge_certificate;
 use crate::texts::put_verdict;
 use flow_graph::{Constraint, FlowGraph, Link};
-use lattice_core::{Entry, Lattice, Lattices, Level, Name, Pair, Sign};
+use lattice_core::{Deref, Entry, Lattice, Lattices, Level, Name, Pair, Sign};
 use qual_base::{Numbered, Span, TokenId, UnitNo, VarId};
 use std::alloc::Global;
 use std::test::Fail;
@@ -39,7 +39,7 @@ fn entry(alloc: Global, text: &[u8]) -> Result<Entry, Fail> {
         level: Level::Value,
         sign: Sign::Eq,
         write: false,
-        deref: false,
+        deref: Deref::No,
     })
 }
 
