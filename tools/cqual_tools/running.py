@@ -89,7 +89,8 @@ class Setting:
         # that cqual does not read. It comes last, since flags of distributions switch it on.
         if not self.options.has("--fortify"):
             made += ["-U_FORTIFY_SOURCE", "-D_FORTIFY_SOURCE=0"]
-        return made
+        # what the preprocessor warns of is said where the source is compiled; with -Werror it would end the run
+        return [*made, "-w"]
 
     def words(self, room, more="", name="preludes.h"):
         """The first words of cqual: the program, that it reads wider C, the lattice, and the preludes, with more behind them, which are written

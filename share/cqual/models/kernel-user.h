@@ -1,9 +1,12 @@
-/* The kernel's `__user` as the word `$user`, and what it reads and writes through macros, for `kernel-ref.q` and `kernel-ref.h`.
+/* The kernel's `__user` as the word `$user`, and what it reads and writes through macros, for `kernel-ref.q` or `kernel-ref-access.q` and
+   `kernel-ref.h`.
 
    `cqual-cc --include kernel-user.h` includes it behind what the flags include, among that `compiler_types.h`, which defines `__user` as
-   nothing. `get_user` and its kin are made of `typeof` and inline assembler there. Here they take a pointer of a user program and say
-   nothing more: what was read is not looked at further. Outside of a kernel tree, where there is no `linux/uaccess.h`, the macros stand
-   alone. */
+   nothing. `get_user` and its kin are made of `typeof` and inline assembler there. That is read, but nothing of what goes through
+   assembler is seen, and a memory operand, as x86 has it in `unsafe_get_user`, would count as following the pointer. So here they take a
+   pointer of a user program and say nothing more: what was read is not looked at further. `linux/uaccess.h` is included for that before
+   the source; macros that the source defines before its headers, such as `pr_fmt`, are then its own all the same. Outside of a kernel tree,
+   where there is no `linux/uaccess.h`, the macros stand alone. */
 
 #undef __user
 #define __user $user
