@@ -4,4 +4,4 @@
 
 mod laws;
 
-pub use laws::examples_hold;
+pub use laws::{examples_hold, wider_examples_hold};
