@@ -2,6 +2,7 @@
 
 ghost use Rattle.type_examples.specs.Examples.{ExamplesHold};
 ghost use Rattle.type_examples.specs.Several.{SeveralHold};
+ghost use Rattle.type_examples.specs.Wider.{WiderHold};
 
 /// The definitions say of each example what was worked out for it: its first fault, or, where it has none, for each name that
 /// it declares the type, the first declaration and the owner.
@@ -13,4 +14,9 @@ pub fn examples_hold()
 /// they are of was first declared, in their unit and in all units.
 pub fn examples_of_several_hold()
     ensures { SeveralHold }
+{}
+
+/// The definitions say of each example of wider C what was worked out for it.
+pub fn wider_examples_hold()
+    ensures { WiderHold }
 {}

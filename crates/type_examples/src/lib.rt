@@ -4,4 +4,4 @@
 
 mod laws;
 
-pub use laws::{examples_hold, examples_of_several_hold};
+pub use laws::{examples_hold, examples_of_several_hold, wider_examples_hold};
