@@ -1,3 +1,5 @@
 mod NoUnit
 mod Refused
 mod Trees
+mod WiderRefused
+mod WiderTrees

@@ -1,6 +1,7 @@
 //! What the definitions of allowed refusals say of the sources.
 
 ghost use Rattle.refusal_examples.specs.Refusals.{RefusalsHold};
+ghost use Rattle.refusal_examples.specs.Wider.{WiderHold};
 
 use c_specs::{mixes_go_on, whole_are_mixes};
 use refusal_rules::{
@@ -17,5 +18,16 @@ pub fn refusals_hold()
     units_are_trees();
     units_begin_as_trees();
     units_begin_at_any_height();
+    none_is_earlier();
+}
+
+/// So it is with sources of wider C; one of them is refused earlier where it is not read as such.
+pub fn wider_refusals_hold()
+    ensures { WiderHold }
+{
+    whole_are_mixes();
+    mixes_go_on();
+    units_are_trees();
+    units_begin_as_trees();
     none_is_earlier();
 }

@@ -4,4 +4,4 @@
 
 mod laws;
 
-pub use laws::refusals_hold;
+pub use laws::{refusals_hold, wider_refusals_hold};
