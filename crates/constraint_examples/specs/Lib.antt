@@ -1,3 +1,4 @@
 pub mod Examples
 pub mod IndexWords
 pub mod Several
+pub mod Wider

@@ -3,6 +3,7 @@
 ghost use Rattle.constraint_examples.specs.Examples.{ExamplesHold};
 ghost use Rattle.constraint_examples.specs.IndexWords.{IndexWordsHold};
 ghost use Rattle.constraint_examples.specs.Several.{SeveralHold};
+ghost use Rattle.constraint_examples.specs.Wider.{WiderHold};
 
 /// The system of each example has the constraints, in their order, the call sites and the owners that were worked out for it.
 pub fn examples_hold()
@@ -17,4 +18,9 @@ pub fn index_words_hold()
 /// So has that of each example of several sources.
 pub fn examples_of_several_hold()
     ensures { SeveralHold }
+{}
+
+/// So has that of each example of wider C.
+pub fn wider_examples_hold()
+    ensures { WiderHold }
 {}

@@ -3,4 +3,4 @@
 
 mod laws;
 
-pub use laws::{examples_hold, examples_of_several_hold, index_words_hold};
+pub use laws::{examples_hold, examples_of_several_hold, index_words_hold, wider_examples_hold};
