@@ -17,6 +17,10 @@
 #endif
 #endif
 
+/* An exported function is cast to `void *`, and with it all that it is given and answers would be one. */
+#undef ___ADDRESSABLE
+#define ___ADDRESSABLE(symbol, attributes)
+
 #undef get_user
 #undef __get_user
 #undef put_user
