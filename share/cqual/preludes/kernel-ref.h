@@ -1,4 +1,5 @@
-/* Pointers of user programs in the Linux kernel, with the word before the `*`: a prelude for the lattice `kernel-ref.q`.
+/* Pointers of user programs in the Linux kernel, with the word before the `*`: a prelude for the lattices `kernel-ref.q` and
+   `kernel-ref-access.q`.
 
    What a function takes from a user program is `$user`, as the kernel's `__user` says it; what the kernel follows is `$kernel`. The shapes
    are those of `include/linux/uaccess.h`, `string.h` and `fs.h` of Linux 6.1. `get_user` and `put_user` are macros: `models/kernel-user.h`
