@@ -34,7 +34,8 @@ closed_is [] = refl
 closed_is (item ∷ items) = refl
 
 -- one piece more
-step_piece : (items : ℕ → List (List ℕ)) (ends : ℕ → ℕ) (at n more : ℕ) (left out comment : List ℕ) → comment ≡ opened (items n) →
+step_piece : (items : ℕ → List (List ℕ)) (ends : ℕ → ℕ) (at n more : ℕ) (left out comment : List ℕ)
+    → comment ≡ opened (items n) →
     (out ++ (take (ends n - at) left ++ closed comment)) ++ with_comments
     (pieces_from items ends (at + (ends n - at)) (drop (ends n - at) left) (suc n) more)
     ≡ out ++ with_comments (pieces_from items ends at left n (suc more))
@@ -78,7 +79,8 @@ some_is e = cc
 pub hold_none : (length {A = Vec ℕ Global} [] ≡ 0) × HoldComments (λ token. []) []
 hold_none = (refl, λ token comment there. absurd cc)
 
-pub hold_one_more : (texts : List (Vec ℕ Global)) (text : Vec ℕ Global) → text.items ≡ [] → HoldComments (λ token. []) texts →
+pub hold_one_more : (texts : List (Vec ℕ Global)) (text : Vec ℕ Global) → text.items ≡ []
+    → HoldComments (λ token. []) texts →
     HoldComments (λ token. []) (texts ++ text ∷ [])
 hold_one_more [] text empty hold zero comment there = ap (λ (v : Vec ℕ Global). v.items) (sym (some_is there)) ∙ empty
 hold_one_more [] text empty hold (suc token) comment there = absurd cc
@@ -135,7 +137,8 @@ other_token scene unit token listing found at is other =
     ∙ ap If (ap (λ (same : Bool). nat_eq at.unit unit && same) (not_equal at.token token other) ∙ false_and (nat_eq at.unit unit))
 
 -- where it stands at this one
-this_token : (scene : Scene) (unit token : ℕ) (listing : Listing) (found : Option PositionView) (at : PositionView) → found ≡ Some at →
+this_token : (scene : Scene) (unit token : ℕ) (listing : Listing) (found : Option PositionView) (at : PositionView)
+    → found ≡ Some at →
     at.unit ≡ unit → at.token ≡ token →
     item_at scene unit token listing found ≡ item_text scene at.path listing ∷ []
 this_token scene unit token listing found at is same_unit same_token =
@@ -205,7 +208,8 @@ one_more scene unit before listing comments at n old new found same_unit same_to
         ∙ sym (more_items scene unit n before listing))
         ∙ ap (λ k. opened (items_at scene unit k (before ++ listing ∷ []))) same
 
-    by_order : (n ≡ token) ⊎ ((n < token) ⊎ (token < n)) → comment.items ≡ opened (items_at scene unit token (before ++ listing ∷ []))
+    by_order : (n ≡ token) ⊎ ((n < token) ⊎ (token < n))
+        → comment.items ≡ opened (items_at scene unit token (before ++ listing ∷ []))
     by_order (inl same) = here same
     by_order (inr (inl low)) = elsewhere (λ same. omega (arith, low, same))
     by_order (inr (inr high)) = elsewhere (λ same. omega (arith, high, same))

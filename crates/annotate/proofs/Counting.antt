@@ -1,7 +1,6 @@
 -- The exceeded bounds of a program, counted.
-use Rattle.std.proofs.Common.{◌≡◌, true, false, ℕ, zero, suc, ◌+◌, ◌<◌, ◌⊎◌, inl, inr, length, Option, IfSome, IfNone, sym, subst, arith}
+use Rattle.std.proofs.Common.{◌≡◌, true, false, ℕ, zero, suc, ◌+◌, ◌<◌, ◌⊎◌, inl, inr, Option, IfSome, IfNone, sym, subst, arith}
 use Rattle.std.specs.Option.{is_some}
-use Rattle.std.proofs.lemmas.Option.{slice_get_within}
 use Rattle.lattice_core.specs.View.{orders_of}
 use Rattle.flow_graph.specs.System.{System}
 use Rattle.flow_graph.specs.Unfolding.{IsAccepted}
@@ -15,7 +14,8 @@ use Rattle.annotate.proofs.SolutionLemmas.{found_is, none_found}
 use Rattle.annotate.proofs.ReportLemmas.{over_is_refuted}
 
 -- of an accepted program none is counted
-pub none_counted : (scene : Scene) (sys : System) (number : ℕ) → ExceededIsRefuted → IsAccepted sys (orders_of scene.lattices) →
+pub none_counted : (scene : Scene) (sys : System) (number : ℕ) → ExceededIsRefuted
+    → IsAccepted sys (orders_of scene.lattices) →
     ErrorCount scene sys number 0
 none_counted scene sys zero law accepted = NoneBelow
 none_counted scene sys (suc number) law accepted =
@@ -28,7 +28,8 @@ or_last : (n number : ℕ) → n < number + 1 → (n < number) ⊎ (number ≡ n
 or_last n number below = grind arith
 
 -- an exceeded bound below the number is counted
-pub over_counted : (scene : Scene) (sys : System) (number count n : ℕ) → ErrorCount scene sys number count → n < number →
+pub over_counted : (scene : Scene) (sys : System) (number count n : ℕ) → ErrorCount scene sys number count
+    → n < number →
     IsOver scene sys n → 0 < count
 over_counted scene sys _ _ n NoneBelow below over = absurd (omega (arith, below))
 over_counted scene sys _ _ n (OneExceeds number count before here) below over = omega arith
@@ -38,10 +39,6 @@ over_counted scene sys _ _ n (OneHolds number count before holds) below over =
       | inl earlier ↦ over_counted scene sys number count n before earlier over
       | inr same ↦ absurd (holds (subst At (sym same) over))
     ]
-
--- an exceeded bound is a constraint
-pub over_within : (scene : Scene) (sys : System) (n : ℕ) → IsOver scene sys n → n < length sys.constraints
-over_within scene sys n over = slice_get_within sys.constraints n over.exceeded.bound.constraint over.exceeded.bound.there
 
 -- the count with one constraint more, by what was found of it
 pub one_more : {A : Type 0} (lent : Lent) (sys : System) (number count at : ℕ) (found : Option A) → at ≡ number →

@@ -93,7 +93,8 @@ over_one P (Some first) (Some second) one other = by_test (nat_lt second first)
     by_test true = other
     by_test false = one
 
-kept_both : (P Q : Type 0) (first found : Option ℕ) → IfNone first P → IfNone found (P → Q) → IfNone (earlier first found) Q
+kept_both : (P Q : Type 0) (first found : Option ℕ) → IfNone first P → IfNone found (P → Q)
+    → IfNone (earlier first found) Q
 kept_both P Q None None one other = other one
 kept_both P Q None (Some second) one other = tt
 kept_both P Q (Some first) None one other = tt
@@ -155,7 +156,8 @@ own_of lent sys solutions count view solution found there at same first kept = r
       },
     )
 
-    holds_in : (found : Option ℕ) (n : ℕ) → IsBefore n found → IfSome found (IsFirstExceeded sys solution.solver.lattice view.order)
+    holds_in : (found : Option ℕ) (n : ℕ) → IsBefore n found
+        → IfSome found (IsFirstExceeded sys solution.solver.lattice view.order)
         → IfNone found (IsKept sys solution.solver view.order) → IsExceeded sys solution.solver.lattice view.order n → ⊥
     holds_in None n is first kept over = kept.none n over
     holds_in (Some m) n is first kept over = first.before n is over
@@ -173,7 +175,8 @@ first_of_all lent sys solutions count (Some first) le are = record {
       are.before n lt scene shows over.lattice over.order (few_views lent.lattices.now over.lattice count few le) over.there over.exceeded;
 }
   where
-    few_views : (ls : List LatticeView) (lattice count : ℕ) → lattice < length (orders_of ls) → length ls ≤ count → lattice < count
+    few_views : (ls : List LatticeView) (lattice count : ℕ) → lattice < length (orders_of ls) → length ls ≤ count
+        → lattice < count
     few_views ls lattice count lt le = let e = ap (λ (n : ℕ). n) (views_length ls) in omega arith
       where
         views_length : (ls : List LatticeView) → length (orders_of ls) ≡ length ls
@@ -189,7 +192,8 @@ kept_of_all lent sys solutions count None le are =
 kept_of_all lent sys solutions count (Some first) le are = tt
 
 -- before the first nothing is written
-pub no_errors : (scene : Scene) (sys : System) (first : ℕ) → ((n : ℕ) → n < first → IsOver scene sys n → ⊥) → Errors scene sys first []
+pub no_errors : (scene : Scene) (sys : System) (first : ℕ) → ((n : ℕ) → n < first → IsOver scene sys n → ⊥)
+    → Errors scene sys first []
 no_errors scene sys zero holds = NoConstraint
 no_errors scene sys (suc first) holds =
     let At : ℕ → Type 0 = λ n. Errors scene sys n [] in

@@ -10,11 +10,12 @@ use Rattle.flow_graph.specs.System.{System}
 use Rattle.flow_graph.specs.Unfolding.{IsAccepted, IsAcceptedIn, IsExceeded}
 use Rattle.annotate.specs.Texts.{Scene}
 use Rattle.annotate.specs.declared.solving.Solved.{Solved}
-use Rattle.annotate.specs.Solutions.{AreSolutions, AreKept, IsNoBound}
+use Rattle.annotate.specs.Solutions.{AreSolutions, AreKept}
 use Rattle.annotate.specs.Reports.{IsOver, IsAtOnce}
 use Rattle.annotate.proofs.SceneLemmas.{item_at}
 
-pub order_there : (lattices : List LatticeView) (n : ℕ) (view : LatticeView) → slice_get lattices n ≡ Some view → slice_get (orders_of lattices) n ≡ Some view.order
+pub order_there : (lattices : List LatticeView) (n : ℕ) (view : LatticeView) → slice_get lattices n ≡ Some view
+    → slice_get (orders_of lattices) n ≡ Some view.order
 order_there lattices n view is = slice_get-map (λ (lattice : LatticeView). lattice.order) lattices n ∙ ap (option_map (λ (lattice : LatticeView). lattice.order)) is
 
 -- the lattice of an order with a number
@@ -26,13 +27,15 @@ pub record ViewOf (lattices : List LatticeView) (n : ℕ) (order : Order) : Type
 some_order : {x y : Order} → Some x ≡ Some y → x ≡ y
 some_order e = cc
 
-pub view_of : (lattices : List LatticeView) (n : ℕ) (order : Order) → slice_get (orders_of lattices) n ≡ Some order → ViewOf lattices n order
+pub view_of : (lattices : List LatticeView) (n : ℕ) (order : Order) → slice_get (orders_of lattices) n ≡ Some order
+    → ViewOf lattices n order
 view_of [] n order is = absurd cc
 view_of (x ∷ xs) zero order is = record { view = x; there = refl; order_is = some_order is }
 view_of (x ∷ xs) (suc n) order is = let rest = view_of xs n order is in record { view = rest.view; there = rest.there; order_is = rest.order_is }
 
 -- a program that keeps the bounds of each lattice is accepted
-pub accepted_all : (sys : System) (lattices : List LatticeView) (solutions : List Solved) → AreSolutions sys lattices solutions → AreKept sys lattices solutions → IsAccepted sys (orders_of lattices)
+pub accepted_all : (sys : System) (lattices : List LatticeView) (solutions : List Solved)
+    → AreSolutions sys lattices solutions → AreKept sys lattices solutions → IsAccepted sys (orders_of lattices)
 accepted_all sys lattices solutions are kept n order is =
     let v = view_of lattices n order is in
     let within = slice_get_within lattices n v.view v.there in
@@ -43,7 +46,8 @@ accepted_all sys lattices solutions are kept n order is =
     subst (IsAcceptedIn sys n) v.order_is (subst At (are.each n s.item s.there).lattice_is own)
 
 -- and one assignment serves all copies of all variables at once
-pub at_once_all : (sys : System) (lattices : List LatticeView) (solutions : List Solved) → AreSolutions sys lattices solutions → AreKept sys lattices solutions →
+pub at_once_all : (sys : System) (lattices : List LatticeView) (solutions : List Solved)
+    → AreSolutions sys lattices solutions → AreKept sys lattices solutions →
     (lattice : ℕ) (order : Order) → slice_get (orders_of lattices) lattice ≡ Some order → IsAtOnce sys lattice order
 at_once_all sys lattices solutions are kept n order is =
     let v = view_of lattices n order is in
@@ -60,15 +64,9 @@ some_constraint e = cc
 lattice_is : {v w l m a b : ℕ} → Bound v l a ≡ Bound w m b → l ≡ m
 lattice_is e = cc
 
--- a constraint that is no bound is exceeded in no lattice
-pub none_over : (scene : Scene) (sys : System) (n : ℕ) (c : Constraint) → slice_get sys.constraints n ≡ Some c → IsNoBound c.link → IsOver scene sys n → ⊥
-none_over scene sys n c there none over =
-    let bound = over.exceeded.bound in
-    let same : bound.constraint ≡ c = some_constraint (sym bound.there ∙ there) in
-    none over.exceeded.var over.lattice over.exceeded.element (sym (ap (λ (k : Constraint). k.link) same) ∙ bound.link_is)
-
 -- a bound that is exceeded is exceeded in the lattice that it names
-pub same_over : (scene : Scene) (sys : System) (n : ℕ) (c : Constraint) (v lattice limit : ℕ) (order : Order) → slice_get sys.constraints n ≡ Some c → c.link ≡ Bound v lattice limit →
+pub same_over : (scene : Scene) (sys : System) (n : ℕ) (c : Constraint) (v lattice limit : ℕ) (order : Order)
+    → slice_get sys.constraints n ≡ Some c → c.link ≡ Bound v lattice limit →
     slice_get (orders_of scene.lattices) lattice ≡ Some order → IsOver scene sys n → IsExceeded sys lattice order n
 same_over scene sys n c v lattice limit order there link order_is over =
     let bound = over.exceeded.bound in
@@ -80,7 +78,8 @@ same_over scene sys n c v lattice limit order there link order_is over =
     subst By orders (subst In named over.exceeded)
 
 -- a bound of a lattice that is not there is exceeded in no lattice
-pub none_there : (scene : Scene) (sys : System) (n : ℕ) (c : Constraint) (v lattice limit : ℕ) → slice_get sys.constraints n ≡ Some c → c.link ≡ Bound v lattice limit → length scene.lattices ≤ lattice →
+pub none_there : (scene : Scene) (sys : System) (n : ℕ) (c : Constraint) (v lattice limit : ℕ)
+    → slice_get sys.constraints n ≡ Some c → c.link ≡ Bound v lattice limit → length scene.lattices ≤ lattice →
     IsOver scene sys n → ⊥
 none_there scene sys n c v lattice limit there link past over =
     let bound = over.exceeded.bound in

@@ -28,11 +28,13 @@ some_is : {A : Type 0} {x y : A} → Some x ≡ Some y → x ≡ y
 some_is e = cc
 
 -- a constraint that is a bound is found as one in its lattice
-pub bound_found : (link : Link) (lattice v e : ℕ) (B : Limit → Type 0) (found : Option Limit) → link ≡ Bound v lattice e → MatchOption found (IsNoBound link lattice) B → IsSome found
+pub bound_found : (link : Link) (lattice v e : ℕ) (B : Limit → Type 0) (found : Option Limit) → link ≡ Bound v lattice e
+    → MatchOption found (IsNoBound link lattice) B → IsSome found
 bound_found link lattice v e B None is none = absurd (none v e is)
 bound_found link lattice v e B (Some limit) is given = refl
 
-pub limit_given : (A : Type 0) (B : Limit → Type 0) (found : Option Limit) (limit : Limit) → found ≡ Some limit → MatchOption found A B → B limit
+pub limit_given : (A : Type 0) (B : Limit → Type 0) (found : Option Limit) (limit : Limit) → found ≡ Some limit
+    → MatchOption found A B → B limit
 limit_given A B found limit is given = let Of : Option Limit → Type 0 = λ x. MatchOption x A B in subst Of is given
 
 -- an accepted report of what is listed, with what stands behind it
@@ -46,7 +48,8 @@ accepted_with scene sys unit listings text accepted at_once listed is =
     (record { accepted = accepted; at_once = at_once; listings = listings; listed = listed; spelled = refl }) is
 
 -- where no annotated source is asked for, it is the report alone
-pub judged_alone : (scene : Scene) (sys : System) (accepted : Bool) (text : List ℕ) → IsJudgedWith scene sys None accepted text →
+pub judged_alone : (scene : Scene) (sys : System) (accepted : Bool) (text : List ℕ)
+    → IsJudgedWith scene sys None accepted text →
     IsJudged scene sys accepted text
 judged_alone scene sys accepted text (AcceptedWith _ report is spelled) =
     let Is : List ℕ → Type 0 = λ t. IsAcceptedReport scene sys t in
@@ -58,7 +61,8 @@ pub over_is_refuted : (scene : Scene) (sys : System) (n : ℕ) → ExceededIsRef
     IsAccepted sys (orders_of scene.lattices) → ⊥
 over_is_refuted scene sys n law over accepted = law sys over.lattice over.order n over.exceeded (accepted over.lattice over.order over.there)
 
-pub rejected_report : (scene : Scene) (sys : System) (text begun errors : List ℕ) → ExceededIsRefuted → (n : ℕ) → IsOver scene sys n →
+pub rejected_report : (scene : Scene) (sys : System) (text begun errors : List ℕ) → ExceededIsRefuted → (n : ℕ)
+    → IsOver scene sys n →
     begun ≡ line (codes "rejected") → text ≡ begun ++ errors → Errors scene sys (length sys.constraints) errors → IsRejectedReport scene sys text
 rejected_report scene sys text begun errors law n over begins is listed = record {
   rejected = over_is_refuted scene sys n law over;
@@ -82,7 +86,8 @@ module _ (lattices : List LatticeView) (sys : System) (number : ℕ) (order : Or
         (let Is : ℕ → Type 0 = λ a. IsBottom order a in subst Is (sym same) is_bottom) printed;
   }
 
-  pub one_listed : (elem ≡ bottom → ⊥) → IsListedIn lattices sys number var (record { var = var; lattice = number; elem = elem } ∷ [])
+  pub one_listed : (elem ≡ bottom → ⊥)
+      → IsListedIn lattices sys number var (record { var = var; lattice = number; elem = elem } ∷ [])
   one_listed other = record {
     order = order;
     there = there;
@@ -94,7 +99,8 @@ module _ (lattices : List LatticeView) (sys : System) (number : ℕ) (order : Or
 pub adds_none : (old : List Listing) (Is : List Listing → Type 0) → Is [] → Adds old old Is
 adds_none old Is none = record { here = []; added = sym (append-nil old); is = none }
 
-pub adds_both : {a b c : List Listing} {Is Has : List Listing → Type 0} (Both : List Listing → Type 0) → Adds a b Is → Adds b c Has →
+pub adds_both : {a b c : List Listing} {Is Has : List Listing → Type 0} (Both : List Listing → Type 0) → Adds a b Is
+    → Adds b c Has →
     ((x y : List Listing) → Is x → Has y → Both (x ++ y)) → Adds a c Both
 adds_both {a = a} Both one two both = record {
   here = one.here ++ two.here;
@@ -103,7 +109,8 @@ adds_both {a = a} Both one two both = record {
 }
 
 -- the items of a list up to one and with it
-pub taken_more : {A : Type 0} (xs : List A) (n : ℕ) (x : A) → n < length xs → get_or xs n x ≡ x → take n xs ++ x ∷ [] ≡ take (n + 1) xs
+pub taken_more : {A : Type 0} (xs : List A) (n : ℕ) (x : A) → n < length xs → get_or xs n x ≡ x
+    → take n xs ++ x ∷ [] ≡ take (n + 1) xs
 taken_more {A} xs n x within is =
     let step : suc n ≡ n + 1 = omega arith in
     ap (λ (y : A). take n xs ++ y ∷ []) (sym is) ∙ sym (take-suc xs n x within) ∙ ap (λ k. take k xs) step
@@ -131,12 +138,14 @@ module _ (sys : System) (solution : Solution) (order : Order) (number : ℕ) (co
   pub link_is : constraint.link ≡ Bound exceeds.var solution.lattice exceeds.limit
   link_is = ap (λ (c : Constraint). c.link) (sym same) ∙ exceeds.bound.link_is
 
-  pub limit_is : (v lattice limit : ℕ) → constraint.link ≡ Bound v lattice limit → (solution.lattice ≡ lattice) × (exceeds.limit ≡ limit)
+  pub limit_is : (v lattice limit : ℕ) → constraint.link ≡ Bound v lattice limit
+      → (solution.lattice ≡ lattice) × (exceeds.limit ≡ limit)
   limit_is v lattice limit is = bound_is (sym link_is ∙ is)
 
 module _ (scene : Scene) (sys : System) (solution : Solution) (order : Order) (number : ℕ) (proof : PathProof) (constraint : Constraint) (there : slice_get sys.constraints number ≡ Some constraint)
     (elem : ℕ) (exceeds : Exceeds sys solution order number elem) where
-  pub error_of : Holds sys (orders_of scene.lattices) proof → EndsWith number proof → AreApart sys (steps_of proof.subs.items) → (begins : BeginsOver sys solution order number proof) →
+  pub error_of : Holds sys (orders_of scene.lattices) proof → EndsWith number proof
+      → AreApart sys (steps_of proof.subs.items) → (begins : BeginsOver sys solution order number proof) →
       IsError scene sys number (error_line scene solution.lattice begins.element exceeds.limit constraint.span ++ proof_text scene sys (steps_of proof.subs.items) proof.main.items)
   error_of holds ends apart begins = record {
     subs = steps_of proof.subs.items;
@@ -160,7 +169,8 @@ module _ (scene : Scene) (sys : System) (solution : Solution) (order : Order) (n
   }
 
   -- the same, as the numbers are read
-  pub error_as : Holds sys (orders_of scene.lattices) proof → EndsWith number proof → AreApart sys (steps_of proof.subs.items) → (begins : BeginsOver sys solution order number proof) →
+  pub error_as : Holds sys (orders_of scene.lattices) proof → EndsWith number proof
+      → AreApart sys (steps_of proof.subs.items) → (begins : BeginsOver sys solution order number proof) →
       (lattice element limit : ℕ) → solution.lattice ≡ lattice → begins.element ≡ element → exceeds.limit ≡ limit →
       IsError scene sys number (error_line scene lattice element limit constraint.span ++ proof_text scene sys (steps_of proof.subs.items) proof.main.items)
   error_as holds ends apart begins lattice element limit lattice_is element_is same_limit =
@@ -179,9 +189,11 @@ module _ (sys : System) (solution : Solution) (order : Order) (bound : ℕ) (pro
   edge_within =
       let within = slice_get_within sys.constraints begins.number begins.constant.constraint begins.constant.there in omega (arith, within, edge_is)
 
-  pub start_link : (start : Constraint) → slice_get sys.constraints edge ≡ Some start → start.link ≡ Const solution.lattice begins.element begins.var
+  pub start_link : (start : Constraint) → slice_get sys.constraints edge ≡ Some start
+      → start.link ≡ Const solution.lattice begins.element begins.var
   start_link start there =
       ap (λ (c : Constraint). c.link) (constraint_is (sym there ∙ ap (slice_get sys.constraints) edge_is ∙ begins.constant.there)) ∙ begins.constant.link_is
 
-  pub element_is : (start : Constraint) → slice_get sys.constraints edge ≡ Some start → (lattice elem v : ℕ) → start.link ≡ Const lattice elem v → begins.element ≡ elem
+  pub element_is : (start : Constraint) → slice_get sys.constraints edge ≡ Some start → (lattice elem v : ℕ)
+      → start.link ≡ Const lattice elem v → begins.element ≡ elem
   element_is start there lattice elem v is = const_is (sym (start_link start there) ∙ is)

@@ -18,7 +18,8 @@ use Rattle.annotate.specs.Texts.{UnitText, Scene, spot_text, unit_in, place_at, 
 use Rattle.annotate.specs.Scenes.{unit_of, units_of, has_unit, AreApart, Shows}
 
 -- the unit that was found is the scene's
-pub unit_is : (lent : Lent) (s : Scene) → Shows lent s → (number : ℕ) (found other : Option LentUnit) → found ≡ other → option_map unit_of found ≡ unit_in (units_of lent.units.now) number →
+pub unit_is : (lent : Lent) (s : Scene) → Shows lent s → (number : ℕ) (found other : Option LentUnit) → found ≡ other
+    → option_map unit_of found ≡ unit_in (units_of lent.units.now) number →
     option_map unit_of other ≡ unit_in s.units number
 unit_is lent s shows number found other same is =
     ap (option_map unit_of) (sym same) ∙ is ∙ ap (λ (units : List UnitText). unit_in units number) (sym shows.units)
@@ -30,7 +31,8 @@ no_var lent s shows var past =
     sym (ap (position_text s) (slice_get_past s.positions var (omega (arith, count, past))))
 
 -- a variable of the table has the text of the position where it stands
-pub var_is : (lent : Lent) (s : Scene) → Shows lent s → (var : ℕ) (position : PositionView) → var < length lent.vars.now → Stands lent.vars.now position var →
+pub var_is : (lent : Lent) (s : Scene) → Shows lent s → (var : ℕ) (position : PositionView) → var < length lent.vars.now
+    → Stands lent.vars.now position var →
     name_text s position.unit position.token ++ marks_text position.path ≡ var_text s var
 var_is lent s shows var position within stands = sym (ap (position_text s) (shows.stand var position within stands))
 
@@ -45,45 +47,54 @@ item_at (x ∷ xs) zero h = record { item = x; there = refl }
 item_at (x ∷ xs) (suc n) h = let rest = item_at xs n (omega (arith, h)) in record { item = rest.item; there = rest.there }
 
 -- a token of a unit has its place
-pub place_there : (unit : UnitText) (token : ℕ) → token < length unit.lexed.tokens → place_in (Some unit) token ≡ spot_text unit.file unit.lexed.bytes (token_spot unit.lexed token)
+pub place_there : (unit : UnitText) (token : ℕ) → token < length unit.lexed.tokens
+    → place_in (Some unit) token ≡ spot_text unit.file unit.lexed.bytes (token_spot unit.lexed token)
 place_there unit token within = ap (place_at unit token) (item_at unit.lexed.tokens token within).there
 
 -- the search for a unit, from a unit of the list on
 pub not_equal : (a b : ℕ) → (a ≡ b → ⊥) → eqb a b ≡ false
 not_equal a b other = elim (eqb_tells a b) [ inl same ↦ absurd (other same.1) | inr is ↦ is.0 ]
 
-from_here : (units : List LentUnit) (n number : ℕ) (d : LentUnit) → n < length units → (get_or units n d).tokens.now.unit ≡ number → unit_in (units_of (drop n units)) number ≡ Some (unit_of (get_or units n d))
+from_here : (units : List LentUnit) (n number : ℕ) (d : LentUnit) → n < length units
+    → (get_or units n d).tokens.now.unit ≡ number
+    → unit_in (units_of (drop n units)) number ≡ Some (unit_of (get_or units n d))
 from_here [] n number d within same = absurd (omega (arith, within))
 from_here (u ∷ us) zero number d within same = ap (λ (is : Bool). if is then Some (unit_of u) else unit_in (units_of us) number) (eq-eqb u.tokens.now.unit number same)
 from_here (u ∷ us) (suc n) number d within same = from_here us n number d (omega (arith, within)) same
 
-past_here : (units : List LentUnit) (n number : ℕ) (d : LentUnit) → n < length units → ((get_or units n d).tokens.now.unit ≡ number → ⊥) →
+past_here : (units : List LentUnit) (n number : ℕ) (d : LentUnit) → n < length units
+    → ((get_or units n d).tokens.now.unit ≡ number → ⊥) →
     unit_in (units_of (drop n units)) number ≡ unit_in (units_of (drop (suc n) units)) number
 past_here [] n number d within other = absurd (omega (arith, within))
 past_here (u ∷ us) zero number d within other = ap (λ (is : Bool). if is then Some (unit_of u) else unit_in (units_of us) number) (not_equal u.tokens.now.unit number other)
 past_here (u ∷ us) (suc n) number d within other = past_here us n number d (omega (arith, within)) other
 
-pub unit_here : (units : List LentUnit) (n number : ℕ) (u : LentUnit) → n < length units → u ≡ get_or units n u → u.tokens.now.unit ≡ number → unit_in (units_of (drop n units)) number ≡ Some (unit_of u)
+pub unit_here : (units : List LentUnit) (n number : ℕ) (u : LentUnit) → n < length units → u ≡ get_or units n u
+    → u.tokens.now.unit ≡ number → unit_in (units_of (drop n units)) number ≡ Some (unit_of u)
 unit_here units n number u within is same =
     from_here units n number u within (ap (λ (v : LentUnit). v.tokens.now.unit) (sym is) ∙ same) ∙ ap (λ (v : LentUnit). Some (unit_of v)) (sym is)
 
-pub unit_past : (units : List LentUnit) (n number : ℕ) (u : LentUnit) → n < length units → u ≡ get_or units n u → (u.tokens.now.unit ≡ number → ⊥) →
+pub unit_past : (units : List LentUnit) (n number : ℕ) (u : LentUnit) → n < length units → u ≡ get_or units n u
+    → (u.tokens.now.unit ≡ number → ⊥) →
     unit_in (units_of (drop n units)) number ≡ unit_in (units_of (drop (n + 1) units)) number
 unit_past units n number u within is other =
     let next : suc n ≡ n + 1 = omega arith in
     past_here units n number u within (λ same. other (ap (λ (v : LentUnit). v.tokens.now.unit) is ∙ same)) ∙ ap (λ k. unit_in (units_of (drop k units)) number) next
 
-pub no_unit : (units : List LentUnit) (n number : ℕ) → length units ≤ n → unit_in (units_of (drop n units)) number ≡ None
+pub no_unit : (units : List LentUnit) (n number : ℕ) → length units ≤ n
+    → unit_in (units_of (drop n units)) number ≡ None
 no_unit units n number past = ap (λ (left : List LentUnit). unit_in (units_of left) number) (drop_all n units past)
 
 -- one of some units has its number
-has_one : (units : List LentUnit) (n : ℕ) (it : LentUnit) → n < length units → get_or units n it ≡ it → has_unit (units_of units) it.tokens.now.unit ≡ true
+has_one : (units : List LentUnit) (n : ℕ) (it : LentUnit) → n < length units → get_or units n it ≡ it
+    → has_unit (units_of units) it.tokens.now.unit ≡ true
 has_one [] n it within is = absurd (omega (arith, within))
 has_one (u ∷ us) zero it within is =
     ap (λ (b : Bool). if b then true else has_unit (units_of us) it.tokens.now.unit) (eq-eqb u.tokens.now.unit it.tokens.now.unit (ap (λ (v : LentUnit). v.tokens.now.unit) is))
 has_one (u ∷ us) (suc n) it within is = by_test (nat_eq u.tokens.now.unit it.tokens.now.unit) (has_one us n it (omega (arith, within)) is)
   where
-    by_test : (b : Bool) → has_unit (units_of us) it.tokens.now.unit ≡ true → (if b then true else has_unit (units_of us) it.tokens.now.unit) ≡ true
+    by_test : (b : Bool) → has_unit (units_of us) it.tokens.now.unit ≡ true
+        → (if b then true else has_unit (units_of us) it.tokens.now.unit) ≡ true
     by_test true others = refl
     by_test false others = others
 
@@ -106,6 +117,7 @@ first_named (u ∷ us) (suc n) it number within is here apart =
         absurd (let no : true ≡ false = sym (has_one us n it (omega (arith, within)) is) ∙ ap (has_unit (units_of us)) unit ∙ apart.0 in cc)
     by_test false e behind = behind
 
-pub named_by_one : (units : List LentUnit) (it : LentUnit) (number : ℕ) → Contains units it → it.tokens.now.unit ≡ number → AreApart (units_of units)
+pub named_by_one : (units : List LentUnit) (it : LentUnit) (number : ℕ) → Contains units it
+    → it.tokens.now.unit ≡ number → AreApart (units_of units)
     → Some (unit_of it) ≡ unit_in (units_of units) number
 named_by_one units it number one here apart = sym (first_named units one.0 it number one.1 one.2 here apart)

@@ -12,7 +12,8 @@ use Rattle.annotate.specs.Solutions.{IsSolution}
 solution_is : {x y : Solved} → Some x ≡ Some y → x ≡ y
 solution_is e = cc
 
-before_or_at : (xs : List Solved) (x : Solved) (n : ℕ) (y : Solved) → slice_get (xs ++ x ∷ []) n ≡ Some y → (slice_get xs n ≡ Some y) ⊎ ((n ≡ length xs) × (x ≡ y))
+before_or_at : (xs : List Solved) (x : Solved) (n : ℕ) (y : Solved) → slice_get (xs ++ x ∷ []) n ≡ Some y
+    → (slice_get xs n ≡ Some y) ⊎ ((n ≡ length xs) × (x ≡ y))
 before_or_at [] x zero y is = inr (refl, solution_is is)
 before_or_at [] x (suc n) y is = absurd cc
 before_or_at (z ∷ xs) x zero y is = inl is
@@ -26,7 +27,8 @@ pub record AreFirst (sys : System) (count : ℕ) (solutions : List Solved) : Typ
 pub none_first : (sys : System) → AreFirst sys 0 []
 none_first sys = record { count_is = refl; each = λ n solution is. absurd cc }
 
-pub next_first : (sys : System) (count : ℕ) (old new : List Solved) (x : Solved) → new ≡ old ++ x ∷ [] → IsSolution sys count x → AreFirst sys count old → AreFirst sys (count + 1) new
+pub next_first : (sys : System) (count : ℕ) (old new : List Solved) (x : Solved) → new ≡ old ++ x ∷ []
+    → IsSolution sys count x → AreFirst sys count old → AreFirst sys (count + 1) new
 next_first sys count old new x more own first = record {
   count_is = (let l = length-append old (x ∷ []) in let m : length new ≡ length (old ++ x ∷ []) = ap length more in let c = first.count_is in omega arith);
   each = λ n solution is.
@@ -47,7 +49,8 @@ KeptBelow sys lattices solutions count = (n : ℕ) (view : LatticeView) (solutio
 view_is : {x y : LatticeView} → Some x ≡ Some y → x ≡ y
 view_is e = cc
 
-pub kept_next : (sys : System) (lattices : List LatticeView) (solutions : List Solved) (count : ℕ) (view : LatticeView) (solution : Solved) → slice_get lattices count ≡ Some view →
+pub kept_next : (sys : System) (lattices : List LatticeView) (solutions : List Solved) (count : ℕ) (view : LatticeView) (solution : Solved)
+    → slice_get lattices count ≡ Some view →
     slice_get solutions count ≡ Some solution → IsKept sys solution.solver view.order → KeptBelow sys lattices solutions count → KeptBelow sys lattices solutions (count + 1)
 kept_next sys lattices solutions count view solution there found own below n v s within v_there s_there = by_order (cases_order n count)
   where

@@ -15,7 +15,8 @@ module _ (scene : Scene) (sys : System) where
   abbrev pub one_text : ℕ → List PathStep → List ℕ
   one_text k steps = line (codes "sub " ++ decimal k) ++ steps_text scene sys steps
 
-  subs_more : (k : ℕ) (subs : List (List PathStep)) (steps : List PathStep) → subs_text scene sys k (subs ++ steps ∷ []) ≡ subs_text scene sys k subs ++ one_text (k + length subs) steps
+  subs_more : (k : ℕ) (subs : List (List PathStep)) (steps : List PathStep)
+      → subs_text scene sys k (subs ++ steps ∷ []) ≡ subs_text scene sys k subs ++ one_text (k + length subs) steps
   subs_more k [] steps =
       let here : k ≡ k + 0 = omega arith in append-nil (one_text k steps) ∙ ap (λ n. one_text n steps) here
   subs_more k (s ∷ subs) steps =
@@ -26,19 +27,22 @@ module _ (scene : Scene) (sys : System) where
   some_is : {x y : SubPath} → Some x ≡ Some y → x ≡ y
   some_is e = cc
 
-  steps_next : (subs : List SubPath) (n : ℕ) (sub : SubPath) → slice_get subs n ≡ Some sub → steps_of (take (suc n) subs) ≡ steps_of (take n subs) ++ sub.steps.items ∷ []
+  steps_next : (subs : List SubPath) (n : ℕ) (sub : SubPath) → slice_get subs n ≡ Some sub
+      → steps_of (take (suc n) subs) ≡ steps_of (take n subs) ++ sub.steps.items ∷ []
   steps_next [] n sub is = absurd cc
   steps_next (x ∷ subs) zero sub is = ap (λ (s : SubPath). s.steps.items ∷ []) (some_is is)
   steps_next (x ∷ subs) (suc n) sub is = ap (λ rest. x.steps.items ∷ rest) (steps_next subs n sub is)
 
-  counted : (subs : List SubPath) (n : ℕ) (sub : SubPath) → slice_get subs n ≡ Some sub → length (steps_of (take n subs)) ≡ n
+  counted : (subs : List SubPath) (n : ℕ) (sub : SubPath) → slice_get subs n ≡ Some sub
+      → length (steps_of (take n subs)) ≡ n
   counted [] n sub is = absurd cc
   counted (x ∷ subs) zero sub is = refl
   counted (x ∷ subs) (suc n) sub is = ap suc (counted subs n sub is)
 
   -- one sub-path more
   pub next_sub : (subs : List SubPath) (n : ℕ) (sub : SubPath) → slice_get subs n ≡ Some sub →
-      (old before headed after : List ℕ) (number : ℕ) (steps : List PathStep) → number ≡ n + 1 → steps ≡ sub.steps.items →
+      (old before headed after : List ℕ) (number : ℕ) (steps : List PathStep) → number ≡ n + 1
+      → steps ≡ sub.steps.items →
       before ≡ old ++ subs_text scene sys 1 (steps_of (take n subs)) → headed ≡ before ++ line (codes "sub " ++ decimal number) → after ≡ headed ++ steps_text scene sys steps →
       after ≡ old ++ subs_text scene sys 1 (steps_of (take (n + 1) subs))
   next_sub subs n sub is old before headed after number steps number_is steps_are was head then =
@@ -53,7 +57,8 @@ module _ (scene : Scene) (sys : System) where
       ∙ ap (λ t. old ++ t) (sym (subs_more 1 taken sub.steps.items) ∙ ap (subs_text scene sys 1) (sym (ap (λ k. steps_of (take k subs)) next ∙ steps_next subs n sub is)))
 
   -- one step more
-  pub step_more : (steps : List PathStep) (n : ℕ) (step : PathStep) → n < length steps → step ≡ get_or steps n step → steps_text scene sys (take (n + 1) steps) ≡ steps_text scene sys (take n steps) ++ step_text scene sys step
+  pub step_more : (steps : List PathStep) (n : ℕ) (step : PathStep) → n < length steps → step ≡ get_or steps n step
+      → steps_text scene sys (take (n + 1) steps) ≡ steps_text scene sys (take n steps) ++ step_text scene sys step
   step_more steps n step within is =
       let next : n + 1 ≡ suc n = omega arith in
       ap (λ k. steps_text scene sys (take k steps)) next
@@ -62,10 +67,12 @@ module _ (scene : Scene) (sys : System) where
       ∙ ap (λ (t : List ℕ). steps_text scene sys (take n steps) ++ t) (append-nil (step_text scene sys step))
 
   -- as many as there are
-  pub all_steps : (steps : List PathStep) (n : ℕ) → length steps ≤ n → steps_text scene sys (take n steps) ≡ steps_text scene sys steps
+  pub all_steps : (steps : List PathStep) (n : ℕ) → length steps ≤ n
+      → steps_text scene sys (take n steps) ≡ steps_text scene sys steps
   all_steps steps n past = ap (steps_text scene sys) (take_all n steps past)
 
-  pub all_subs : (subs : List SubPath) (n : ℕ) → length subs ≤ n → subs_text scene sys 1 (steps_of (take n subs)) ≡ subs_text scene sys 1 (steps_of subs)
+  pub all_subs : (subs : List SubPath) (n : ℕ) → length subs ≤ n
+      → subs_text scene sys 1 (steps_of (take n subs)) ≡ subs_text scene sys 1 (steps_of subs)
   all_subs subs n past = ap (λ (taken : List SubPath). subs_text scene sys 1 (steps_of taken)) (take_all n subs past)
 
   -- the line of a constraint beside a walk

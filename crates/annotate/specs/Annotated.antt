@@ -1,4 +1,5 @@
--- The annotated source: the bytes of a unit, with a comment behind each name at which variables stand that the accepted report lists.
+-- The annotated source: the bytes of a unit, with a comment behind each name at which variables stand that the accepted
+-- report lists.
 use Rattle.std.specs.Prelude.{◌≡◌, ℕ, zero, suc, ◌+◌, ◌-◌, List, [], ◌∷◌, ◌++◌, length, take, drop, slice_get, Option, Some, None, codes}
 use Rattle.std.specs.Prelude.{nat_eq, ◌&&◌, if◌then◌else◌}
 use Rattle.std.specs.List.{flat_map}
@@ -38,6 +39,7 @@ pub record Piece : Type 0 where
   pub bytes : List ℕ
   pub items : List (List ℕ)
 
+-- a piece with its comment
 abbrev pub piece_text : Piece → List ℕ
 piece_text piece = piece.bytes ++ comment_text piece.items
 
@@ -45,7 +47,8 @@ piece_text piece = piece.bytes ++ comment_text piece.items
 abbrev pub behind : Lexed → ℕ → ℕ
 behind lexed token = start_of lexed.tokens token + length (text_of lexed token)
 
--- What is left of a source from a place on, in pieces: the bytes up to the place behind each of so many tokens from a number on, with
+-- What is left of a source from a place on, in pieces: the bytes up to the place behind each of so many tokens from a
+-- number on, with
 -- the items of the token, and then the rest.
 abbrev pub pieces_from : (ℕ → List (List ℕ)) → (ℕ → ℕ) → ℕ → List ℕ → ℕ → ℕ → List Piece
 pieces_from items ends at left token zero = record { bytes = left; items = [] } ∷ []
@@ -53,14 +56,16 @@ pieces_from items ends at left token (suc more) =
     record { bytes = take (ends token - at) left; items = items token }
     ∷ pieces_from items ends (at + (ends token - at)) (drop (ends token - at) left) (suc token) more
 
+-- a whole source in pieces, with what the comment of each token says
 abbrev pub pieces_of : Scene → Lexed → List Listing → List Piece
 pieces_of scene lexed listings =
     pieces_from (λ token. items_at scene lexed.unit token listings) (behind lexed) 0 lexed.bytes 0 (length lexed.tokens)
 
--- the pieces with their comments, and without
+-- the pieces with their comments
 abbrev pub with_comments : List Piece → List ℕ
 with_comments pieces = flat_map piece_text pieces
 
+-- the pieces without their comments
 abbrev pub without_comments : List Piece → List ℕ
 without_comments pieces = flat_map (λ (piece : Piece). piece.bytes) pieces
 
@@ -69,6 +74,7 @@ abbrev pub annotated_in : Scene → Option UnitText → List Listing → List �
 annotated_in scene (Some unit) listings = with_comments (pieces_of scene unit.lexed listings)
 annotated_in scene None listings = []
 
+-- the line `annotated`, and the annotated source of a unit
 abbrev pub annotated_text : Scene → ℕ → List Listing → List ℕ
 annotated_text scene unit listings = line (codes "annotated") ++ annotated_in scene (unit_in scene.units unit) listings
 

@@ -18,14 +18,16 @@ IsBottom order bottom = (bottom < size order) × ((a : ℕ) → a < size order �
 
 -- What is listed of a variable in a lattice: its least element over all copies, or nothing where that is the bottom.
 pub data IsListed (sys : System) (lattice : ℕ) (order : Order) (var : ℕ) : List Listing → Type 0 where
-  AtBottom : (bottom : ℕ) → IsBottom order bottom → Printed sys lattice order var bottom → IsListed sys lattice order var []
+  AtBottom : (bottom : ℕ) → IsBottom order bottom → Printed sys lattice order var bottom
+      → IsListed sys lattice order var []
   Above : (elem : ℕ) → (IsBottom order elem → ⊥) → Printed sys lattice order var elem →
       IsListed sys lattice order var (record { var = var; lattice = lattice; elem = elem } ∷ [])
 
 -- what is listed of a variable in the lattices below a number, in order
 pub data VarListings (lattices : List LatticeView) (sys : System) (var : ℕ) : ℕ → List Listing → Type 0 where
   NoLattice : VarListings lattices sys var 0 []
-  NextLattice : (lattice : ℕ) (order : Order) (before here : List Listing) → slice_get (orders_of lattices) lattice ≡ Some order →
+  NextLattice : (lattice : ℕ) (order : Order) (before here : List Listing)
+      → slice_get (orders_of lattices) lattice ≡ Some order →
       VarListings lattices sys var lattice before → IsListed sys lattice order var here →
       VarListings lattices sys var (lattice + 1) (before ++ here)
 
@@ -36,7 +38,8 @@ pub data Listings (lattices : List LatticeView) (sys : System) : List ℕ → Li
       VarListings lattices sys var (length lattices) here →
       Listings lattices sys (vars ++ var ∷ []) (before ++ here)
 
--- In each lattice one assignment meets the unfolding at every depth, and on all copies of all variables at once it is at or
+-- In each lattice one assignment meets the unfolding at every depth, and on all copies of all variables at once it is
+-- at or
 -- below the printed elements.
 pub record IsAtOnce (sys : System) (lattice : ℕ) (order : Order) : Type 0 where
   pub copies : Assignment
@@ -47,7 +50,8 @@ pub record IsAtOnce (sys : System) (lattice : ℕ) (order : Order) : Type 0 wher
 -- elements, which are those of all copies of all variables at once.
 pub record IsAcceptedReport (scene : Scene) (sys : System) (text : List ℕ) : Type 0 where
   pub accepted : IsAccepted sys (orders_of scene.lattices)
-  pub at_once : (lattice : ℕ) (order : Order) → slice_get (orders_of scene.lattices) lattice ≡ Some order → IsAtOnce sys lattice order
+  pub at_once : (lattice : ℕ) (order : Order) → slice_get (orders_of scene.lattices) lattice ≡ Some order
+      → IsAtOnce sys lattice order
   pub listings : List Listing
   pub listed : Listings scene.lattices sys scene.listed listings
   pub spelled : text ≡ accepted_text scene listings
@@ -83,18 +87,22 @@ pub record IsOver (scene : Scene) (sys : System) (number : ℕ) : Type 0 where
 -- what is written of a constraint: its error where it is an exceeded bound, else nothing
 pub data IsErrorOf (scene : Scene) (sys : System) (number : ℕ) : List ℕ → Type 0 where
   NotExceeded : (IsOver scene sys number → ⊥) → IsErrorOf scene sys number []
-  Exceeded : (error : List ℕ) → IsOver scene sys number → IsError scene sys number error → IsErrorOf scene sys number error
+  Exceeded : (error : List ℕ) → IsOver scene sys number → IsError scene sys number error
+      → IsErrorOf scene sys number error
 
 -- the errors of the constraints below a number, in order
 pub data Errors (scene : Scene) (sys : System) : ℕ → List ℕ → Type 0 where
   NoConstraint : Errors scene sys 0 []
-  NextError : (number : ℕ) (text error : List ℕ) → Errors scene sys number text → IsErrorOf scene sys number error → Errors scene sys (number + 1) (text ++ error)
+  NextError : (number : ℕ) (text error : List ℕ) → Errors scene sys number text → IsErrorOf scene sys number error
+      → Errors scene sys (number + 1) (text ++ error)
 
 -- how many of the constraints below a number are exceeded bounds
 pub data ErrorCount (scene : Scene) (sys : System) : ℕ → ℕ → Type 0 where
   NoneBelow : ErrorCount scene sys 0 0
-  OneHolds : (number count : ℕ) → ErrorCount scene sys number count → (IsOver scene sys number → ⊥) → ErrorCount scene sys (number + 1) count
-  OneExceeds : (number count : ℕ) → ErrorCount scene sys number count → IsOver scene sys number → ErrorCount scene sys (number + 1) (count + 1)
+  OneHolds : (number count : ℕ) → ErrorCount scene sys number count → (IsOver scene sys number → ⊥)
+      → ErrorCount scene sys (number + 1) count
+  OneExceeds : (number count : ℕ) → ErrorCount scene sys number count → IsOver scene sys number
+      → ErrorCount scene sys (number + 1) (count + 1)
 
 -- The rejected report: the program has no assignment at some call depth, and each exceeded bound has its error.
 pub record IsRejectedReport (scene : Scene) (sys : System) (text : List ℕ) : Type 0 where
@@ -110,6 +118,7 @@ pub data IsJudged (scene : Scene) (sys : System) : Bool → List ℕ → Type 0 
 
 -- The same, with the annotated source of a unit behind an accepted report, where it is asked for.
 pub data IsJudgedWith (scene : Scene) (sys : System) (unit : Option ℕ) : Bool → List ℕ → Type 0 where
-  AcceptedWith : (text report : List ℕ) (is : IsAcceptedReport scene sys report) → text ≡ report ++ annotation scene unit is.listings →
+  AcceptedWith : (text report : List ℕ) (is : IsAcceptedReport scene sys report)
+      → text ≡ report ++ annotation scene unit is.listings →
       IsJudgedWith scene sys unit true text
   RejectedWith : (text : List ℕ) → IsRejectedReport scene sys text → IsJudgedWith scene sys unit false text

@@ -30,7 +30,8 @@ pub record UnitText : Type 0 where
   pub file : List ℕ
   pub lexed : Lexed
 
--- What the texts name: the units, the lattices, where each variable stands, and the variables of the declared names in the
+-- What the texts name: the units, the lattices, where each variable stands, and the variables of the declared names in
+-- the
 -- order of the accepted report.
 pub record Scene : Type 0 where
   pub units : List UnitText
@@ -51,22 +52,26 @@ file_text file bytes spot = if nat_eq spot.name_from spot.name_to then file else
 abbrev pub at_text : List ℕ → ℕ → ℕ → List ℕ
 at_text file line column = file ++ codes ":" ++ decimal line ++ codes ":" ++ decimal column
 
+-- FILE:LINE:COLUMN of a spot
 abbrev pub spot_text : List ℕ → List ℕ → Spot → List ℕ
 spot_text file bytes spot = at_text (file_text file bytes spot) spot.line spot.column
 
--- FILE:LINE:COLUMN of a token of a unit, and its bytes; nothing where there is no such token or unit
+-- FILE:LINE:COLUMN of a token of a unit; nothing where there is no such token
 abbrev pub place_at : UnitText → ℕ → Option Token → List ℕ
 place_at unit at (Some token) = spot_text unit.file unit.lexed.bytes (token_spot unit.lexed at)
 place_at unit at None = []
 
+-- the same of a unit that may be there
 abbrev pub place_in : Option UnitText → ℕ → List ℕ
 place_in (Some unit) token = place_at unit token (slice_get unit.lexed.tokens token)
 place_in None token = []
 
+-- the bytes of a token of a unit
 abbrev pub bytes_in : Option UnitText → ℕ → List ℕ
 bytes_in (Some unit) token = text_of unit.lexed token
 bytes_in None token = []
 
+-- FILE:LINE:COLUMN of a token of a unit that is known by its number
 abbrev pub place_text : Scene → ℕ → ℕ → List ℕ
 place_text scene unit token = place_in (unit_in scene.units unit) token
 
@@ -74,13 +79,14 @@ place_text scene unit token = place_in (unit_in scene.units unit) token
 abbrev pub name_text : Scene → ℕ → ℕ → List ℕ
 name_text scene unit token = bytes_in (unit_in scene.units unit) token ++ codes "@" ++ place_text scene unit token
 
--- the steps to a variable inside a type; parameters count from 1
+-- a step to a variable inside a type; parameters count from 1
 abbrev pub step_mark : Step → List ℕ
 step_mark Inside = codes ".in"
 step_mark (Param number) = codes "." ++ decimal (number + 1)
 step_mark Result = codes ".res"
 step_mark Ellipsis = codes ".etc"
 
+-- the steps to a variable inside a type
 abbrev pub marks_text : List Step → List ℕ
 marks_text steps = flat_map step_mark steps
 
@@ -89,6 +95,7 @@ abbrev pub position_text : Scene → Option PositionView → List ℕ
 position_text scene (Some position) = name_text scene position.unit position.token ++ marks_text position.path
 position_text scene None = []
 
+-- a variable by its number
 abbrev pub var_text : Scene → ℕ → List ℕ
 var_text scene var = position_text scene (slice_get scene.positions var)
 
@@ -97,6 +104,7 @@ abbrev pub name_in : Option LatticeView → ℕ → List ℕ
 name_in (Some lattice) elem = unwrap_or (name_at lattice.entries elem) []
 name_in None elem = []
 
+-- an element of a lattice by their numbers
 abbrev pub elem_text : Scene → ℕ → ℕ → List ℕ
 elem_text scene lattice elem = name_in (slice_get scene.lattices lattice) elem
 
@@ -108,6 +116,7 @@ link_text scene (Enter site from to) = codes "enter " ++ var_text scene from ++ 
 link_text scene (Leave site from to) = codes "leave " ++ var_text scene from ++ codes " to " ++ var_text scene to
 link_text scene (Bound var lattice elem) = codes "bound " ++ var_text scene var ++ codes " by " ++ elem_text scene lattice elem
 
+-- the line of a constraint in a path, where there is one of this number
 abbrev pub constraint_text : Scene → ℕ → Option Constraint → List ℕ
 constraint_text scene number (Some c) = line (codes "  " ++ decimal number ++ codes " " ++ place_text scene c.span.unit c.span.from ++ codes " " ++ link_text scene c.link)
 constraint_text scene number None = []
@@ -117,6 +126,7 @@ abbrev pub step_text : Scene → System → PathStep → List ℕ
 step_text scene sys (Take edge _) = constraint_text scene edge (slice_get sys.constraints edge)
 step_text scene sys (Sub number _) = line (codes "  sub " ++ decimal number)
 
+-- the lines of steps
 abbrev pub steps_text : Scene → System → List PathStep → List ℕ
 steps_text scene sys steps = flat_map (step_text scene sys) steps
 
@@ -142,13 +152,15 @@ walk_text scene sys begin bound walk = proof_text scene sys (steps_of walk.subs.
 abbrev pub value_line : Scene → ℕ → ℕ → ℕ → List ℕ
 value_line scene lattice var elem = line (var_text scene var ++ codes " " ++ elem_text scene lattice elem)
 
--- the accepted report of what is listed, a line for each
+-- the line of an element that is listed
 abbrev pub listing_line : Scene → Listing → List ℕ
 listing_line scene listing = value_line scene listing.lattice listing.var listing.elem
 
+-- the lines of all that is listed
 abbrev pub listing_lines : Scene → List Listing → List ℕ
 listing_lines scene listings = flat_map (listing_line scene) listings
 
+-- the accepted report of what is listed
 abbrev pub accepted_text : Scene → List Listing → List ℕ
 accepted_text scene listings = line (codes "accepted") ++ listing_lines scene listings
 

@@ -1,5 +1,8 @@
-//! The two reports of a program: the elements of its variables, or a path proof for each exceeded bound; and its source with
-//! the elements as comments.
+//! The two reports of a program: the elements of its variables, or a path proof for each exceeded bound; and its source
+//! with the elements as comments.
+//!
+//! Entry: `judge`, `judge_with`. Invariant: each line of a report is one that the definition has, in order.
+//! It does not know how constraints are made; trees. Above: `cqual_tool`.
 #![tactic(auto)]
 
 mod annotated;

@@ -66,7 +66,8 @@ pub certified_is_verified : ProgramsAreOwned → WrittenReads → CertifiedIsVer
 certified_is_verified owned law words others names certificate inputs text means other few (WithMeaning task _ _ is outcome) =
     by (some_task (sym is ∙ means)) outcome
   where
-    by : task ≡ Ask Certify names → OfTask inputs task Accepted text → Outcome others (record inputs { saved = text }) CertificateHolds (verdict_text Holds)
+    by : task ≡ Ask Certify names → OfTask inputs task Accepted text
+        → Outcome others (record inputs { saved = text }) CertificateHolds (verdict_text Holds)
     by same (OfGenerated number _ _ made _) = absurd (let not_so : Generate number ≡ Ask Certify names = sym made ∙ same in cc)
     by same (OfProgram named _ _ is_named read) =
         let e : named ≡ of_files names Certify = some_names (sym is_named ∙ ap names_of same) in

@@ -4,7 +4,7 @@ use Rattle.std.specs.Prelude.{All}
 use Rattle.std.proofs.lemmas.List.Elements.{All-nil, All-cons, All-head, All-tail}
 use Rattle.lattice_core.specs.View.{LatticeView}
 use Rattle.c_lexer.specs.Tokens.{text_of}
-use Rattle.element_laws.specs.Naming.{ElementsAreNamed}
+use Rattle.owned_laws.specs.ElementLaws.Naming.{ElementsAreNamed}
 use Rattle.c_types.specs.Sources.{UnitRead, lexed_of}
 use Rattle.index_words.specs.Marks.{IndexMark}
 use Rattle.constraint_gen.specs.Programs.{program_in}
@@ -12,8 +12,8 @@ use Rattle.annotate.specs.Texts.{UnitText}
 use Rattle.annotate.specs.Reports.{RejectedWith, IsRejectedReport}
 use Rattle.report_laws.specs.Scenes.{HasNoFeed, HasNoFeeds, TokensHaveNoFeed}
 use Rattle.report_laws.specs.Laws.{RejectedReadsBack}
-use Rattle.report_checks.specs.declared.judging.Checked.TheVariants.{Hold}
-use Rattle.report_checks.specs.Texts.{checked_text}
+use Rattle.path_checker.specs.declared.report_checks.judging.Checked.TheVariants.{Hold}
+use Rattle.path_checker.specs.ReportChecks.Texts.{checked_text}
 use Rattle.cqual_words.specs.Words.{FileNames as Names, Question, Infer, Annotate, Check, Certify, Verify, Who, Sign, Task, Ask, Generate}
 use Rattle.cqual_tool.specs.declared.status.Status.TheVariants.{Rejected, PathsHold}
 use Rattle.cqual_tool.specs.Inputs.{Inputs}
@@ -32,7 +32,8 @@ some_unit e = cc
 abbrev IsFree : UnitRead → Type 0
 IsFree it = (token : ℕ) → HasNoFeed (text_of it.lexed token)
 
-sources_free : TokensHaveNoFeed → (wide : Bool) (lattices : List LatticeView) (number left : ℕ) (sources : List (List ℕ × List ℕ)) (units : List UnitRead)
+sources_free : TokensHaveNoFeed
+    → (wide : Bool) (lattices : List LatticeView) (number left : ℕ) (sources : List (List ℕ × List ℕ)) (units : List UnitRead)
     → SourcesParse wide lattices number left sources units → All IsFree units
 sources_free law wide lattices _ _ _ _ (NoSource number left) = All-nil IsFree
 sources_free law wide lattices _ _ _ _ (OneSource number left source more unit units within parses rest) =
@@ -40,7 +41,8 @@ sources_free law wide lattices _ _ _ _ (OneSource number left source more unit u
     All-cons IsFree unit units (law marked.words unit.lexed marked.spelled)
     (sources_free law wide lattices (number + 1) (left - length source.1) more units rest)
 
-all_free : TokensHaveNoFeed → (named : FileNames) (inputs : Inputs) (lattices : List LatticeView) (before units : List UnitRead) (marks : List IndexMark)
+all_free : TokensHaveNoFeed
+    → (named : FileNames) (inputs : Inputs) (lattices : List LatticeView) (before units : List UnitRead) (marks : List IndexMark)
     → AreBefore named inputs lattices before marks → All IsFree units → All IsFree (before ++ units)
 all_free law named inputs lattices _ units _ (NoPrelude none) free = free
 all_free law named inputs lattices _ units _ (OnePrelude file first marks is reads) free =
@@ -53,7 +55,8 @@ free_at named (u ∷ units) free zero unit token there =
     subst (λ (t : UnitText). HasNoFeed (text_of t.lexed token)) (some_unit there) (All-head IsFree u units free token)
 free_at named (u ∷ units) free (suc k) unit token there = free_at named units (All-tail IsFree u units free) k unit token there
 
-tokens_free : TokensHaveNoFeed → (named : FileNames) (inputs : Inputs) (it : ProgramIsRead named inputs) (k : ℕ) (unit : UnitText) (token : ℕ)
+tokens_free : TokensHaveNoFeed
+    → (named : FileNames) (inputs : Inputs) (it : ProgramIsRead named inputs) (k : ℕ) (unit : UnitText) (token : ℕ)
     → slice_get (judged named inputs it).scene.units k ≡ Some unit → HasNoFeed (text_of unit.lexed token)
 tokens_free law named inputs it =
     free_at named (it.before ++ it.units)
@@ -160,7 +163,8 @@ pub rejected_is_checked : ProgramsAreOwned → ElementsAreNamed → RejectedRead
 rejected_is_checked owned elements back free words others question names report inputs text means other files few (WithMeaning task _ _ is outcome) =
     by (some_task (sym is ∙ means)) outcome
   where
-    by : task ≡ Ask question names → OfTask inputs task Rejected text → Outcome others (record inputs { saved = text }) PathsHold (checked_text Hold)
+    by : task ≡ Ask question names → OfTask inputs task Rejected text
+        → Outcome others (record inputs { saved = text }) PathsHold (checked_text Hold)
     by same (OfGenerated number _ _ made _) = absurd (let not_so : Generate number ≡ Ask question names = sym made ∙ same in cc)
     by same (OfProgram named _ _ is_named read) =
         let e : named ≡ of_files names question = some_names (sym is_named ∙ ap names_of same) in

@@ -41,7 +41,8 @@ dollar_free (b ∷ c ∷ more) is =
     All-cons (λ b. b ≢ 10) b (c ∷ more) (passed (λ b. nat_eq b 36) b refl second.0)
     (All-cons (λ b. b ≢ 10) c more (passed is_letter c refl second.1) (all_passed is_name_byte more refl first.1))
 
-word_free : (word spelled : List ℕ) → bytes_eq word spelled ≡ true → list_all (λ b. not (nat_eq b 10)) spelled ≡ true → HasNoFeed word
+word_free : (word spelled : List ℕ) → bytes_eq word spelled ≡ true → list_all (λ b. not (nat_eq b 10)) spelled ≡ true
+    → HasNoFeed word
 word_free word spelled is free =
     subst HasNoFeed (sym ((bytes_eq-Decides word spelled).0 is)) (all_passed (λ b. not (nat_eq b 10)) spelled refl free)
 
@@ -60,7 +61,8 @@ name_free word is = elim (either (begins_with_dollar word || bytes_eq word (code
 some_is : {A : Type 0} {x y : A} → Some x ≡ Some y → x ≡ y
 some_is e = cc
 
-items_free : (wide : Bool) (entries : List Entry) (pairs : List Pair) (bytes rest : List ℕ) → Items wide entries pairs bytes rest → (n : ℕ) (name : List ℕ)
+items_free : (wide : Bool) (entries : List Entry) (pairs : List Pair) (bytes rest : List ℕ)
+    → Items wide entries pairs bytes rest → (n : ℕ) (name : List ℕ)
     → name_at entries n ≡ Some name → HasNoFeed name
 items_free wide _ _ bytes rest (Close _ _ sign) n name there = absurd cc
 items_free wide _ _ bytes rest (EntryItem own given entries pairs _ b1 b2 b3 _ is word sign attributes items) zero name there =
@@ -70,8 +72,10 @@ items_free wide _ _ bytes rest (EntryItem own given entries pairs _ b1 b2 b3 _ i
 items_free wide _ _ bytes rest (LineItem low high entries pairs _ b1 b2 b3 _ is_low is_high one sign other items) n name there =
     items_free wide entries pairs b3 rest items n name there
 
-pub names_free : (wide : Bool) (blocks : List BlockView) (bytes : List ℕ) (lattices : List LatticeView) → IsLatticeText wide blocks bytes
-    → AreAllBuilt blocks lattices → (k : ℕ) (view : LatticeView) (elem : ℕ) (name : List ℕ) → slice_get lattices k ≡ Some view
+pub names_free : (wide : Bool) (blocks : List BlockView) (bytes : List ℕ) (lattices : List LatticeView)
+    → IsLatticeText wide blocks bytes
+    → AreAllBuilt blocks lattices → (k : ℕ) (view : LatticeView) (elem : ℕ) (name : List ℕ)
+    → slice_get lattices k ≡ Some view
     → name_at view.entries elem ≡ Some name → HasNoFeed name
 names_free wide [] bytes [] text built k view elem name there named = absurd cc
 names_free wide [] bytes (lattice ∷ lattices) text built k view elem name there named = absurd built

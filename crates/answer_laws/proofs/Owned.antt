@@ -5,7 +5,7 @@ use Rattle.lattice_core.specs.Order.{size, IsLattice}
 use Rattle.lattice_core.specs.View.{LatticeView, AreSized, AreLattices}
 use Rattle.lattice_file.specs.Blocks.{BlockView, AreAllBuilt}
 use Rattle.owned_laws.specs.Programs.{SystemsAreOwned}
-use Rattle.element_laws.specs.Naming.{LatticesAreNamed}
+use Rattle.owned_laws.specs.ElementLaws.Naming.{LatticesAreNamed}
 use Rattle.c_types.specs.Sources.{UnitRead}
 use Rattle.index_words.specs.Marks.{IndexMark}
 use Rattle.constraint_gen.specs.Programs.{program_in}
@@ -18,7 +18,8 @@ use Rattle.cqual_tool.specs.Preparing.{AreEarlier}
 use Rattle.cqual_tool.proofs.Joining.{nothing_earlier, one_more_may, prelude_alone, read_all}
 use Rattle.answer_laws.specs.Laws.{ProgramsAreOwned}
 
-pub built_sized : (blocks : List BlockView) (lattices : List LatticeView) → AreAllBuilt blocks lattices → AreSized lattices
+pub built_sized : (blocks : List BlockView) (lattices : List LatticeView) → AreAllBuilt blocks lattices
+    → AreSized lattices
 built_sized [] [] built = λ n view there. absurd cc
 built_sized [] (lattice ∷ lattices) built = absurd built
 built_sized (block ∷ blocks) [] built = absurd built
@@ -30,11 +31,13 @@ built_sized (block ∷ blocks) (lattice ∷ lattices) built = at (built_sized bl
     own : size lattice.order ≡ length lattice.entries
     own = built.0.built.closure.elements ∙ ap length (sym built.0.built.same)
 
-    at : AreSized lattices → (n : ℕ) (view : LatticeView) → slice_get (lattice ∷ lattices) n ≡ Some view → size view.order ≡ length view.entries
+    at : AreSized lattices → (n : ℕ) (view : LatticeView) → slice_get (lattice ∷ lattices) n ≡ Some view
+        → size view.order ≡ length view.entries
     at rest zero view there = subst (λ (v : LatticeView). size v.order ≡ length v.entries) (first_is view there) own
     at rest (suc n) view there = rest n view there
 
-pub built_lattices : (blocks : List BlockView) (lattices : List LatticeView) → AreAllBuilt blocks lattices → AreLattices lattices
+pub built_lattices : (blocks : List BlockView) (lattices : List LatticeView) → AreAllBuilt blocks lattices
+    → AreLattices lattices
 built_lattices [] [] built = λ n view there. absurd cc
 built_lattices [] (lattice ∷ lattices) built = absurd built
 built_lattices (block ∷ blocks) [] built = absurd built
@@ -43,7 +46,8 @@ built_lattices (block ∷ blocks) (lattice ∷ lattices) built = at (built_latti
     first_is : (view : LatticeView) → Some lattice ≡ Some view → lattice ≡ view
     first_is view e = cc
 
-    at : AreLattices lattices → (n : ℕ) (view : LatticeView) → slice_get (lattice ∷ lattices) n ≡ Some view → IsLattice view.order
+    at : AreLattices lattices → (n : ℕ) (view : LatticeView) → slice_get (lattice ∷ lattices) n ≡ Some view
+        → IsLattice view.order
     at rest zero view there = subst (λ (v : LatticeView). IsLattice v.order) (first_is view there) built.0.built.bounded
     at rest (suc n) view there = rest n view there
 
@@ -55,7 +59,8 @@ before_is named inputs lattices before marks (OnePrelude file unit _ there reads
     prelude_alone unit reads.is.parses.lexes.unit reads.is.parses.formed
 
 -- and the sources behind them
-sources_may : (wide : Bool) (lattices : List LatticeView) (number left : ℕ) (sources : List (List ℕ × List ℕ)) (before units : List UnitRead) → AreEarlier number before
+sources_may : (wide : Bool) (lattices : List LatticeView) (number left : ℕ) (sources : List (List ℕ × List ℕ)) (before units : List UnitRead)
+    → AreEarlier number before
     → SourcesParse wide lattices number left sources units → (n : ℕ) × AreEarlier n (before ++ units)
 sources_may wide lattices _ _ _ before _ may (NoSource number left) = (number, subst (AreEarlier number) (sym (append-nil before)) may)
 sources_may wide lattices _ _ _ before _ may (OneSource number left source more unit units within parses rest) =
@@ -64,7 +69,8 @@ sources_may wide lattices _ _ _ before _ may (OneSource number left source more 
     (all.0, subst (AreEarlier all.0) (append_assoc before (unit ∷ []) units) all.1)
 
 -- the units of a program that is read are well formed
-pub units_sound : (names : FileNames) (inputs : Inputs) (it : ProgramIsRead names inputs) → All IsSound (program_in it.lattices it.marks (it.before ++ it.units)).sources
+pub units_sound : (names : FileNames) (inputs : Inputs) (it : ProgramIsRead names inputs)
+    → All IsSound (program_in it.lattices it.marks (it.before ++ it.units)).sources
 units_sound names inputs it =
     let units = it.before ++ it.units in
     let before = before_is names inputs it.lattices it.before it.marks it.are in

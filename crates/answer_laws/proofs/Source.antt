@@ -28,13 +28,15 @@ unit_is named inputs lattices before marks it (OnePrelude file unit _ there read
     ∙ ap (λ (n : ℕ). if nat_eq n 1 then Some (text_of named it.lexed) else None) one
 
 -- one source is one unit
-one_file : (names contents : List (List ℕ)) → length names ≡ 1 → (file : List ℕ) × (files_with names contents ≡ (file, first_of contents) ∷ [])
+one_file : (names contents : List (List ℕ)) → length names ≡ 1
+    → (file : List ℕ) × (files_with names contents ≡ (file, first_of contents) ∷ [])
 one_file [] contents one = absurd cc
 one_file (file ∷ []) contents one = (file, refl)
 one_file (file ∷ other ∷ more) contents one = absurd cc
 
 one_unit : (wide : Bool) (lattices : List LatticeView) (number left : ℕ) (source : List ℕ × List ℕ) (units : List UnitRead)
-    → SourcesParse wide lattices number left (source ∷ []) units → (unit : UnitRead) × (units ≡ unit ∷ []) × SourceParses wide lattices number source.1 unit
+    → SourcesParse wide lattices number left (source ∷ []) units
+    → (unit : UnitRead) × (units ≡ unit ∷ []) × SourceParses wide lattices number source.1 unit
 one_unit wide lattices _ _ _ _ (OneSource number left source _ unit _ within parses (NoSource _ _)) = (unit, refl, parses)
 
 the_unit : (named : FileNames) (inputs : Inputs) (it : ProgramIsRead named inputs) → length named.sources ≡ 1
@@ -44,8 +46,10 @@ the_unit named inputs it one =
     one_unit named.wide it.lattices 1 total_limit (file.0, first_of inputs.sources) it.units
     (subst (λ (files : List (List ℕ × List ℕ)). SourcesParse named.wide it.lattices 1 total_limit files it.units) file.1 it.parse)
 
-of_text : CommentsComeOut → (named : FileNames) (inputs : Inputs) (it : ProgramIsRead named inputs) (text : List ℕ) → length named.sources ≡ 1
-    → IsJudgedWith (judged named inputs it).scene (judged named inputs it).system (Some 1) true text → IsAnnotated named inputs text
+of_text : CommentsComeOut → (named : FileNames) (inputs : Inputs) (it : ProgramIsRead named inputs) (text : List ℕ)
+    → length named.sources ≡ 1
+    → IsJudgedWith (judged named inputs it).scene (judged named inputs it).system (Some 1) true text
+    → IsAnnotated named inputs text
 of_text law named inputs it text one is = by is
   where
     source : (unit : UnitRead) × (it.units ≡ unit ∷ []) × SourceParses named.wide it.lattices 1 (first_of inputs.sources) unit
@@ -56,7 +60,8 @@ of_text law named inputs it text one is = by is
         ap (λ (units : List UnitRead). unit_in (texts_of named (lexed_of (it.before ++ units))) 1) source.1
         ∙ unit_is named inputs it.lattices it.before it.marks source.0 it.are source.2.lexes.unit
 
-    by : IsJudgedWith (judged named inputs it).scene (judged named inputs it).system (Some 1) true text → IsAnnotated named inputs text
+    by : IsJudgedWith (judged named inputs it).scene (judged named inputs it).system (Some 1) true text
+        → IsAnnotated named inputs text
     by (AcceptedWith _ report is spelled) = record {
       read = it;
       unit = source.0;
@@ -67,8 +72,10 @@ of_text law named inputs it text one is = by is
       source = law (judged named inputs it).scene source.0.lexed is.listings ∙ source.2.lexes.bytes_are;
     }
 
-of_alone : CommentsComeOut → (named : FileNames) (inputs : Inputs) (it : ProgramIsRead named inputs) (text : List ℕ) (asked : Question)
-    → asked ≡ Annotate → length named.sources ≡ 1 → IsAlone asked (judged named inputs it) Accepted text → IsAnnotated named inputs text
+of_alone : CommentsComeOut
+    → (named : FileNames) (inputs : Inputs) (it : ProgramIsRead named inputs) (text : List ℕ) (asked : Question)
+    → asked ≡ Annotate → length named.sources ≡ 1 → IsAlone asked (judged named inputs it) Accepted text
+    → IsAnnotated named inputs text
 of_alone law named inputs it text asked annotated one is =
     by (subst (λ (q : Question). IsAlone q (judged named inputs it) Accepted text) annotated is)
   where
@@ -76,13 +83,15 @@ of_alone law named inputs it text asked annotated one is =
     by (IsRight _ with_source) = of_text law named inputs it text one with_source
 
 of_end : CommentsComeOut → (named : FileNames) (inputs : Inputs) (it : ProgramIsRead named inputs) (text : List ℕ)
-    → named.asked ≡ Annotate → length named.sources ≡ 1 → IsEnd named inputs.saved (judged named inputs it) Accepted text
+    → named.asked ≡ Annotate → length named.sources ≡ 1
+    → IsEnd named inputs.saved (judged named inputs it) Accepted text
     → IsAnnotated named inputs text
 of_end law named inputs it text annotated one (SavedJudged file _ _ there few is) =
     absurd (subst (λ (q : Question). IsOfSaved q (judged named inputs it) inputs.saved Accepted text) annotated is)
 of_end law named inputs it text annotated one (AnsweredAlone _ _ none is) = of_alone law named inputs it text named.asked annotated one is
 
-of_units : CommentsComeOut → (named : FileNames) (inputs : Inputs) (lattices : List LatticeView) → LatticesRead named.wide inputs.lattice lattices
+of_units : CommentsComeOut → (named : FileNames) (inputs : Inputs) (lattices : List LatticeView)
+    → LatticesRead named.wide inputs.lattice lattices
     → (text : List ℕ) → named.asked ≡ Annotate → length named.sources ≡ 1 → OfUnits named inputs lattices Accepted text
     → IsAnnotated named inputs text
 of_units law named inputs lattices read text annotated one (PreludeRead before marks _ _ are (SourcesRead units _ _ parse counted end)) =
@@ -108,7 +117,8 @@ annotated_gives_the_source law words names inputs text means (WithMeaning task _
     one : length names.sources ≡ 1
     one = annotated_names_one words names means
 
-    by : task ≡ Ask Annotate names → OfTask inputs task Accepted text → IsAnnotated (of_files names Annotate) inputs text
+    by : task ≡ Ask Annotate names → OfTask inputs task Accepted text
+        → IsAnnotated (of_files names Annotate) inputs text
     by same (OfGenerated number _ _ made _) = absurd (let no : Generate number ≡ Ask Annotate names = sym made ∙ same in cc)
     by same (OfProgram named _ _ is_named files) =
         let e : named ≡ of_files names Annotate = some_names (sym is_named ∙ ap names_of same) in

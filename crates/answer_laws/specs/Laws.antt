@@ -9,8 +9,8 @@ use Rattle.annotate.specs.Texts.{Scene, UnitText, line, file_text}
 use Rattle.annotate.specs.Annotated.{pieces_of, with_comments, without_comments}
 use Rattle.annotate.specs.Reports.{IsAcceptedReport}
 use Rattle.report_laws.specs.Scenes.{HasNoFeed}
-use Rattle.report_checks.specs.declared.judging.Checked.TheVariants.{Hold}
-use Rattle.report_checks.specs.Texts.{checked_text}
+use Rattle.path_checker.specs.declared.report_checks.judging.Checked.TheVariants.{Hold}
+use Rattle.path_checker.specs.ReportChecks.Texts.{checked_text}
 use Rattle.cqual_words.specs.Words.{FileNames as Names, Question, Ask, Annotate, Check, Certify, Verify, meaning_of}
 use Rattle.certificate_checks.specs.declared.judging.Verdict.TheVariants.{Holds}
 use Rattle.certificate_checks.specs.Texts.{verdict_text}
@@ -29,7 +29,8 @@ abbrev pub ProgramsAreOwned : Type 0
 ProgramsAreOwned = (named : FileNames) (inputs : Inputs) (it : ProgramIsRead named inputs) →
     IsWellOwned (judged named inputs it).system × NamesElements (judged named inputs it).system (orders_of it.lattices)
 
--- A text is an accepted report of files that are read, of which one is a source, and behind it the bytes of that source with comments:
+-- A text is an accepted report of files that are read, of which one is a source, and behind it the bytes of that source
+-- with comments:
 -- without the comments they are the source.
 pub record IsAnnotated (named : FileNames) (inputs : Inputs) (text : List ℕ) : Type 0 where
   pub read : ProgramIsRead named inputs
@@ -51,7 +52,8 @@ abbrev pub FilesAreFree : Scene → Type 0
 FilesAreFree scene = (k : ℕ) (unit : UnitText) (token : ℕ) → slice_get scene.units k ≡ Some unit →
     HasNoFeed (file_text unit.file unit.lexed.bytes (token_spot unit.lexed token))
 
--- A rejected text, whatever was asked, as the report that is checked over the same lattices, prelude and sources, holds: where the
+-- A rejected text, whatever was asked, as the report that is checked over the same lattices, prelude and sources,
+-- holds: where the
 -- names of files have no line feed in them, and the text is not past the limit of saved files.
 abbrev pub RejectedIsChecked : Type 0
 RejectedIsChecked = (words others : List (List ℕ)) (question : Question) (names : Names) (report : List ℕ) (inputs : Inputs) (text : List ℕ) →
@@ -60,7 +62,8 @@ RejectedIsChecked = (words others : List (List ℕ)) (question : Question) (name
     length text ≤ saved_limit → Outcome words inputs Rejected text →
     Outcome others (record inputs { saved = text }) PathsHold (checked_text Hold)
 
--- The certificate that is written of an accepted program, as the one that is checked over the same lattices, prelude and sources, holds,
+-- The certificate that is written of an accepted program, as the one that is checked over the same lattices, prelude
+-- and sources, holds,
 -- where it is not past the limit of saved files.
 abbrev pub CertifiedIsVerified : Type 0
 CertifiedIsVerified = (words others : List (List ℕ)) (names : Names) (certificate : List ℕ) (inputs : Inputs) (text : List ℕ) →

@@ -5,7 +5,7 @@ ghost use Rattle.answer_laws.specs.Laws.{ProgramsAreOwned, RejectedIsChecked};
 
 use annotate::comments_come_out;
 use certificate_answers::written_reads;
-use element_laws::elements_are_named;
+use owned_laws::element_laws::elements_are_named;
 use owned_laws::systems_are_owned;
 use report_laws::{rejected_reads_back, tokens_have_no_feed};
 

@@ -1,4 +1,7 @@
 //! Laws of the tool's answers: what follows from their definition.
+//!
+//! Entry: `certified_is_verified`, `rejected_is_checked`.
+//! It does not know how anything is read, solved or written. Nothing stands above.
 #![tactic(auto)]
 
 mod laws;

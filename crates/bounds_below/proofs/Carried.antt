@@ -18,14 +18,17 @@ use Rattle.bounds_below.proofs.Bits.{none_in}
 use Rattle.bounds_below.proofs.Links.{one_link}
 use Rattle.bounds_below.proofs.Groups.{matches_leads, matches_one}
 
-keyed_by : (sys : System) (lattice n k : ℕ) (key : Link → Option ℕ) (link : Link) → Stands sys lattice n link → key link ≡ Some k → IsKeyed sys key k n
+keyed_by : (sys : System) (lattice n k : ℕ) (key : Link → Option ℕ) (link : Link) → Stands sys lattice n link
+    → key link ≡ Some k → IsKeyed sys key k n
 keyed_by sys lattice n k key link st is = record { constraint = st.constraint; there = st.there; keyed = ap key st.link_is ∙ is }
 
 module _ (sys : System) (lattice : ℕ) (rows : List Summary) where
-  pub passed_on : (had : ℕ) (old new : List ℕ) (s b m : ℕ) → ((v e : ℕ) → Has old v e → Has new v e) → IsPassed sys lattice rows had old s b m → IsPassed sys lattice rows had new s b m
+  pub passed_on : (had : ℕ) (old new : List ℕ) (s b m : ℕ) → ((v e : ℕ) → Has old v e → Has new v e)
+      → IsPassed sys lattice rows had old s b m → IsPassed sys lattice rows had new s b m
   passed_on had old new s b m kept passed = λ u a st leads one e has. kept u e (passed u a st leads one e has)
 
-  pub carried_on : (had : ℕ) (old new : List ℕ) (v n : ℕ) → ((v e : ℕ) → Has old v e → Has new v e) → IsCarried sys lattice rows had old v n → IsCarried sys lattice rows had new v n
+  pub carried_on : (had : ℕ) (old new : List ℕ) (v n : ℕ) → ((v e : ℕ) → Has old v e → Has new v e)
+      → IsCarried sys lattice rows had old v n → IsCarried sys lattice rows had new v n
   carried_on had old new v n kept is = record {
     flow = λ u st e has. kept u e (is.flow u st e has);
     call = λ s u st e has. kept u e (is.call s u st e has);
@@ -33,14 +36,18 @@ module _ (sys : System) (lattice : ℕ) (rows : List Summary) where
   }
 
   -- a constraint that does not lead to the variable has nothing to carry
-  pub carried_elsewhere : (had : ℕ) (sets : List ℕ) (v n : ℕ) → (IsKeyed sys link_leads_to v n → IsCarried sys lattice rows had sets v n) → IsCarried sys lattice rows had sets v n
+  pub carried_elsewhere : (had : ℕ) (sets : List ℕ) (v n : ℕ)
+      → (IsKeyed sys link_leads_to v n → IsCarried sys lattice rows had sets v n)
+      → IsCarried sys lattice rows had sets v n
   carried_elsewhere had sets v n listed = record {
     flow = λ u st. (listed (keyed_by sys lattice n v link_leads_to (Le u v) st refl)).flow u st;
     call = λ s u st. (listed (keyed_by sys lattice n v link_leads_to (Enter s u v) st refl)).call s u st;
     group = λ s b m st. (listed (keyed_by sys lattice n v link_leads_to (Leave s b v) st refl)).group s b m st;
   }
 
-  pub passed_elsewhere : (had : ℕ) (sets : List ℕ) (s b m : ℕ) → (IsKeyed sys link_site s m → IsPassed sys lattice rows had sets s b m) → IsPassed sys lattice rows had sets s b m
+  pub passed_elsewhere : (had : ℕ) (sets : List ℕ) (s b m : ℕ)
+      → (IsKeyed sys link_site s m → IsPassed sys lattice rows had sets s b m)
+      → IsPassed sys lattice rows had sets s b m
   passed_elsewhere had sets s b m listed = λ u a st. listed (keyed_by sys lattice m s link_site (Enter s u a) st refl) u a st
 
   -- the empty set has nothing to carry
@@ -56,21 +63,24 @@ module _ (sys : System) (lattice : ℕ) (rows : List Summary) where
 
   -- what was carried of a constraint, by its link
   module _ (had : ℕ) (sets : List ℕ) (v n : ℕ) (constraint : Constraint) (there : slice_get sys.constraints n ≡ Some constraint) where
-    pub flow_carried : (x w : ℕ) → constraint.link ≡ Le x w → Includes had sets x → IsCarried sys lattice rows had sets v n
+    pub flow_carried : (x w : ℕ) → constraint.link ≡ Le x w → Includes had sets x
+        → IsCarried sys lattice rows had sets v n
     flow_carried x w is done = record {
       flow = λ u st. let e = one_link sys lattice n constraint (Le x w) there is (Le u v) st in let from : x ≡ u = cc in subst (λ (y : ℕ). Includes had sets y) from done;
       call = λ s u st. let e = one_link sys lattice n constraint (Le x w) there is (Enter s u v) st in absurd cc;
       group = λ s b m st. let e = one_link sys lattice n constraint (Le x w) there is (Leave s b v) st in absurd cc;
     }
 
-    pub call_carried : (s x w : ℕ) → constraint.link ≡ Enter s x w → Includes had sets x → IsCarried sys lattice rows had sets v n
+    pub call_carried : (s x w : ℕ) → constraint.link ≡ Enter s x w → Includes had sets x
+        → IsCarried sys lattice rows had sets v n
     call_carried s x w is done = record {
       flow = λ u st. let e = one_link sys lattice n constraint (Enter s x w) there is (Le u v) st in absurd cc;
       call = λ t u st. let e = one_link sys lattice n constraint (Enter s x w) there is (Enter t u v) st in let from : x ≡ u = cc in subst (λ (y : ℕ). Includes had sets y) from done;
       group = λ t b m st. let e = one_link sys lattice n constraint (Enter s x w) there is (Leave t b v) st in absurd cc;
     }
 
-    pub back_carried : (s x w : ℕ) → constraint.link ≡ Leave s x w → ((m : ℕ) → IsPassed sys lattice rows had sets s x m) → IsCarried sys lattice rows had sets v n
+    pub back_carried : (s x w : ℕ) → constraint.link ≡ Leave s x w
+        → ((m : ℕ) → IsPassed sys lattice rows had sets s x m) → IsCarried sys lattice rows had sets v n
     back_carried s x w is done = record {
       flow = λ u st. let e = one_link sys lattice n constraint (Leave s x w) there is (Le u v) st in absurd cc;
       call = λ t u st. let e = one_link sys lattice n constraint (Leave s x w) there is (Enter t u v) st in absurd cc;
@@ -82,9 +92,11 @@ module _ (sys : System) (lattice : ℕ) (rows : List Summary) where
     }
 
   -- after a turn each variable waits or agrees
-  pub turn_agrees : (old middle new : Work) (at : ℕ) → IsTaken old middle at → middle.sets.items ≡ old.sets.items → Gains middle new →
+  pub turn_agrees : (old middle new : Work) (at : ℕ) → IsTaken old middle at → middle.sets.items ≡ old.sets.items
+      → Gains middle new →
       ((n : ℕ) → IsCarried sys lattice rows (set_at middle.sets.items at) new.sets.items at n) →
-      ((v : ℕ) → Waits old v ⊎ AgreesAt sys lattice rows old.sets.items v) → (v : ℕ) → Waits new v ⊎ AgreesAt sys lattice rows new.sets.items v
+      ((v : ℕ) → Waits old v ⊎ AgreesAt sys lattice rows old.sets.items v) → (v : ℕ)
+      → Waits new v ⊎ AgreesAt sys lattice rows new.sets.items v
   turn_agrees old middle new at taken alike gains carried settled v = elim (gains.still v) [
     | inl waits ↦ inl waits
     | inr same ↦ elim (settled v) [

@@ -46,7 +46,8 @@ module _ (old new : List ℕ) (at elems : ℕ) (here : set_at new at ≡ bit_or 
     | inr apart ↦ subst (λ (x : ℕ). bit_at x b ≡ 1) (sym (others v apart)) has
   ]
 
-  pub raised_sound : (sys : System) (lattice : ℕ) → AllReach sys lattice elems at → AreSound sys lattice old → AreSound sys lattice new
+  pub raised_sound : (sys : System) (lattice : ℕ) → AllReach sys lattice elems at → AreSound sys lattice old
+      → AreSound sys lattice new
   raised_sound sys lattice more sound v b has = elim (cases_eq v at) [
     | inl same ↦
         let both : bit_at (bit_or (set_at old at) elems) b ≡ 1 = subst (λ (x : ℕ). bit_at x b ≡ 1) here (subst (λ (x : ℕ). Has new x b) same has) in
@@ -58,7 +59,8 @@ module _ (old new : List ℕ) (at elems : ℕ) (here : set_at new at ≡ bit_or 
   ]
 
 -- and the variable waits
-pub gained : (old new : Work) (at elems : ℕ) → room new.sets.items < room old.sets.items → length new.sets.items ≡ length old.sets.items →
+pub gained : (old new : Work) (at elems : ℕ) → room new.sets.items < room old.sets.items
+    → length new.sets.items ≡ length old.sets.items →
     set_at new.sets.items at ≡ bit_or (set_at old.sets.items at) elems → ((v : ℕ) → v ≢ at → set_at new.sets.items v ≡ set_at old.sets.items v) →
     new.waiting.items ≡ old.waiting.items ++ at ∷ [] → Gains old new
 gained old new at elems less size here others pushed = record {
@@ -76,18 +78,9 @@ gained old new at elems less size here others pushed = record {
   ];
 }
 
--- nothing was raised
-pub gains_alike : (old new : Work) → new.sets.items ≡ old.sets.items → new.waiting.items ≡ old.waiting.items → Gains old new
-gains_alike old new sets waiting = record {
-  size = ap length sets;
-  left = let one = ap room sets in let other : length new.waiting.items ≡ length old.waiting.items = ap length waiting in omega (arith, one, other);
-  kept = λ v b has. subst (λ (xs : List ℕ). Has xs v b) (sym sets) has;
-  waits = λ v waits. subst (λ (xs : List ℕ). Contains xs v) (sym waiting) waits;
-  still = λ v. inr (ap (λ (xs : List ℕ). set_at xs v) sets);
-}
-
 -- one that waited was taken
-pub taken_less : (old new : Work) (at : ℕ) → IsTaken old new at → new.sets.items ≡ old.sets.items → left_in new < left_in old
+pub taken_less : (old new : Work) (at : ℕ) → IsTaken old new at → new.sets.items ≡ old.sets.items
+    → left_in new < left_in old
 taken_less old new at taken sets =
     let longer : length old.waiting.items ≡ length new.waiting.items + 1 = ap length taken ∙ length-append new.waiting.items (at ∷ []) in
     let same = ap room sets in

@@ -22,9 +22,11 @@ module _ (sys : System) (lattice : ℕ) where
   pub reach_flow : (n u v b : ℕ) → Stands sys lattice n (Le u v) → Reaches sys lattice v b → Reaches sys lattice u b
   reach_flow n u v b st = reach_from u v b (along u u v n (here u) st)
 
-  pub reach_call : (n s u v b : ℕ) → Stands sys lattice n (Enter s u v) → Reaches sys lattice v b → Reaches sys lattice u b
+  pub reach_call : (n s u v b : ℕ) → Stands sys lattice n (Enter s u v) → Reaches sys lattice v b
+      → Reaches sys lattice u b
   reach_call n s u v b st = reach_from u v b (into u u v s n (here u) st)
 
-  pub reach_group : (n m s g u a x v b : ℕ) → Stands sys lattice n (Enter s u a) → Matches sys lattice g a x → Stands sys lattice m (Leave s x v) → Reaches sys lattice v b →
+  pub reach_group : (n m s g u a x v b : ℕ) → Stands sys lattice n (Enter s u a) → Matches sys lattice g a x
+      → Stands sys lattice m (Leave s x v) → Reaches sys lattice v b →
       Reaches sys lattice u b
   reach_group n m s g u a x v b st p st2 = reach_from u v b (round u u a x v s g n m (here u) st p st2)

@@ -11,6 +11,7 @@ use Rattle.bounds_below.specs.declared.flows.Flows.{Flows}
 use Rattle.bounds_below.specs.declared.work.Work.{Work}
 use Rattle.bounds_below.specs.Below.{set_at, Reaches}
 
+-- an element is in the set of a variable
 abbrev pub Has : List ℕ → ℕ → ℕ → Type 0
 Has sets v b = bit_at (set_at sets v) b ≡ 1
 
@@ -35,6 +36,7 @@ abbrev pub room : List ℕ → ℕ
 room [] = 0
 room (set ∷ sets) = (2 ^ 64 - set) + room sets
 
+-- a variable waits
 abbrev pub Waits : Work → ℕ → Type 0
 Waits work v = Contains work.waiting.items v
 
@@ -61,7 +63,8 @@ pub record AreOfSystem (flows : Flows) (vars : ℕ) : Type 0 where
   pub summarised : Summarises flows.graph.now flows.lattice flows.summaries.now
 
 module _ (sys : System) (lattice : ℕ) (rows : List Summary) where
-  -- the group of constraint m, as an Enter of a site, and of a Leave of the site from a variable brings a set back to its beginning
+  -- the group of constraint m, as an Enter of a site, and of a Leave of the site from a variable brings a set back to
+  -- its beginning
   abbrev pub IsPassed : ℕ → List ℕ → ℕ → ℕ → ℕ → Type 0
   IsPassed had sets site b m = (u a : ℕ) → Stands sys lattice m (Enter site u a) → Leads rows a b → AreOfOne sys a b → Includes had sets u
 

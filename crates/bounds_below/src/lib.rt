@@ -1,4 +1,8 @@
-//! Which bounds each variable leads to by flows, groups and calls, in one lattice: for each variable the set of their elements.
+//! Which bounds each variable leads to by flows, groups and calls, in one lattice: for each variable the set of their
+//! elements.
+//!
+//! Entry: `bounds_below`. Invariant: a set has only elements that a path leads to.
+//! It does not know the order of the elements. Above: `sig_writer`.
 #![tactic(auto)]
 
 mod below;

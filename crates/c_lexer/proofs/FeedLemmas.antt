@@ -18,11 +18,13 @@ use Rattle.c_lexer.specs.Places.Governs.{none, last}
 abbrev pub feeds : List ℕ → ℕ → List ℕ
 feeds bytes n = places_from (is_byte 10) bytes 0 n
 
-one_place : (bytes : List ℕ) (i : ℕ) → places_from (is_byte 10) bytes i 1 ≡ (if get_or bytes i 0 == 10 then i ∷ [] else [])
+one_place : (bytes : List ℕ) (i : ℕ)
+    → places_from (is_byte 10) bytes i 1 ≡ (if get_or bytes i 0 == 10 then i ∷ [] else [])
 unfolding places_from
 one_place bytes i = refl
 
-feeds_more : (bytes : List ℕ) (n : ℕ) → feeds bytes (n + 1) ≡ feeds bytes n ++ (if get_or bytes n 0 == 10 then n ∷ [] else [])
+feeds_more : (bytes : List ℕ) (n : ℕ)
+    → feeds bytes (n + 1) ≡ feeds bytes n ++ (if get_or bytes n 0 == 10 then n ∷ [] else [])
 feeds_more bytes n =
     places_from-append (is_byte 10) bytes 0 n 1 ∙ ap (λ i. feeds bytes n ++ places_from (is_byte 10) bytes i 1) (let e : 0 + n ≡ n = omega arith in e) ∙ ap (λ l. feeds bytes n ++ l) (one_place bytes n)
 
@@ -33,23 +35,28 @@ feeds_nil bytes = refl
 append_nil : (xs : List ℕ) → xs ++ [] ≡ xs
 append_nil xs = append-nil xs
 
-pub feeds-count : (bytes : List ℕ) (n : ℕ) → n ≤ length bytes → length (feeds bytes n) ≡ count_by (λ c. c == 10) (take n bytes)
+pub feeds-count : (bytes : List ℕ) (n : ℕ) → n ≤ length bytes
+    → length (feeds bytes n) ≡ count_by (λ c. c == 10) (take n bytes)
 feeds-count bytes zero le = ap length (feeds_nil bytes)
 feeds-count bytes (suc n) le = by_test (feeds-count bytes n (omega arith)) (cases_Bool (get_or bytes n 0 == 10))
   where
-    by_test : length (feeds bytes n) ≡ count_by (λ c. c == 10) (take n bytes) → ((get_or bytes n 0 == 10) ≡ true) ⊎ ((get_or bytes n 0 == 10) ≡ false) → length (feeds bytes (suc n)) ≡ count_by (λ c. c == 10) (take (suc n) bytes)
+    by_test : length (feeds bytes n) ≡ count_by (λ c. c == 10) (take n bytes)
+        → ((get_or bytes n 0 == 10) ≡ true) ⊎ ((get_or bytes n 0 == 10) ≡ false)
+        → length (feeds bytes (suc n)) ≡ count_by (λ c. c == 10) (take (suc n) bytes)
     by_test before (inl is) = rw (← add-one n) (ap length (feeds_more bytes n ∙ ap (λ b. feeds bytes n ++ (if b then n ∷ [] else [])) is) ∙ length-append (feeds bytes n) (n ∷ []) ∙ ap (λ k. k + 1) before
         ∙ sym (count_by_more_yes (λ c. c == 10) bytes n 0 (omega arith) is))
     by_test before (inr is) = rw (← add-one n) (ap length (feeds_more bytes n ∙ ap (λ b. feeds bytes n ++ (if b then n ∷ [] else [])) is ∙ append_nil (feeds bytes n)) ∙ before
         ∙ sym (count_by_more_no (λ c. c == 10) bytes n 0 (omega arith) is))
 
 -- each place among n bytes from i on lies there
-places_within : (bytes : List ℕ) (i n k d : ℕ) → k < length (places_from (is_byte 10) bytes i n) → (i ≤ get_or (places_from (is_byte 10) bytes i n) k d) × (get_or (places_from (is_byte 10) bytes i n) k d < i + n)
+places_within : (bytes : List ℕ) (i n k d : ℕ) → k < length (places_from (is_byte 10) bytes i n)
+    → (i ≤ get_or (places_from (is_byte 10) bytes i n) k d) × (get_or (places_from (is_byte 10) bytes i n) k d < i + n)
 unfolding places_from
 places_within bytes i zero k d lt = absurd (omega arith)
 places_within bytes i (suc n) k d lt = by_test (get_or bytes i 0 == 10) k lt (λ k lt. places_within bytes (i + 1) n k d lt)
   where
-    by_test : (b : Bool) (k : ℕ) → k < length (if b then i ∷ places_from (is_byte 10) bytes (i + 1) n else places_from (is_byte 10) bytes (i + 1) n) →
+    by_test : (b : Bool) (k : ℕ)
+        → k < length (if b then i ∷ places_from (is_byte 10) bytes (i + 1) n else places_from (is_byte 10) bytes (i + 1) n) →
         ((k : ℕ) → k < length (places_from (is_byte 10) bytes (i + 1) n) → (i + 1 ≤ get_or (places_from (is_byte 10) bytes (i + 1) n) k d) × (get_or (places_from (is_byte 10) bytes (i + 1) n) k d < i + 1 + n)) →
         (i ≤ get_or (if b then i ∷ places_from (is_byte 10) bytes (i + 1) n else places_from (is_byte 10) bytes (i + 1) n) k d) × (get_or (if b then i ∷ places_from (is_byte 10) bytes (i + 1) n else places_from (is_byte 10) bytes (i + 1) n) k d < i + suc n)
     by_test true zero lt ih = (omega arith, omega arith)
@@ -60,16 +67,19 @@ places_within bytes i (suc n) k d lt = by_test (get_or bytes i 0 == 10) k lt (λ
 abbrev behind : List ℕ → ℕ → List ℕ
 behind bytes at = places_from (is_byte 10) bytes at (length bytes - at)
 
-pub feeds-cut : (bytes : List ℕ) (at : ℕ) → at ≤ length bytes → places (is_byte 10) bytes ≡ feeds bytes at ++ behind bytes at
+pub feeds-cut : (bytes : List ℕ) (at : ℕ) → at ≤ length bytes
+    → places (is_byte 10) bytes ≡ feeds bytes at ++ behind bytes at
 feeds-cut bytes at le =
     ap (λ n. places_from (is_byte 10) bytes 0 n) (let e : length bytes - 0 ≡ at + (length bytes - at) = omega arith in e) ∙ places_from-append (is_byte 10) bytes 0 at (length bytes - at)
     ∙ ap (λ i. feeds bytes at ++ places_from (is_byte 10) bytes i (length bytes - at)) (let e : 0 + at ≡ at = omega arith in e)
 
 -- an element before a cut is below the place, and one behind it is not
-cut_below : (bytes : List ℕ) (at k d : ℕ) → k < length (feeds bytes at) → nat_lt (get_or (feeds bytes at ++ behind bytes at) k d) at ≡ true
+cut_below : (bytes : List ℕ) (at k d : ℕ) → k < length (feeds bytes at)
+    → nat_lt (get_or (feeds bytes at ++ behind bytes at) k d) at ≡ true
 cut_below bytes at k d lt = rw (get_or_append_left (feeds bytes at) (behind bytes at) d k lt) (lt-ltb _ at (let h = places_within bytes 0 at k d lt in omega arith))
 
-cut_above : (bytes : List ℕ) (at k d : ℕ) → length (feeds bytes at) ≤ k → k < length (feeds bytes at ++ behind bytes at) → nat_lt (get_or (feeds bytes at ++ behind bytes at) k d) at ≡ false
+cut_above : (bytes : List ℕ) (at k d : ℕ) → length (feeds bytes at) ≤ k → k < length (feeds bytes at ++ behind bytes at)
+    → nat_lt (get_or (feeds bytes at ++ behind bytes at) k d) at ≡ false
 cut_above bytes at k d ge lt =
     let size = length-append (feeds bytes at) (behind bytes at) in
     rw (get_or-append_right (feeds bytes at) (behind bytes at) (length (feeds bytes at)) k d refl ge)
@@ -77,7 +87,8 @@ cut_above bytes at k d ge lt =
 
 -- a partition point of the table is the number of line feeds before the place
 pub feeds-point : (bytes xs : List ℕ) (at i : ℕ) → xs ≡ places (is_byte 10) bytes → at ≤ length bytes → i ≤ length xs →
-    (IsPartitionedBy (λ y. nat_lt y at) xs → IsPartitionPoint (λ y. nat_lt y at ≡ true) (λ y. nat_lt y at ≡ false) xs i) → i ≡ length (feeds bytes at)
+    (IsPartitionedBy (λ y. nat_lt y at) xs → IsPartitionPoint (λ y. nat_lt y at ≡ true) (λ y. nat_lt y at ≡ false) xs i)
+    → i ≡ length (feeds bytes at)
 feeds-point bytes xs at i is le within point =
     let cut : xs ≡ feeds bytes at ++ behind bytes at = is ∙ feeds-cut bytes at le in
     let Point : List ℕ → Type 0 = λ l. i ≤ length l → (IsPartitionedBy (λ y. nat_lt y at) l → IsPartitionPoint (λ y. nat_lt y at ≡ true) (λ y. nat_lt y at ≡ false) l i) → i ≡ length (feeds bytes at) in
@@ -86,14 +97,18 @@ feeds-point bytes xs at i is le within point =
     parted : IsPartitionedBy (λ y. nat_lt y at) (feeds bytes at ++ behind bytes at)
     parted a b d le lt passes = by_order (cases_lt a (length (feeds bytes at)))
       where
-        by_order : (a < length (feeds bytes at)) ⊎ (length (feeds bytes at) ≤ a) → nat_lt (get_or (feeds bytes at ++ behind bytes at) a d) at ≡ true
+        by_order : (a < length (feeds bytes at)) ⊎ (length (feeds bytes at) ≤ a)
+            → nat_lt (get_or (feeds bytes at ++ behind bytes at) a d) at ≡ true
         by_order (inl before) = cut_below bytes at a d before
         by_order (inr past) = absurd (both_ways _ (cut_above bytes at b d (omega arith) lt) passes)
 
-    at_cut : i ≤ length (feeds bytes at ++ behind bytes at) → (IsPartitionedBy (λ y. nat_lt y at) (feeds bytes at ++ behind bytes at) → IsPartitionPoint (λ y. nat_lt y at ≡ true) (λ y. nat_lt y at ≡ false) (feeds bytes at ++ behind bytes at) i) → i ≡ length (feeds bytes at)
+    at_cut : i ≤ length (feeds bytes at ++ behind bytes at)
+        → (IsPartitionedBy (λ y. nat_lt y at) (feeds bytes at ++ behind bytes at) → IsPartitionPoint (λ y. nat_lt y at ≡ true) (λ y. nat_lt y at ≡ false) (feeds bytes at ++ behind bytes at) i)
+        → i ≡ length (feeds bytes at)
     at_cut within point = by_order (cases_order i (length (feeds bytes at)))
       where
-        by_order : (i ≡ length (feeds bytes at)) ⊎ ((i < length (feeds bytes at)) ⊎ (length (feeds bytes at) < i)) → i ≡ length (feeds bytes at)
+        by_order : (i ≡ length (feeds bytes at)) ⊎ ((i < length (feeds bytes at)) ⊎ (length (feeds bytes at) < i))
+            → i ≡ length (feeds bytes at)
         by_order (inl e) = e
         by_order (inr (inl lt)) = absurd (let size = length-append (feeds bytes at) (behind bytes at) in both_ways _ ((point parted).1 i 0 (omega arith) (omega arith)) (cut_below bytes at i 0 lt))
         by_order (inr (inr gt)) =
@@ -102,7 +117,8 @@ feeds-point bytes xs at i is le within point =
 -- the last line feed among the first n bytes, where there is one
 pub data Last (bytes : List ℕ) (n : ℕ) : Type 0 where
   nowhere : feeds bytes n ≡ [] → ((k : ℕ) → k < n → get_or bytes k 0 ≢ 10) → Last bytes n
-  somewhere : (before : List ℕ) (p : ℕ) → feeds bytes n ≡ before ++ p ∷ [] → p < n → get_or bytes p 0 ≡ 10 → ((k : ℕ) → p < k → k < n → get_or bytes k 0 ≢ 10) → Last bytes n
+  somewhere : (before : List ℕ) (p : ℕ) → feeds bytes n ≡ before ++ p ∷ [] → p < n → get_or bytes p 0 ≡ 10
+      → ((k : ℕ) → p < k → k < n → get_or bytes k 0 ≢ 10) → Last bytes n
 
 below_more : (n k : ℕ) → k < suc n → (k < n) ⊎ (k ≡ n)
 below_more n k lt = by_order (cases_lt k n)
@@ -142,11 +158,13 @@ line-first bytes at empty = by_last (feeds-last bytes at)
     by_last (somewhere rest p cut lt feed apart) = absurd (let l = ap length cut in let size = length-append rest (p ∷ []) in omega arith)
 
 -- else it begins behind the last line feed before it, which the table has at the place before the count
-pub line-behind : (bytes xs : List ℕ) (at count : ℕ) → xs ≡ places (is_byte 10) bytes → at ≤ length bytes → count ≡ length (feeds bytes at) → (count ≡ 0 → ⊥) →
+pub line-behind : (bytes xs : List ℕ) (at count : ℕ) → xs ≡ places (is_byte 10) bytes → at ≤ length bytes
+    → count ≡ length (feeds bytes at) → (count ≡ 0 → ⊥) →
     (count - 1 < length xs) × ((d : ℕ) → get_or xs (count - 1) d < at) × ((d : ℕ) → IsLineOf bytes at (get_or xs (count - 1) d + 1))
 line-behind bytes xs at count is le size some = by_last (feeds-last bytes at)
   where
-    by_last : Last bytes at → (count - 1 < length xs) × ((d : ℕ) → get_or xs (count - 1) d < at) × ((d : ℕ) → IsLineOf bytes at (get_or xs (count - 1) d + 1))
+    by_last : Last bytes at
+        → (count - 1 < length xs) × ((d : ℕ) → get_or xs (count - 1) d < at) × ((d : ℕ) → IsLineOf bytes at (get_or xs (count - 1) d + 1))
     by_last (nowhere e apart) = absurd (some (size ∙ ap length e))
     by_last (somewhere rest p cut lt feed apart) =
         let whole : xs ≡ rest ++ p ∷ [] ++ behind bytes at = is ∙ feeds-cut bytes at le ∙ ap (λ l. l ++ behind bytes at) cut in
@@ -172,7 +190,8 @@ slice_get_length (x ∷ xs) zero m e = omega arith
 slice_get_length (x ∷ xs) (suc j) m e = let h = slice_get_length xs j m e in omega arith
 
 -- the marks before a partition point begin at or before the place, and the others behind it
-pub governs-last : (marks : List Mark) (at count : ℕ) → count ≤ length marks → (count ≡ 0 → ⊥) → IsPartitionPoint (λ (m : Mark). nat_le m.from at ≡ true) (λ (m : Mark). nat_le m.from at ≡ false) marks count →
+pub governs-last : (marks : List Mark) (at count : ℕ) → count ≤ length marks → (count ≡ 0 → ⊥)
+    → IsPartitionPoint (λ (m : Mark). nat_le m.from at ≡ true) (λ (m : Mark). nat_le m.from at ≡ false) marks count →
     (d : Mark) → Governs marks at (get_or marks (count - 1) d) × ((get_or marks (count - 1) d).from ≤ at)
 governs-last marks at count le some point d =
     let before : (get_or marks (count - 1) d).from ≤ at = leb-true _ at (point.0 (count - 1) d (omega arith) (omega arith)) in (
@@ -182,23 +201,28 @@ governs-last marks at count le some point d =
       before,
     )
 
-pub governs-none : (marks : List Mark) (at count : ℕ) → count ≡ 0 → IsPartitionPoint (λ (m : Mark). nat_le m.from at ≡ true) (λ (m : Mark). nat_le m.from at ≡ false) marks count → Governs marks at no_mark
+pub governs-none : (marks : List Mark) (at count : ℕ) → count ≡ 0
+    → IsPartitionPoint (λ (m : Mark). nat_le m.from at ≡ true) (λ (m : Mark). nat_le m.from at ≡ false) marks count
+    → Governs marks at no_mark
 governs-none marks at count zero_is point =
     none refl (λ j m there. let lt : j < length marks = slice_get_length marks j m there in
     let later : nat_le m.from at ≡ false = rw (get_or_from_slice_get marks j m no_mark there) at (point.1 j no_mark (omega arith) lt) in leb-false m.from at later)
 
 -- what is left of the places, a step on
-pub left-inside : (found later : List ℕ) (at most : ℕ) → found ≡ at ∷ later → All (λ k. k < most) found → All (λ k. k < most) later
+pub left-inside : (found later : List ℕ) (at most : ℕ) → found ≡ at ∷ later → All (λ k. k < most) found
+    → All (λ k. k < most) later
 left-inside found later at most is inside k d lt = let h = inside (suc k) d (let size = ap length is in omega arith) in let e : get_or found (suc k) d ≡ get_or later k d = ap (λ l. get_or l (suc k) d) is in omega (arith, e)
 
-pub left-whole : (fed found later now whole : List ℕ) (at : ℕ) → found ≡ at ∷ later → now ≡ fed ++ at ∷ [] → fed ++ found ≡ whole → now ++ later ≡ whole
+pub left-whole : (fed found later now whole : List ℕ) (at : ℕ) → found ≡ at ∷ later → now ≡ fed ++ at ∷ []
+    → fed ++ found ≡ whole → now ++ later ≡ whole
 left-whole fed found later now whole at is push before = ap (λ l. l ++ later) push ∙ append_assoc fed (at ∷ []) later ∙ ap (λ l. fed ++ l) (sym is) ∙ before
 
 count_append : (p : ℕ → Bool) (xs ys : List ℕ) → count_by p (xs ++ ys) ≡ count_by p xs + count_by p ys
 count_append p xs ys = sum_by-append (λ x. if p x then 1 else 0) xs ys
 
 -- what passes before a place passes before an earlier one, or from there on
-pub count-cut : (p : ℕ → Bool) (l : List ℕ) (from at : ℕ) → from ≤ at → count_by p (take at l) ≡ count_by p (take from l) + count_by p (slice_range l from at)
+pub count-cut : (p : ℕ → Bool) (l : List ℕ) (from at : ℕ) → from ≤ at
+    → count_by p (take at l) ≡ count_by p (take from l) + count_by p (slice_range l from at)
 count-cut p l from at le =
     ap (count_by p) (sym (take-append-drop from (take at l))) ∙ count_append p (take from (take at l)) (drop from (take at l))
     ∙ ap (λ xs. count_by p xs + count_by p (drop from (take at l))) (take-take from at l le)

@@ -11,21 +11,25 @@ pub all_pass : (p : ℕ → Bool) (bytes : List ℕ) → list_all p (take (prefi
 all_pass p [] = refl
 all_pass p (c ∷ cs) = by_test (p c) refl (all_pass p cs)
   where
-    by_test : (b : Bool) → p c ≡ b → list_all p (take (prefix_len p cs) cs) ≡ true → list_all p (take (cond b (1 + prefix_len p cs) 0) (c ∷ cs)) ≡ true
+    by_test : (b : Bool) → p c ≡ b → list_all p (take (prefix_len p cs) cs) ≡ true
+        → list_all p (take (cond b (1 + prefix_len p cs) 0) (c ∷ cs)) ≡ true
     by_test true is rest = rw (one-add, is) rest
     by_test false is rest = refl
 
-more_fail : (p : ℕ → Bool) (bytes : List ℕ) (m : ℕ) → prefix_len p bytes < m → m ≤ length bytes → list_all p (take m bytes) ≡ false
+more_fail : (p : ℕ → Bool) (bytes : List ℕ) (m : ℕ) → prefix_len p bytes < m → m ≤ length bytes
+    → list_all p (take m bytes) ≡ false
 more_fail p [] m lt le = absurd (omega arith)
 more_fail p (c ∷ cs) zero lt le = absurd (omega arith)
 more_fail p (c ∷ cs) (suc m) lt le = by_test (p c) refl lt (λ lt. more_fail p cs m lt (omega arith))
   where
-    by_test : (b : Bool) → p c ≡ b → cond b (1 + prefix_len p cs) 0 < suc m → (prefix_len p cs < m → list_all p (take m cs) ≡ false) → (b && list_all p (take m cs)) ≡ false
+    by_test : (b : Bool) → p c ≡ b → cond b (1 + prefix_len p cs) 0 < suc m
+        → (prefix_len p cs < m → list_all p (take m cs) ≡ false) → (b && list_all p (take m cs)) ≡ false
     by_test true is lt rest = rest (omega arith)
     by_test false is lt rest = refl
 
 -- a first byte of its own, and then all that pass
-pub longest_run : (first p : ℕ → Bool) (test : List ℕ → Bool) → ((c : ℕ) (cs : List ℕ) → test (c ∷ cs) ≡ (first c && list_all p cs)) →
+pub longest_run : (first p : ℕ → Bool) (test : List ℕ → Bool)
+    → ((c : ℕ) (cs : List ℕ) → test (c ∷ cs) ≡ (first c && list_all p cs)) →
     (c : ℕ) (cs : List ℕ) → first c ≡ true → IsLongestOf test (c ∷ cs) (1 + prefix_len p cs)
 longest_run first p test form c cs h = record {
   inside = (let l = prefix_len-le-length p cs in omega arith);
@@ -37,13 +41,15 @@ longest_run first p test form c cs h = record {
     longer zero lt le = absurd (omega arith)
     longer (suc m) lt le = rw (form c (take m cs), h) (more_fail p cs m (omega arith) (omega arith))
 
-pub word_longest : (bytes : List ℕ) → begins_with is_letter bytes ≡ true → IsLongestOf is_word bytes (prefix_len is_word_byte bytes)
+pub word_longest : (bytes : List ℕ) → begins_with is_letter bytes ≡ true
+    → IsLongestOf is_word bytes (prefix_len is_word_byte bytes)
 word_longest [] h = absurd cc
 word_longest (c ∷ cs) h =
     let word : is_word_byte c ≡ true = grind (arith, nat_tests) in
     rw word (longest_run is_letter is_word_byte is_word (λ c cs. refl) c cs h)
 
-pub dollar_longest : (bytes : List ℕ) → begins_with (λ c. c == 36) bytes ≡ true → IsLongestOf is_dollar bytes (1 + prefix_len is_word_byte (drop 1 bytes))
+pub dollar_longest : (bytes : List ℕ) → begins_with (λ c. c == 36) bytes ≡ true
+    → IsLongestOf is_dollar bytes (1 + prefix_len is_word_byte (drop 1 bytes))
 dollar_longest [] h = absurd cc
 dollar_longest (c ∷ cs) h = longest_run (λ c. c == 36) is_word_byte is_dollar (λ c cs. refl) c cs h
 
@@ -60,7 +66,8 @@ digits_alike c cs h = rw (digit_apart c h, h) (by_tail (is_number_tail c cs))
 point_alike : (c : ℕ) (cs : List ℕ) → (c == 46) ≡ true → is_number (c ∷ cs) ≡ is_digits cs
 point_alike c cs h = rw (h, let no_digit : is_digit c ≡ false = (let e : c ≡ 46 = eqb-true c 46 h in rw e refl) in no_digit) refl
 
-pub digits-number : (bytes : List ℕ) (n : ℕ) → begins_with is_digit bytes ≡ true → IsLongestOf is_digits bytes n → IsLongestOf is_number bytes n
+pub digits-number : (bytes : List ℕ) (n : ℕ) → begins_with is_digit bytes ≡ true → IsLongestOf is_digits bytes n
+    → IsLongestOf is_number bytes n
 digits-number [] n h long = absurd cc
 digits-number (c ∷ cs) n h long = record { inside = long.inside; passes = at n ∙ long.passes; longest = λ m lt le. at m ∙ long.longest m lt le }
   where
@@ -68,7 +75,9 @@ digits-number (c ∷ cs) n h long = record { inside = long.inside; passes = at n
     at zero = refl
     at (suc m) = digits_alike c (take m cs) h
 
-pub fraction-number : (bytes : List ℕ) (n : ℕ) → (begins_with (λ c. c == 46) bytes && begins_with is_digit (drop 1 bytes)) ≡ true → IsLongestOf is_digits (drop 1 bytes) n → IsLongestOf is_number bytes (1 + n)
+pub fraction-number : (bytes : List ℕ) (n : ℕ)
+    → (begins_with (λ c. c == 46) bytes && begins_with is_digit (drop 1 bytes)) ≡ true
+    → IsLongestOf is_digits (drop 1 bytes) n → IsLongestOf is_number bytes (1 + n)
 fraction-number [] n h long = absurd cc
 fraction-number (c ∷ cs) n h long =
     let parts = and_parts (c == 46) (begins_with is_digit cs) h in
@@ -78,7 +87,8 @@ fraction-number (c ∷ cs) n h long =
     longer zero lt le = absurd (omega arith)
     longer (suc m) lt le = point_alike c (take m cs) (and_parts (c == 46) (begins_with is_digit cs) h).0 ∙ long.longest m (omega arith) (omega arith)
 
-pub no-number : (bytes : List ℕ) → begins_with is_digit bytes ≡ false → (begins_with (λ c. c == 46) bytes && begins_with is_digit (drop 1 bytes)) ≡ false → HasNone is_number bytes
+pub no-number : (bytes : List ℕ) → begins_with is_digit bytes ≡ false
+    → (begins_with (λ c. c == 46) bytes && begins_with is_digit (drop 1 bytes)) ≡ false → HasNone is_number bytes
 no-number [] h k zero le = refl
 no-number [] h k (suc m) le = refl
 no-number (c ∷ cs) h k zero le = refl

@@ -11,7 +11,8 @@ use Rattle.c_lexer.specs.Gaps.{line_len, ClosesAt, IsBlockComment}
 no_feed : (x : ℕ) → ((x == 10) ≡ true → ⊥) → not (x == 10) ≡ true
 no_feed x h = not_from_false (x == 10) (false_from_ne_true (x == 10) h)
 
-pub line-len : (bytes : List ℕ) (r : Option ℕ) → IsFirstByte (is_byte 10) bytes r → unwrap_or r (length bytes) ≡ line_len bytes
+pub line-len : (bytes : List ℕ) (r : Option ℕ) → IsFirstByte (is_byte 10) bytes r
+    → unwrap_or r (length bytes) ≡ line_len bytes
 line-len bytes None h =
     sym (prefix_len_is (λ c. not (c == 10)) bytes (length bytes) 0 (omega arith) (λ k lt. no_feed (get_or bytes k 0) (h k (omega arith) lt)) (λ lt. absurd (omega arith)))
 line-len bytes (Some k) h =
@@ -40,7 +41,8 @@ closes_occurs bytes k h = record { fits = (let i = closes_inside bytes (2 + k) h
     reads (suc zero) lt = get_or-drop 2 bytes (k + 1) 0 ∙ (let e : 2 + (k + 1) ≡ 2 + k + 1 = omega arith in ap (λ i. get_or bytes i 0) e) ∙ h.1
     reads (suc (suc j)) lt = absurd (omega arith)
 
-pub block-found : (bytes : List ℕ) (k : ℕ) → starts_with nat_eq bytes (codes "/*") ≡ true → FindsNeedle (drop 2 bytes) (codes "*/") 0 (Some k) → IsBlockComment bytes (k + 4)
+pub block-found : (bytes : List ℕ) (k : ℕ) → starts_with nat_eq bytes (codes "/*") ≡ true
+    → FindsNeedle (drop 2 bytes) (codes "*/") 0 (Some k) → IsBlockComment bytes (k + 4)
 block-found bytes k opens h = record {
   opens = opens;
   long = omega arith;

@@ -15,7 +15,8 @@ use Rattle.std.proofs.Math.Nat.{pow-le-pow_right}
 use Rattle.c_lexer.proofs.FrontLemmas.{all_pass}
 
 -- a run that something else follows is all that passes
-run_len : (test : ℕ → Bool) (bytes : List ℕ) (from to : ℕ) → IsRun test bytes from to → test (get_or bytes to 0) ≡ false → to ≡ from + prefix_len test (drop from bytes)
+run_len : (test : ℕ → Bool) (bytes : List ℕ) (from to : ℕ) → IsRun test bytes from to → test (get_or bytes to 0) ≡ false
+    → to ≡ from + prefix_len test (drop from bytes)
 run_len test bytes from to run stops =
     let rises = run.rises in
     let inside = run.inside in
@@ -27,7 +28,8 @@ run_len test bytes from to run stops =
     omega (arith, len)
 
 -- all that passes is a run, where it is not empty
-pub len-run : (test : ℕ → Bool) (bytes : List ℕ) (from to : ℕ) → to ≡ from + prefix_len test (drop from bytes) → from < to → IsRun test bytes from to
+pub len-run : (test : ℕ → Bool) (bytes : List ℕ) (from to : ℕ) → to ≡ from + prefix_len test (drop from bytes)
+    → from < to → IsRun test bytes from to
 len-run test bytes from to is rises = record {
   rises = rises;
   inside = (let most = prefix_len-le-length test (drop from bytes) in let size = length-drop from bytes in omega (arith, is));
@@ -46,7 +48,8 @@ digit_blank c h = grind (arith, nat_tests)
 quote_stands : (bytes : List ℕ) (at m : ℕ) → is_quoted 34 (take m (drop at bytes)) ≡ true → get_or bytes at 0 ≡ 34
 quote_stands bytes at m h = by_list (drop at bytes) m refl h
   where
-    by_list : (rest : List ℕ) (m : ℕ) → drop at bytes ≡ rest → is_quoted 34 (take m rest) ≡ true → get_or bytes at 0 ≡ 34
+    by_list : (rest : List ℕ) (m : ℕ) → drop at bytes ≡ rest → is_quoted 34 (take m rest) ≡ true
+        → get_or bytes at 0 ≡ 34
     by_list rest zero e h = absurd cc
     by_list [] (suc m) e h = absurd cc
     by_list (c ∷ cs) (suc m) e h =
@@ -63,7 +66,8 @@ pub record SameParts (line : List ℕ) (m : Marker) (parts : Parts) (marks : IsM
   pub digits_end : marks.digits_end ≡ parts.digits_end
   pub quote_at : marks.quote_at ≡ parts.quote_at
 
-pub same_parts : (line : List ℕ) (parts : Parts) → IsReadAt line parts → (m : Marker) (marks : IsMarker line m) → SameParts line m parts marks
+pub same_parts : (line : List ℕ) (parts : Parts) → IsReadAt line parts → (m : Marker) (marks : IsMarker line m)
+    → SameParts line m parts marks
 same_parts line parts read m marks =
     let digits = marks.digits in
     let blanks = marks.second_blanks in
@@ -81,7 +85,8 @@ same_parts line parts read m marks =
 abbrev pub long_enough : Parts → Bool
 long_enough parts = nat_lt 1 parts.digits_at && (nat_lt parts.digits_at parts.digits_end && (nat_le parts.digits_end (parts.digits_at + 9) && nat_lt parts.digits_end parts.quote_at))
 
-pub short-no_marker : (line : List ℕ) (parts : Parts) → IsReadAt line parts → long_enough parts ≡ false → (m : Marker) → ¬ IsMarker line m
+pub short-no_marker : (line : List ℕ) (parts : Parts) → IsReadAt line parts → long_enough parts ≡ false → (m : Marker)
+    → ¬ IsMarker line m
 short-no_marker line parts read short m marks =
     let same = same_parts line parts read m marks in
     let one = marks.first_blanks.rises in
@@ -105,17 +110,20 @@ file_len line parts read m marks =
     let inside = marks.inside in
     (n, (let size = length-drop parts.quote_at line in omega arith), file, by_order n refl file)
   where
-    by_order : (n : ℕ) → n ≡ m.name_to + 1 - parts.quote_at → is_quoted 34 (take n (drop parts.quote_at line)) ≡ true → m.name_to + 1 ≡ parts.quote_at + (m.name_to + 1 - parts.quote_at)
+    by_order : (n : ℕ) → n ≡ m.name_to + 1 - parts.quote_at → is_quoted 34 (take n (drop parts.quote_at line)) ≡ true
+        → m.name_to + 1 ≡ parts.quote_at + (m.name_to + 1 - parts.quote_at)
     by_order zero e file = absurd cc
     by_order (suc n) e file = omega (arith, e)
 
-pub no-name : (line : List ℕ) (parts : Parts) → IsReadAt line parts → HasNone (is_quoted 34) (drop parts.quote_at line) → (m : Marker) → ¬ IsMarker line m
+pub no-name : (line : List ℕ) (parts : Parts) → IsReadAt line parts → HasNone (is_quoted 34) (drop parts.quote_at line)
+    → (m : Marker) → ¬ IsMarker line m
 no-name line parts read none m marks =
     let file = file_len line parts read m marks in
     both_ways _ (none file.0 file.1) file.2
 
 -- quoted bytes in front have one length
-same_len : (bytes : List ℕ) (n k : ℕ) → IsLongestOf (is_quoted 34) bytes n → NoneShorter (is_quoted 34) bytes n → k ≤ length bytes → is_quoted 34 (take k bytes) ≡ true → k ≡ n
+same_len : (bytes : List ℕ) (n k : ℕ) → IsLongestOf (is_quoted 34) bytes n → NoneShorter (is_quoted 34) bytes n
+    → k ≤ length bytes → is_quoted 34 (take k bytes) ≡ true → k ≡ n
 same_len bytes n k long only le h = by_order (cases_order k n)
   where
     by_order : (k ≡ n) ⊎ ((k < n) ⊎ (n < k)) → k ≡ n
@@ -123,7 +131,9 @@ same_len bytes n k long only le h = by_order (cases_order k n)
     by_order (inr (inl lt)) = absurd (both_ways _ (only k lt) h)
     by_order (inr (inr gt)) = absurd (both_ways _ (long.longest k gt le) h)
 
-pub no-flags : (line : List ℕ) (parts : Parts) → IsReadAt line parts → (n : ℕ) → IsLongestOf (is_quoted 34) (drop parts.quote_at line) n → NoneShorter (is_quoted 34) (drop parts.quote_at line) n →
+pub no-flags : (line : List ℕ) (parts : Parts) → IsReadAt line parts → (n : ℕ)
+    → IsLongestOf (is_quoted 34) (drop parts.quote_at line) n
+    → NoneShorter (is_quoted 34) (drop parts.quote_at line) n →
     are_flags false (drop (parts.quote_at + n) line) ≡ false → (m : Marker) → ¬ IsMarker line m
 no-flags line parts read n long only stops m marks =
     let file = file_len line parts read m marks in
@@ -131,12 +141,14 @@ no-flags line parts read n long only stops m marks =
     let end : m.name_to + 1 ≡ parts.quote_at + n = file.3 ∙ ap (λ k. parts.quote_at + k) same in
     both_ways _ stops (rw end at marks.flags)
 
-pub digits-all : (line : List ℕ) (parts : Parts) → IsReadAt line parts → list_all is_digit (take (parts.digits_end - parts.digits_at) (drop parts.digits_at line)) ≡ true
+pub digits-all : (line : List ℕ) (parts : Parts) → IsReadAt line parts
+    → list_all is_digit (take (parts.digits_end - parts.digits_at) (drop parts.digits_at line)) ≡ true
 digits-all line parts read =
     let len : parts.digits_end - parts.digits_at ≡ prefix_len is_digit (drop parts.digits_at line) = (let e = read.digits_end in omega arith) in
     rw len (all_pass is_digit (drop parts.digits_at line))
 
-pub found-marker : (line : List ℕ) (parts : Parts) → IsReadAt line parts → begins_with (λ c. c == 35) line ≡ true → long_enough parts ≡ true → (n number : ℕ) → IsLongestOf (is_quoted 34) (drop parts.quote_at line) n →
+pub found-marker : (line : List ℕ) (parts : Parts) → IsReadAt line parts → begins_with (λ c. c == 35) line ≡ true
+    → long_enough parts ≡ true → (n number : ℕ) → IsLongestOf (is_quoted 34) (drop parts.quote_at line) n →
     are_flags false (drop (parts.quote_at + n) line) ≡ true → number ≡ decimal (slice_range line parts.digits_at parts.digits_end) →
     IsMarker line (record { number = number; name_from = parts.quote_at + 1; name_to = parts.quote_at + n - 1 })
 found-marker line parts read hash long zero number file flags is = absurd (let h = file.passes in cc)
@@ -169,7 +181,8 @@ room n i d small few digit =
     omega arith
 
 -- a byte of a list of digits stands for at most nine
-pub digit_value : (digits : List ℕ) (i : ℕ) → list_all is_digit digits ≡ true → i < length digits → get_or digits i 0 - 48 ≤ 9
+pub digit_value : (digits : List ℕ) (i : ℕ) → list_all is_digit digits ≡ true → i < length digits
+    → get_or digits i 0 - 48 ≤ 9
 digit_value [] i h lt = absurd (omega arith)
 digit_value (c ∷ cs) zero h lt =
     let parts = and_parts (nat_le 48 c) (nat_le c 57) (and_parts (is_digit c) (list_all is_digit cs) h).0 in

@@ -34,24 +34,28 @@ newest [] y = refl
 newest (z ∷ xs) y = newest xs y
 
 -- an element of a list with one more is one of the list, or the one more behind it
-pushed : {A : Type 0} (xs : List A) (y x : A) (k : ℕ) → slice_get (xs ++ y ∷ []) k ≡ Some x → (slice_get xs k ≡ Some x) ⊎ ((k ≡ length xs) × (y ≡ x))
+pushed : {A : Type 0} (xs : List A) (y x : A) (k : ℕ) → slice_get (xs ++ y ∷ []) k ≡ Some x
+    → (slice_get xs k ≡ Some x) ⊎ ((k ≡ length xs) × (y ≡ x))
 pushed [] y x zero e = inr (refl, cc)
 pushed [] y x (suc k) e = absurd cc
 pushed (z ∷ xs) y x zero e = inl e
 pushed (z ∷ xs) y x (suc k) e = by_case (pushed xs y x k e)
   where
-    by_case : (slice_get xs k ≡ Some x) ⊎ ((k ≡ length xs) × (y ≡ x)) → (slice_get (z ∷ xs) (suc k) ≡ Some x) ⊎ ((suc k ≡ suc (length xs)) × (y ≡ x))
+    by_case : (slice_get xs k ≡ Some x) ⊎ ((k ≡ length xs) × (y ≡ x))
+        → (slice_get (z ∷ xs) (suc k) ≡ Some x) ⊎ ((suc k ≡ suc (length xs)) × (y ≡ x))
     by_case (inl old) = inl old
     by_case (inr new) = inr (ap suc new.0, new.1)
 
 -- a name that stands among the names is the one of its number
-found_is : (names : List (List ℕ)) (name : List ℕ) (i : ℕ) → position (bytes_eq name) names ≡ Some i → slice_get names i ≡ Some name
+found_is : (names : List (List ℕ)) (name : List ℕ) (i : ℕ) → position (bytes_eq name) names ≡ Some i
+    → slice_get names i ≡ Some name
 found_is names name i e =
     let f = position-Some (bytes_eq name) names i name e in
     slice_get_read names (length names) i name refl f.0 ((bytes_eq-Decides name (get_or names i name)).0 f.1)
 
 -- where a name has no place, it is none of the names
-missing_is : (names : List (List ℕ)) (name : List ℕ) (k : ℕ) → position (bytes_eq name) names ≡ None → slice_get names k ≡ Some name → ⊥
+missing_is : (names : List (List ℕ)) (name : List ℕ) (k : ℕ) → position (bytes_eq name) names ≡ None
+    → slice_get names k ≡ Some name → ⊥
 missing_is names name k none there =
     let within = slice_get_within names k name there in
     let same : get_or names k name ≡ name = get_or_from_slice_get names k name name there in
@@ -66,19 +70,22 @@ record NameKept (names after : List (List ℕ)) (name : List ℕ) (id : ℕ) : T
   stay : (k : ℕ) (n : List ℕ) → slice_get names k ≡ Some n → slice_get after k ≡ Some n
   apart : AreApart after
 
-name_kept : (names : List (List ℕ)) (name : List ℕ) → AreApart names → NameKept names (with_name names name) name (name_number names name)
+name_kept : (names : List (List ℕ)) (name : List ℕ) → AreApart names
+    → NameKept names (with_name names name) name (name_number names name)
 name_kept names name apart = by_place (position (bytes_eq name) names) refl
   where
     push_apart : position (bytes_eq name) names ≡ None → AreApart (names ++ name ∷ [])
     push_apart none i j n at_i at_j = by_cases (pushed names name n i at_i) (pushed names name n j at_j)
       where
-        by_cases : (slice_get names i ≡ Some n) ⊎ ((i ≡ length names) × (name ≡ n)) → (slice_get names j ≡ Some n) ⊎ ((j ≡ length names) × (name ≡ n)) → i ≡ j
+        by_cases : (slice_get names i ≡ Some n) ⊎ ((i ≡ length names) × (name ≡ n))
+            → (slice_get names j ≡ Some n) ⊎ ((j ≡ length names) × (name ≡ n)) → i ≡ j
         by_cases (inl a) (inl b) = apart i j n a b
         by_cases (inl a) (inr b) = absurd (missing_is names name i none (a ∙ ap Some (sym b.1)))
         by_cases (inr a) (inl b) = absurd (missing_is names name j none (b ∙ ap Some (sym a.1)))
         by_cases (inr a) (inr b) = a.0 ∙ sym b.0
 
-    by_place : (o : Option ℕ) → position (bytes_eq name) names ≡ o → NameKept names (if is_some o then names else names ++ name ∷ []) name (unwrap_or o (length names))
+    by_place : (o : Option ℕ) → position (bytes_eq name) names ≡ o
+        → NameKept names (if is_some o then names else names ++ name ∷ []) name (unwrap_or o (length names))
     by_place (Some i) at = record { there = found_is names name i at; stay = λ k n e. e; apart = apart }
     by_place None none = record { there = newest names name; stay = λ k n e. older names name n k e; apart = push_apart none }
 
@@ -88,21 +95,26 @@ record IsNumbered (bytes : List ℕ) (front : Front) : Type 0 where
   apart : AreApart front.names
 
 -- one more token, where the names stay and a name's token has the number of its spelling
-known_more : (bytes : List ℕ) (tokens : List Token) (t : Token) (names after : List (List ℕ)) → AreKnown bytes tokens names →
+known_more : (bytes : List ℕ) (tokens : List Token) (t : Token) (names after : List (List ℕ))
+    → AreKnown bytes tokens names →
     ((k : ℕ) (n : List ℕ) → slice_get names k ≡ Some n → slice_get after k ≡ Some n) →
-    ((id : ℕ) → t.kind ≡ Name id → slice_get after id ≡ Some (slice_range bytes t.start t.end)) → AreKnown bytes (tokens ++ t ∷ []) after
+    ((id : ℕ) → t.kind ≡ Name id → slice_get after id ≡ Some (slice_range bytes t.start t.end))
+    → AreKnown bytes (tokens ++ t ∷ []) after
 known_more bytes tokens t names after known stay new k s id there is = by_case (pushed tokens t s k there)
   where
-    by_case : (slice_get tokens k ≡ Some s) ⊎ ((k ≡ length tokens) × (t ≡ s)) → slice_get after id ≡ Some (slice_range bytes s.start s.end)
+    by_case : (slice_get tokens k ≡ Some s) ⊎ ((k ≡ length tokens) × (t ≡ s))
+        → slice_get after id ≡ Some (slice_range bytes s.start s.end)
     by_case (inl old) = stay id (slice_range bytes s.start s.end) (known k s id old is)
     by_case (inr last) = let P : Token → Type 0 = λ s. s.kind ≡ Name id → slice_get after id ≡ Some (slice_range bytes s.start s.end) in subst P last.1 (new id) is
 
 -- a token that is no name leaves the names
-other_more : (bytes : List ℕ) (tokens : List Token) (t : Token) (names : List (List ℕ)) → AreKnown bytes tokens names → AreApart names → ((id : ℕ) → t.kind ≡ Name id → ⊥) →
+other_more : (bytes : List ℕ) (tokens : List Token) (t : Token) (names : List (List ℕ)) → AreKnown bytes tokens names
+    → AreApart names → ((id : ℕ) → t.kind ≡ Name id → ⊥) →
     AreKnown bytes (tokens ++ t ∷ []) names × AreApart names
 other_more bytes tokens t names known apart other = (known_more bytes tokens t names names known (λ k n e. e) (λ id e. absurd (other id e)), apart)
 
-behind_token : (unit : ℕ) (wide : Bool) (words : Meanings) (bytes : List ℕ) (tokens : List Token) (names : List (List ℕ)) (at n : ℕ) (kind : TokenKind) → AreKnown bytes tokens names → AreApart names →
+behind_token : (unit : ℕ) (wide : Bool) (words : Meanings) (bytes : List ℕ) (tokens : List Token) (names : List (List ℕ)) (at n : ℕ) (kind : TokenKind)
+    → AreKnown bytes tokens names → AreApart names →
     IsKind unit wide words names (take n (drop at bytes)) kind →
     AreKnown bytes (tokens ++ record { kind = kind; start = at; end = at + n } ∷ []) (names_behind names (take n (drop at bytes)) kind) × AreApart (names_behind names (take n (drop at bytes)) kind)
 behind_token unit wide words bytes tokens names at n (Name id) known apart is =
@@ -122,7 +134,8 @@ behind_token unit wide words bytes tokens names at n (Qual l e) known apart is =
 behind_token unit wide words bytes tokens names at n Index known apart is = other_more bytes tokens (record { kind = Index; start = at; end = at + n }) names known apart (λ id e. absurd cc)
 behind_token unit wide words bytes tokens names at n End known apart is = absurd is
 
-reaches_numbered : (unit : ℕ) (wide : Bool) (words : Meanings) (bytes : List ℕ) (front : Front) → Reaches unit wide words bytes front → IsNumbered bytes front
+reaches_numbered : (unit : ℕ) (wide : Bool) (words : Meanings) (bytes : List ℕ) (front : Front)
+    → Reaches unit wide words bytes front → IsNumbered bytes front
 reaches_numbered unit wide words bytes front begins = record { known = λ k t id there is. absurd cc; apart = λ i j n a b. absurd cc }
 reaches_numbered unit wide words bytes front (skips old new reached s) =
     let before = reaches_numbered unit wide words bytes old reached in
@@ -133,7 +146,8 @@ reaches_numbered unit wide words bytes front (takes old new reached t) =
     record { known = rw (t.tokens, t.names) behind.0; apart = rw t.names behind.1 }
 
 -- with the end of the unit behind them
-spells_known : (unit : ℕ) (wide : Bool) (words : Meanings) (bytes : List ℕ) (tokens : List Token) (names : List (List ℕ)) (marks : List _) → Spells unit wide words bytes tokens names marks →
+spells_known : (unit : ℕ) (wide : Bool) (words : Meanings) (bytes : List ℕ) (tokens : List Token) (names : List (List ℕ)) (marks : List _)
+    → Spells unit wide words bytes tokens names marks →
     AreKnown bytes tokens names × AreApart names
 spells_known unit wide words bytes tokens names marks s =
     let before = reaches_numbered unit wide words bytes s.front s.reached in
@@ -141,10 +155,12 @@ spells_known unit wide words bytes tokens names marks s =
     (rw (s.tokens_are, s.names_are) behind.0, rw s.names_are behind.1)
 
 -- a name's token stands among the tokens, and its text is the spelling of its number
-name_text : (lexed : Lexed) (names : List (List ℕ)) (n a : ℕ) → AreKnown lexed.bytes lexed.tokens names → kind_of lexed n ≡ Some (Name a) → slice_get names a ≡ Some (text_of lexed n)
+name_text : (lexed : Lexed) (names : List (List ℕ)) (n a : ℕ) → AreKnown lexed.bytes lexed.tokens names
+    → kind_of lexed n ≡ Some (Name a) → slice_get names a ≡ Some (text_of lexed n)
 name_text lexed names n a known is = by_token (slice_get lexed.tokens n) refl is
   where
-    by_token : (o : Option Token) → slice_get lexed.tokens n ≡ o → option_map (λ (t : Token). t.kind) o ≡ Some (Name a) → slice_get names a ≡ Some (text_of lexed n)
+    by_token : (o : Option Token) → slice_get lexed.tokens n ≡ o → option_map (λ (t : Token). t.kind) o ≡ Some (Name a)
+        → slice_get names a ≡ Some (text_of lexed n)
     by_token None at e = absurd cc
     by_token (Some t) at e =
         let first : start_of lexed.tokens n ≡ t.start = ap (λ o. unwrap_or o 0) (slice_get-map (λ (t : Token). t.start) lexed.tokens n ∙ ap (option_map (λ (t : Token). t.start)) at) in

@@ -94,7 +94,8 @@ dollar_text [] h = absurd cc
 dollar_text (c ∷ cs) h = let e : c ≡ 36 = eqb-true c 36 h in rw e refl
 
 -- a test that leaves no sign fails on a sign
-sign_apart : (test : List ℕ → Bool) (a : List ℕ) (sign : Punct) → sign_kind a ≡ Some sign → (test a ≡ true → sign_kind a ≡ None) → test a ≡ false
+sign_apart : (test : List ℕ → Bool) (a : List ℕ) (sign : Punct) → sign_kind a ≡ Some sign
+    → (test a ≡ true → sign_kind a ≡ None) → test a ≡ false
 sign_apart test a sign is none = by_test (cases_Bool (test a))
   where
     by_test : (test a ≡ true) ⊎ (test a ≡ false) → test a ≡ false
@@ -112,7 +113,8 @@ number_none a h =
     let K : List ℕ → Type 0 = λ l. sign_kind l ≡ None in
     subst K all (number_sign a (length a) (length a) (omega arith) (subst N (sym all) h))
 
-is_kind-is : (unit : ℕ) (wide : Bool) (words : Meanings) (names : List (List ℕ)) (a : List ℕ) (kind : TokenKind) → IsKind unit wide words names a kind → kind_is unit wide words names a ≡ kind
+is_kind-is : (unit : ℕ) (wide : Bool) (words : Meanings) (names : List (List ℕ)) (a : List ℕ) (kind : TokenKind)
+    → IsKind unit wide words names a kind → kind_is unit wide words names a ≡ kind
 is_kind-is unit wide words names a (Name id) h = rw (h.0, h.1) (ap Name (sym h.2))
 is_kind-is unit wide words names a (Keyword keyword) h = rw (h.0, h.1) refl
 is_kind-is unit wide words names a Number h = rw (number_word a h, h) refl
@@ -137,7 +139,8 @@ is_kind-is unit wide words names a Index h =
 is_kind-is unit wide words names a End h = absurd h
 
 -- a `$` word without a meaning that is no index word has no kind
-unknown_kind : (unit : ℕ) (wide : Bool) (words : Meanings) (names : List (List ℕ)) (a : List ℕ) (kind : TokenKind) → is_dollar a ≡ true → is_index unit a ≡ false → meaning_of words a ≡ None → ¬ IsKind unit wide words names a kind
+unknown_kind : (unit : ℕ) (wide : Bool) (words : Meanings) (names : List (List ℕ)) (a : List ℕ) (kind : TokenKind)
+    → is_dollar a ≡ true → is_index unit a ≡ false → meaning_of words a ≡ None → ¬ IsKind unit wide words names a kind
 unknown_kind unit wide words names a kind dollar no_index none h =
     let begins_so = dollar_begins a dollar in
     let ends : kind_is unit wide words names a ≡ End = rw (dollar_word a begins_so, dollar_number a begins_so, dollar_char a begins_so, dollar_text a begins_so, dollar, no_index, none) refl in
@@ -152,7 +155,8 @@ longest_once bytes n k h g = by_order (cases_order n k)
     by_order (inr (inl lt)) = absurd (both_ways _ (h.longest k lt g.inside) g.passes)
     by_order (inr (inr gt)) = absurd (both_ways _ (g.longest n gt h.inside) h.passes)
 
-same_front : (a b : Front) → a.at ≡ b.at → a.fresh ≡ b.fresh → a.tokens ≡ b.tokens → a.names ≡ b.names → a.marks ≡ b.marks → a ≡ b
+same_front : (a b : Front) → a.at ≡ b.at → a.fresh ≡ b.fresh → a.tokens ≡ b.tokens → a.names ≡ b.names
+    → a.marks ≡ b.marks → a ≡ b
 same_front a b at fresh tokens names marks = λ i. record { at = at i; fresh = fresh i; tokens = tokens i; names = names i; marks = marks i }
 
 skips_once : (bytes : List ℕ) (old a b : Front) → Skips bytes old a → Skips bytes old b → a ≡ b
@@ -165,7 +169,8 @@ skips_once bytes old a b h g =
     same_front a b (h.at ∙ ap (λ n. old.at + n) n ∙ sym g.at) (h.fresh ∙ ap (λ gap. fresh_behind gap old.fresh) gap ∙ sym g.fresh) (h.tokens ∙ sym g.tokens) (h.names ∙ sym g.names)
     (marks-unique bytes g.gap old.at g.n old.marks a.marks b.marks (subst N n (subst M gap h.marks)) g.marks)
 
-takes_once : (unit : ℕ) (wide : Bool) (words : Meanings) (bytes : List ℕ) (old a b : Front) → Takes unit wide words bytes old a → Takes unit wide words bytes old b → a ≡ b
+takes_once : (unit : ℕ) (wide : Bool) (words : Meanings) (bytes : List ℕ) (old a b : Front)
+    → Takes unit wide words bytes old a → Takes unit wide words bytes old b → a ≡ b
 takes_once unit wide words bytes old a b h g =
     let n = longest_once (drop old.at bytes) h.n g.n h.longest g.longest in
     let spelled : take h.n (drop old.at bytes) ≡ take g.n (drop old.at bytes) = ap (λ n. take n (drop old.at bytes)) n in
@@ -175,7 +180,8 @@ takes_once unit wide words bytes old a b h g =
     (h.tokens ∙ (λ i. old.tokens ++ record { kind = kind i; start = old.at; end = old.at + n i } ∷ []) ∙ sym g.tokens)
     (h.names ∙ (λ i. names_behind old.names (spelled i) (kind i)) ∙ sym g.names) (h.marks ∙ sym g.marks)
 
-step_once : (unit : ℕ) (wide : Bool) (words : Meanings) (bytes : List ℕ) (old a b : Front) → IsStep unit wide words bytes old a → IsStep unit wide words bytes old b → a ≡ b
+step_once : (unit : ℕ) (wide : Bool) (words : Meanings) (bytes : List ℕ) (old a b : Front)
+    → IsStep unit wide words bytes old a → IsStep unit wide words bytes old b → a ≡ b
 step_once unit wide words bytes old a b (inl h) (inl g) = skips_once bytes old a b h g
 step_once unit wide words bytes old a b (inl h) (inr g) = absurd (gap-no_token h.gap old.fresh (drop old.at bytes) h.n g.n h.stands g.no_comment g.longest.passes)
 step_once unit wide words bytes old a b (inr h) (inl g) = absurd (gap-no_token g.gap old.fresh (drop old.at bytes) g.n h.n g.stands h.no_comment h.longest.passes)
@@ -184,9 +190,11 @@ step_once unit wide words bytes old a b (inr h) (inr g) = takes_once unit wide w
 -- steps from one place to another
 data Path (unit : ℕ) (wide : Bool) (words : Meanings) (bytes : List ℕ) (from : Front) : Front → Type 0 where
   here : Path unit wide words bytes from from
-  on : (b c : Front) → Path unit wide words bytes from b → IsStep unit wide words bytes b c → Path unit wide words bytes from c
+  on : (b c : Front) → Path unit wide words bytes from b → IsStep unit wide words bytes b c
+      → Path unit wide words bytes from c
 
-path_from : (unit : ℕ) (wide : Bool) (words : Meanings) (bytes : List ℕ) (x : Front) → Reaches unit wide words bytes x → Path unit wide words bytes begin x
+path_from : (unit : ℕ) (wide : Bool) (words : Meanings) (bytes : List ℕ) (x : Front) → Reaches unit wide words bytes x
+    → Path unit wide words bytes begin x
 path_from unit wide words bytes x begins = here
 path_from unit wide words bytes x (skips old new h s) = on old new (path_from unit wide words bytes old h) (inl s)
 path_from unit wide words bytes x (takes old new h s) = on old new (path_from unit wide words bytes old h) (inr s)
@@ -197,7 +205,8 @@ record First (unit : ℕ) (wide : Bool) (words : Meanings) (bytes : List ℕ) (a
   step : IsStep unit wide words bytes a next
   rest : Path unit wide words bytes next c
 
-first_of : (unit : ℕ) (wide : Bool) (words : Meanings) (bytes : List ℕ) (a c : Front) → Path unit wide words bytes a c → (a ≡ c) ⊎ First unit wide words bytes a c
+first_of : (unit : ℕ) (wide : Bool) (words : Meanings) (bytes : List ℕ) (a c : Front) → Path unit wide words bytes a c
+    → (a ≡ c) ⊎ First unit wide words bytes a c
 first_of unit wide words bytes a c here = inl refl
 first_of unit wide words bytes a c (on b d path s) = by_case (first_of unit wide words bytes a b path)
   where
@@ -206,19 +215,24 @@ first_of unit wide words bytes a c (on b d path s) = by_case (first_of unit wide
     by_case (inr h) = inr (record { next = h.next; step = h.step; rest = on b d h.rest s })
 
 -- of two places that steps lead to, one leads to the other
-compare : (unit : ℕ) (wide : Bool) (words : Meanings) (bytes : List ℕ) (x y : Front) → Path unit wide words bytes begin x → Path unit wide words bytes begin y → Path unit wide words bytes x y ⊎ Path unit wide words bytes y x
+compare : (unit : ℕ) (wide : Bool) (words : Meanings) (bytes : List ℕ) (x y : Front)
+    → Path unit wide words bytes begin x → Path unit wide words bytes begin y
+    → Path unit wide words bytes x y ⊎ Path unit wide words bytes y x
 compare unit wide words bytes x y to here = inr to
 compare unit wide words bytes x y to (on b c path s) = by_case (compare unit wide words bytes x b to path)
   where
-    by_first : (b ≡ x) ⊎ First unit wide words bytes b x → Path unit wide words bytes x c ⊎ Path unit wide words bytes c x
+    by_first : (b ≡ x) ⊎ First unit wide words bytes b x
+        → Path unit wide words bytes x c ⊎ Path unit wide words bytes c x
     by_first (inl e) = let P : Front → Type 0 = λ f. IsStep unit wide words bytes f c in inl (on x c here (subst P e s))
     by_first (inr h) = let P : Front → Type 0 = λ f. Path unit wide words bytes f x in inr (subst P (step_once unit wide words bytes b h.next c h.step s) h.rest)
 
-    by_case : Path unit wide words bytes x b ⊎ Path unit wide words bytes b x → Path unit wide words bytes x c ⊎ Path unit wide words bytes c x
+    by_case : Path unit wide words bytes x b ⊎ Path unit wide words bytes b x
+        → Path unit wide words bytes x c ⊎ Path unit wide words bytes c x
     by_case (inl before) = inl (on b c before s)
     by_case (inr behind) = by_first (first_of unit wide words bytes b x behind)
 
-reaches_step : (unit : ℕ) (wide : Bool) (words : Meanings) (bytes : List ℕ) (a b : Front) → Reaches unit wide words bytes a → IsStep unit wide words bytes a b → Reaches unit wide words bytes b
+reaches_step : (unit : ℕ) (wide : Bool) (words : Meanings) (bytes : List ℕ) (a b : Front)
+    → Reaches unit wide words bytes a → IsStep unit wide words bytes a b → Reaches unit wide words bytes b
 reaches_step unit wide words bytes a b h (inl s) = skips a b h s
 reaches_step unit wide words bytes a b h (inr s) = takes a b h s
 
@@ -226,17 +240,20 @@ reaches_step unit wide words bytes a b h (inr s) = takes a b h s
 abbrev IsLast : ℕ → Bool → Meanings → List ℕ → Front → Type 0
 IsLast unit wide words bytes a = (b : Front) → ¬ IsStep unit wide words bytes a b
 
-end_last : (unit : ℕ) (wide : Bool) (words : Meanings) (bytes : List ℕ) (a : Front) → Reaches unit wide words bytes a → a.at ≡ length bytes → IsLast unit wide words bytes a
+end_last : (unit : ℕ) (wide : Bool) (words : Meanings) (bytes : List ℕ) (a : Front) → Reaches unit wide words bytes a
+    → a.at ≡ length bytes → IsLast unit wide words bytes a
 end_last unit wide words bytes a h whole b s =
     let further = step-further unit wide words bytes a b s in
     let inside = (reaches-kept unit wide words bytes b (reaches_step unit wide words bytes a b h s)).inside in
     absurd (omega arith)
 
-stuck_last : (unit : ℕ) (wide : Bool) (words : Meanings) (bytes : List ℕ) (a : Front) → IsStuck bytes a → IsLast unit wide words bytes a
+stuck_last : (unit : ℕ) (wide : Bool) (words : Meanings) (bytes : List ℕ) (a : Front) → IsStuck bytes a
+    → IsLast unit wide words bytes a
 stuck_last unit wide words bytes a h b (inl s) = h.no_gap s.gap s.n s.stands
 stuck_last unit wide words bytes a h b (inr s) = both_ways _ (h.no_token s.no_comment s.n s.longest.inside) s.longest.passes
 
-unknown_last : (unit : ℕ) (wide : Bool) (words : Meanings) (bytes : List ℕ) (a : Front) → IsUnknown unit words bytes a → IsLast unit wide words bytes a
+unknown_last : (unit : ℕ) (wide : Bool) (words : Meanings) (bytes : List ℕ) (a : Front) → IsUnknown unit words bytes a
+    → IsLast unit wide words bytes a
 unknown_last unit wide words bytes a h b (inl s) = h.no_gap s.gap s.n s.stands
 unknown_last unit wide words bytes a h b (inr s) =
     let n = longest_once (drop a.at bytes) s.n h.n s.longest h.longest in
@@ -244,7 +261,9 @@ unknown_last unit wide words bytes a h b (inr s) =
     unknown_kind unit wide words a.names (take h.n (drop a.at bytes)) s.kind h.dollar h.no_index h.unknown (subst K n s.is_kind)
 
 -- two places that no step leaves are one
-pub last-once : (unit : ℕ) (wide : Bool) (words : Meanings) (bytes : List ℕ) (x y : Front) → Reaches unit wide words bytes x → Reaches unit wide words bytes y → ((b : Front) → ¬ IsStep unit wide words bytes x b) → ((b : Front) → ¬ IsStep unit wide words bytes y b) → x ≡ y
+pub last-once : (unit : ℕ) (wide : Bool) (words : Meanings) (bytes : List ℕ) (x y : Front)
+    → Reaches unit wide words bytes x → Reaches unit wide words bytes y
+    → ((b : Front) → ¬ IsStep unit wide words bytes x b) → ((b : Front) → ¬ IsStep unit wide words bytes y b) → x ≡ y
 last-once unit wide words bytes x y h g last_x last_y = by_case (compare unit wide words bytes x y (path_from unit wide words bytes x h) (path_from unit wide words bytes y g))
   where
     from_x : (x ≡ y) ⊎ First unit wide words bytes x y → x ≡ y
@@ -259,38 +278,50 @@ last-once unit wide words bytes x y h g last_x last_y = by_case (compare unit wi
     by_case (inl p) = from_x (first_of unit wide words bytes x y p)
     by_case (inr p) = from_y (first_of unit wide words bytes y x p)
 
-pub spells-once : (unit : ℕ) (wide : Bool) (words : Meanings) (bytes : List ℕ) (tokens tokens' : List Token) (names names' : List (List ℕ)) (marks marks' : List Mark) → Spells unit wide words bytes tokens names marks → Spells unit wide words bytes tokens' names' marks' → (tokens ≡ tokens') × (marks ≡ marks')
+pub spells-once : (unit : ℕ) (wide : Bool) (words : Meanings) (bytes : List ℕ) (tokens tokens' : List Token) (names names' : List (List ℕ)) (marks marks' : List Mark)
+    → Spells unit wide words bytes tokens names marks → Spells unit wide words bytes tokens' names' marks'
+    → (tokens ≡ tokens') × (marks ≡ marks')
 spells-once unit wide words bytes tokens tokens' names names' marks marks' h g =
     let same = last-once unit wide words bytes h.front g.front h.reached g.reached (end_last unit wide words bytes h.front h.reached h.whole) (end_last unit wide words bytes g.front g.reached g.whole) in (
       h.tokens_are ∙ ap (λ (f : Front). f.tokens ++ record { kind = End; start = length bytes; end = length bytes } ∷ []) same ∙ sym g.tokens_are,
       h.marks_are ∙ ap (λ (f : Front). f.marks) same ∙ sym g.marks_are,
     )
 
-pub stuck-never : (unit : ℕ) (wide : Bool) (words : Meanings) (bytes : List ℕ) (front : Front) (tokens : List Token) (names : List (List ℕ)) (marks : List Mark) → Reaches unit wide words bytes front → IsStuck bytes front → Spells unit wide words bytes tokens names marks → ⊥
+pub stuck-never : (unit : ℕ) (wide : Bool) (words : Meanings) (bytes : List ℕ) (front : Front) (tokens : List Token) (names : List (List ℕ)) (marks : List Mark)
+    → Reaches unit wide words bytes front → IsStuck bytes front → Spells unit wide words bytes tokens names marks → ⊥
 stuck-never unit wide words bytes front tokens names marks reached stuck h =
     let same = last-once unit wide words bytes front h.front reached h.reached (stuck_last unit wide words bytes front stuck) (end_last unit wide words bytes h.front h.reached h.whole) in
     let inside = stuck.inside in let at = ap (λ (f : Front). f.at) same in let whole = h.whole in absurd (omega arith)
 
-pub unknown-never : (unit : ℕ) (wide : Bool) (words : Meanings) (bytes : List ℕ) (front : Front) (tokens : List Token) (names : List (List ℕ)) (marks : List Mark) → Reaches unit wide words bytes front → IsUnknown unit words bytes front → Spells unit wide words bytes tokens names marks → ⊥
+pub unknown-never : (unit : ℕ) (wide : Bool) (words : Meanings) (bytes : List ℕ) (front : Front) (tokens : List Token) (names : List (List ℕ)) (marks : List Mark)
+    → Reaches unit wide words bytes front → IsUnknown unit words bytes front
+    → Spells unit wide words bytes tokens names marks → ⊥
 unknown-never unit wide words bytes front tokens names marks reached unknown h =
     let same = last-once unit wide words bytes front h.front reached h.reached (unknown_last unit wide words bytes front unknown) (end_last unit wide words bytes h.front h.reached h.whole) in
     let some = token-some (drop front.at bytes) unknown.n unknown.longest in let inside = unknown.longest.inside in let size = length-drop front.at bytes in
     let at = ap (λ (f : Front). f.at) same in let whole = h.whole in absurd (omega arith)
 
-pub refused-once : (unit : ℕ) (wide : Bool) (words : Meanings) (bytes : List ℕ) (fault : LexFault) → IsRefusal unit wide words bytes fault → (tokens : List Token) (names : List (List ℕ)) (marks : List Mark) → Spells unit wide words bytes tokens names marks → fault ≡ NoMemory
+pub refused-once : (unit : ℕ) (wide : Bool) (words : Meanings) (bytes : List ℕ) (fault : LexFault)
+    → IsRefusal unit wide words bytes fault → (tokens : List Token) (names : List (List ℕ)) (marks : List Mark)
+    → Spells unit wide words bytes tokens names marks → fault ≡ NoMemory
 refused-once unit wide words bytes (BadByte spot) h tokens names marks g = absurd (stuck-never unit wide words bytes h.0 tokens names marks h.1 h.2 g)
 refused-once unit wide words bytes (Unended spot) h tokens names marks g = absurd (stuck-never unit wide words bytes h.0 tokens names marks h.1 h.2 g)
 refused-once unit wide words bytes (UnknownQualifier spot) h tokens names marks g = absurd (unknown-never unit wide words bytes h.0 tokens names marks h.1 h.2 g)
 refused-once unit wide words bytes NoMemory h tokens names marks g = refl
 
 -- tokens that the bytes spell are those of any list that they spell
-pub spelled-once : (unit : ℕ) (wide : Bool) (words : Meanings) (bytes : List ℕ) (lexed : Lexed) → lexed.unit ≡ unit → lexed.wide ≡ wide → lexed.bytes ≡ bytes → IsSpelled words lexed → (tokens : List Token) (names : List (List ℕ)) (marks : List Mark) → Spells unit wide words bytes tokens names marks →
+pub spelled-once : (unit : ℕ) (wide : Bool) (words : Meanings) (bytes : List ℕ) (lexed : Lexed) → lexed.unit ≡ unit
+    → lexed.wide ≡ wide → lexed.bytes ≡ bytes → IsSpelled words lexed
+    → (tokens : List Token) (names : List (List ℕ)) (marks : List Mark)
+    → Spells unit wide words bytes tokens names marks →
     (lexed.tokens ≡ tokens) × (lexed.marks ≡ marks)
 spelled-once unit wide words bytes lexed unit_is wide_is bytes_is h tokens names marks g =
     spells-once unit wide words bytes lexed.tokens tokens h.0 names lexed.marks marks (rw (unit_is, wide_is, bytes_is) at h.1) g
 
 -- an answer that is spelled, or wants memory
-pub answer-once : (unit : ℕ) (wide : Bool) (words : Meanings) (bytes : List ℕ) (text : ℕ × List ℕ) (answer : Result Lexed LexFault) → text ≡ (unit, bytes) → IfOk answer (λ lexed. lexed.unit ≡ text.0) → IfOk answer (λ lexed. lexed.wide ≡ wide) → IfOk answer (λ lexed. lexed.bytes ≡ text.1) →
+pub answer-once : (unit : ℕ) (wide : Bool) (words : Meanings) (bytes : List ℕ) (text : ℕ × List ℕ) (answer : Result Lexed LexFault)
+    → text ≡ (unit, bytes) → IfOk answer (λ lexed. lexed.unit ≡ text.0) → IfOk answer (λ lexed. lexed.wide ≡ wide)
+    → IfOk answer (λ lexed. lexed.bytes ≡ text.1) →
     IfOk answer (λ lexed. IsSpelled words lexed) → IfErr answer (λ fault. fault ≡ NoMemory) → (tokens : List Token) (names : List (List ℕ)) (marks : List Mark) → Spells unit wide words bytes tokens names marks → IsOnly tokens marks answer
 answer-once unit wide words bytes text (Ok lexed) is unit_is wide_is bytes_is spelled wants tokens names marks g =
     spelled-once unit wide words bytes lexed (unit_is ∙ ap (λ (t : ℕ × List ℕ). t.0) is) wide_is (bytes_is ∙ ap (λ (t : ℕ × List ℕ). t.1) is) spelled tokens names marks g

@@ -15,11 +15,13 @@ use Rattle.c_lexer.specs.Places.Governs.{none, last}
 
 -- ---- the linemarker that governs a place
 
-governing_step : (before m : Mark) (marks : List Mark) (at : ℕ) (b : Bool) → nat_le m.from at ≡ b → governing before (m ∷ marks) at ≡ (if b then governing m marks at else governing before marks at)
+governing_step : (before m : Mark) (marks : List Mark) (at : ℕ) (b : Bool) → nat_le m.from at ≡ b
+    → governing before (m ∷ marks) at ≡ (if b then governing m marks at else governing before marks at)
 governing_step before m marks at b is = ap (λ (c : Bool). if c then governing m marks at else governing before marks at) is
 
 -- none of the linemarkers begins at or before the place
-none_later : (before : Mark) (marks : List Mark) (at : ℕ) → ((k : ℕ) (m : Mark) → slice_get marks k ≡ Some m → at < m.from) → governing before marks at ≡ before
+none_later : (before : Mark) (marks : List Mark) (at : ℕ)
+    → ((k : ℕ) (m : Mark) → slice_get marks k ≡ Some m → at < m.from) → governing before marks at ≡ before
 none_later before [] at later = refl
 none_later before (m ∷ marks) at later =
     governing_step before m marks at false (lt-leb m.from at (later 0 m refl)) ∙ none_later before marks at (λ k n there. later (suc k) n there)
@@ -27,7 +29,8 @@ none_later before (m ∷ marks) at later =
 some_is : {x y : Mark} → Some x ≡ Some y → x ≡ y
 some_is e = cc
 
-governs_last : (before : Mark) (marks : List Mark) (at k : ℕ) (mark : Mark) → slice_get marks k ≡ Some mark → mark.from ≤ at →
+governs_last : (before : Mark) (marks : List Mark) (at k : ℕ) (mark : Mark) → slice_get marks k ≡ Some mark
+    → mark.from ≤ at →
     ((j : ℕ) (m : Mark) → k < j → slice_get marks j ≡ Some m → at < m.from) → governing before marks at ≡ mark
 governs_last before [] at k mark there from later = absurd cc
 governs_last before (m ∷ marks) at zero mark there from later =
@@ -37,7 +40,8 @@ governs_last before (m ∷ marks) at zero mark there from later =
 governs_last before (m ∷ marks) at (suc k) mark there from later =
     let on : (b : Mark) → governing b marks at ≡ mark = λ b. governs_last b marks at k mark there from (λ j n h is. later (suc j) n (omega (arith, h)) is) in by_test on (nat_le m.from at) refl
   where
-    by_test : ((b : Mark) → governing b marks at ≡ mark) → (b : Bool) → nat_le m.from at ≡ b → governing before (m ∷ marks) at ≡ mark
+    by_test : ((b : Mark) → governing b marks at ≡ mark) → (b : Bool) → nat_le m.from at ≡ b
+        → governing before (m ∷ marks) at ≡ mark
     by_test on true is = governing_step before m marks at true is ∙ on m
     by_test on false is = governing_step before m marks at false is ∙ on before
 
@@ -79,13 +83,15 @@ module _ (bytes : List ℕ) (at from : ℕ) (inside : at ≤ length bytes) (line
 abbrev spot_with : ℕ → ℕ → ℕ → ℕ → ℕ → Spot
 spot_with unit from to line column = record { unit = unit; name_from = from; name_to = to; line = line; column = column }
 
-spot_by_fields : (s : Spot) (u f t l c : ℕ) → s.unit ≡ u → s.name_from ≡ f → s.name_to ≡ t → s.line ≡ l → s.column ≡ c → s ≡ spot_with u f t l c
+spot_by_fields : (s : Spot) (u f t l c : ℕ) → s.unit ≡ u → s.name_from ≡ f → s.name_to ≡ t → s.line ≡ l → s.column ≡ c
+    → s ≡ spot_with u f t l c
 spot_by_fields s u f t l c a b d e g =
     ap (λ x. spot_with x s.name_from s.name_to s.line s.column) a ∙ ap (λ x. spot_with u x s.name_to s.line s.column) b ∙ ap (λ x. spot_with u f x s.line s.column) d
     ∙ ap (λ x. spot_with u f t x s.column) e ∙ ap (λ x. spot_with u f t l x) g
 
 -- A spot that names a place is the spot of the place.
-pub spot_is : (unit : ℕ) (bytes : List ℕ) (marks : List Mark) (at : ℕ) (spot : Spot) → at ≤ length bytes → IsSpot unit bytes marks at spot → spot ≡ spot_at unit bytes marks at
+pub spot_is : (unit : ℕ) (bytes : List ℕ) (marks : List Mark) (at : ℕ) (spot : Spot) → at ≤ length bytes
+    → IsSpot unit bytes marks at spot → spot ≡ spot_at unit bytes marks at
 spot_is unit bytes marks at spot inside is =
     let same = governed marks at is.mark is.governs in
     let from : spot.name_from ≡ (governing no_mark marks at).name_from = is.name_from ∙ ap (λ (m : Mark). m.name_from) same in
@@ -96,7 +102,8 @@ spot_is unit bytes marks at spot inside is =
 
 -- ---- where tokens begin
 
-pub start_is : (tokens : List Token) (n start : ℕ) → option_map (λ (token : Token). token.start) (slice_get tokens n) ≡ Some start → start_of tokens n ≡ start
+pub start_is : (tokens : List Token) (n start : ℕ)
+    → option_map (λ (token : Token). token.start) (slice_get tokens n) ≡ Some start → start_of tokens n ≡ start
 start_is tokens n start is = ap (λ o. unwrap_or o 0) (slice_get-map (λ (token : Token). token.start) tokens n ∙ is)
 
 -- the spot of where a token begins is the token's
@@ -106,7 +113,8 @@ module _ (lexed : Lexed) (unit : ℕ) (bytes : List ℕ) (marks : List Mark) (un
   spot_of_start is = is ∙ ap (λ u. spot_at u bytes marks start) unit_is ∙ ap (λ b. spot_at lexed.unit b marks start) bytes_are ∙ ap (λ m. spot_at lexed.unit lexed.bytes m start) marks_are
       ∙ ap (spot_at lexed.unit lexed.bytes lexed.marks) (sym (start_is lexed.tokens n start begins))
 
-  pub names_start : IsSpot unit bytes marks start spot → IsSpot lexed.unit lexed.bytes lexed.marks (start_of lexed.tokens n) spot
+  pub names_start : IsSpot unit bytes marks start spot
+      → IsSpot lexed.unit lexed.bytes lexed.marks (start_of lexed.tokens n) spot
   names_start is =
       let Unit : ℕ → Type 0 = λ u. IsSpot u bytes marks start spot in
       let Bytes : List ℕ → Type 0 = λ b. IsSpot lexed.unit b marks start spot in

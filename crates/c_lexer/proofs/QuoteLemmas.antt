@@ -11,7 +11,8 @@ pub record IsShifted (test inner : List ℕ → Bool) (bytes : List ℕ) (k : �
   pub behind : (m : ℕ) → k ≤ m → test (take m bytes) ≡ inner (take (m - k) (drop k bytes))
   pub before : (m : ℕ) → m < k → test (take m bytes) ≡ false
 
-pub shifted-long : {test inner : List ℕ → Bool} {bytes : List ℕ} {k : ℕ} → IsShifted test inner bytes k → (n : ℕ) → IsLongestOf inner (drop k bytes) n → IsLongestOf test bytes (k + n)
+pub shifted-long : {test inner : List ℕ → Bool} {bytes : List ℕ} {k : ℕ} → IsShifted test inner bytes k → (n : ℕ)
+    → IsLongestOf inner (drop k bytes) n → IsLongestOf test bytes (k + n)
 shifted-long {test} {inner} {bytes} {k} s n long =
     let size = length-drop k bytes in
     record {
@@ -20,14 +21,16 @@ shifted-long {test} {inner} {bytes} {k} s n long =
       longest = λ m lt le. s.behind m (omega arith) ∙ long.longest (m - k) (omega arith) (omega arith);
     }
 
-pub shifted-none : {test inner : List ℕ → Bool} {bytes : List ℕ} {k : ℕ} → IsShifted test inner bytes k → HasNone inner (drop k bytes) → HasNone test bytes
+pub shifted-none : {test inner : List ℕ → Bool} {bytes : List ℕ} {k : ℕ} → IsShifted test inner bytes k
+    → HasNone inner (drop k bytes) → HasNone test bytes
 shifted-none {test} {inner} {bytes} {k} s none m le = by_order (cases_lt m k)
   where
     by_order : (m < k) ⊎ (k ≤ m) → test (take m bytes) ≡ false
     by_order (inl lt) = s.before m lt
     by_order (inr ge) = s.behind m ge ∙ none (m - k) (let size = length-drop k bytes in omega arith)
 
-pub shifted-shorter : {test inner : List ℕ → Bool} {bytes : List ℕ} {k : ℕ} → IsShifted test inner bytes k → (n : ℕ) → NoneShorter inner (drop k bytes) n → NoneShorter test bytes (k + n)
+pub shifted-shorter : {test inner : List ℕ → Bool} {bytes : List ℕ} {k : ℕ} → IsShifted test inner bytes k → (n : ℕ)
+    → NoneShorter inner (drop k bytes) n → NoneShorter test bytes (k + n)
 shifted-shorter {test} {inner} {bytes} {k} s n none m lt = by_order (cases_lt m k)
   where
     by_order : (m < k) ⊎ (k ≤ m) → test (take m bytes) ≡ false
@@ -35,7 +38,8 @@ shifted-shorter {test} {inner} {bytes} {k} s n none m lt = by_order (cases_lt m 
     by_order (inr ge) = s.behind m ge ∙ none (m - k) (omega arith)
 
 -- a test of c ∷ cs that tests cs
-shifted_one : (test inner : List ℕ → Bool) (c : ℕ) (cs : List ℕ) → test [] ≡ false → ((r : List ℕ) → test (c ∷ r) ≡ inner r) → IsShifted test inner (c ∷ cs) 1
+shifted_one : (test inner : List ℕ → Bool) (c : ℕ) (cs : List ℕ) → test [] ≡ false
+    → ((r : List ℕ) → test (c ∷ r) ≡ inner r) → IsShifted test inner (c ∷ cs) 1
 shifted_one test inner c cs nil same = record { fits = omega arith; behind = behind; before = before }
   where
     behind : (m : ℕ) → 1 ≤ m → test (take m (c ∷ cs)) ≡ inner (take (m - 1) cs)
@@ -46,11 +50,13 @@ shifted_one test inner c cs nil same = record { fits = omega arith; behind = beh
     before zero lt = nil
     before (suc m) lt = absurd (omega arith)
 
-pub quoted-shifted : (quote : ℕ) (bytes : List ℕ) → begins_with (λ c. c == quote) bytes ≡ true → IsShifted (is_quoted quote) (is_quoted_tail quote) bytes 1
+pub quoted-shifted : (quote : ℕ) (bytes : List ℕ) → begins_with (λ c. c == quote) bytes ≡ true
+    → IsShifted (is_quoted quote) (is_quoted_tail quote) bytes 1
 quoted-shifted quote [] h = absurd cc
 quoted-shifted quote (c ∷ cs) h = shifted_one (is_quoted quote) (is_quoted_tail quote) c cs refl (λ r. rw h refl)
 
-pub quoted-none : (quote : ℕ) (bytes : List ℕ) → begins_with (λ c. c == quote) bytes ≡ false → HasNone (is_quoted quote) bytes
+pub quoted-none : (quote : ℕ) (bytes : List ℕ) → begins_with (λ c. c == quote) bytes ≡ false
+    → HasNone (is_quoted quote) bytes
 quoted-none quote [] h zero le = refl
 quoted-none quote [] h (suc m) le = refl
 quoted-none quote (c ∷ cs) h zero le = refl
@@ -86,7 +92,8 @@ char-shifted (c ∷ cs) h = shifted_one is_char (is_quoted 39) c cs refl (char_b
 not_wide : (c : ℕ) → is_wide c ≡ false → (nat_eq 76 c ≡ false) × (nat_eq 117 c ≡ false) × (nat_eq 85 c ≡ false)
 not_wide c h = (grind arith, grind arith, grind arith)
 
-pub char-plain : (bytes : List ℕ) → begins_with is_wide bytes ≡ false → (m : ℕ) → is_char (take m bytes) ≡ is_quoted 39 (take m bytes)
+pub char-plain : (bytes : List ℕ) → begins_with is_wide bytes ≡ false → (m : ℕ)
+    → is_char (take m bytes) ≡ is_quoted 39 (take m bytes)
 char-plain [] h zero = refl
 char-plain [] h (suc m) = refl
 char-plain (c ∷ cs) h zero = refl
@@ -122,7 +129,8 @@ u8_front c cs zero h = by_test (c == 117)
 u8_front c [] (suc m) h = h
 u8_front c (d ∷ cs) (suc m) h = h
 
-pub text-shifted : (bytes : List ℕ) → begins_with is_wide bytes ≡ true → begins_u8 bytes ≡ false → IsShifted is_text (is_quoted 34) bytes 1
+pub text-shifted : (bytes : List ℕ) → begins_with is_wide bytes ≡ true → begins_u8 bytes ≡ false
+    → IsShifted is_text (is_quoted 34) bytes 1
 text-shifted [] h short = absurd cc
 text-shifted (c ∷ cs) h short = record { fits = omega arith; behind = behind; before = before }
   where
@@ -157,14 +165,16 @@ u8-shifted (c ∷ d ∷ cs) h =
     before e f (suc zero) lt = rw e refl
     before e f (suc (suc m)) lt = absurd (omega arith)
 
-pub text-plain : (bytes : List ℕ) → begins_with is_wide bytes ≡ false → (m : ℕ) → is_text (take m bytes) ≡ is_quoted 34 (take m bytes)
+pub text-plain : (bytes : List ℕ) → begins_with is_wide bytes ≡ false → (m : ℕ)
+    → is_text (take m bytes) ≡ is_quoted 34 (take m bytes)
 text-plain [] h zero = refl
 text-plain [] h (suc m) = refl
 text-plain (c ∷ cs) h zero = refl
 text-plain (c ∷ cs) h (suc m) = let w = not_wide c h in rw (w.0, w.1, w.2) (or_false (is_quoted 34 (c ∷ take m cs)))
 
 -- what a search for the longest front of one test says of another that agrees on each front
-pub alike : (test inner : List ℕ → Bool) (bytes : List ℕ) → ((m : ℕ) → test (take m bytes) ≡ inner (take m bytes)) → (r : Option ℕ) →
+pub alike : (test inner : List ℕ → Bool) (bytes : List ℕ) → ((m : ℕ) → test (take m bytes) ≡ inner (take m bytes))
+    → (r : Option ℕ) →
     MatchOption r (HasNone inner bytes) (λ n. IsLongestOf inner bytes n) → MatchOption r (HasNone test bytes) (λ n. IsLongestOf test bytes n)
 alike test inner bytes same None h = λ m le. same m ∙ h m le
 alike test inner bytes same (Some n) h = record { inside = h.inside; passes = same n ∙ h.passes; longest = λ m lt le. same m ∙ h.longest m lt le }

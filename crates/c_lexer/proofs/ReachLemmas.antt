@@ -35,13 +35,15 @@ pub record IsKept (bytes : List ℕ) (front : Front) : Type 0 where
   pub marked : AreMarked front.marks front.at
 
 -- an element of a list with one more is one of the list, or the one more
-pushed : {A : Type 0} (xs : List A) (y x : A) (k : ℕ) → slice_get (xs ++ y ∷ []) k ≡ Some x → (slice_get xs k ≡ Some x) ⊎ (y ≡ x)
+pushed : {A : Type 0} (xs : List A) (y x : A) (k : ℕ) → slice_get (xs ++ y ∷ []) k ≡ Some x
+    → (slice_get xs k ≡ Some x) ⊎ (y ≡ x)
 pushed [] y x zero e = inr cc
 pushed [] y x (suc k) e = absurd cc
 pushed (z ∷ xs) y x zero e = inl e
 pushed (z ∷ xs) y x (suc k) e = pushed xs y x k e
 
-before_more : (tokens : List Token) (t : Token) (at more : ℕ) → AreBefore tokens at → at ≤ more → t.start ≤ t.end → t.end ≤ more → AreBefore (tokens ++ t ∷ []) more
+before_more : (tokens : List Token) (t : Token) (at more : ℕ) → AreBefore tokens at → at ≤ more → t.start ≤ t.end
+    → t.end ≤ more → AreBefore (tokens ++ t ∷ []) more
 before_more tokens t at more all le order within k s there = by_case (pushed tokens t s k there)
   where
     by_case : (slice_get tokens k ≡ Some s) ⊎ (t ≡ s) → (s.start ≤ s.end) × (s.end ≤ more)
@@ -54,14 +56,16 @@ before_later tokens at more all le k s there = let h = all k s there in (h.0, om
 marked_later : (marks : List Mark) (at more : ℕ) → AreMarked marks at → at ≤ more → AreMarked marks more
 marked_later marks at more all le k m there = let h = all k m there in omega arith
 
-marked_more : (marks : List Mark) (m : Mark) (at more : ℕ) → AreMarked marks at → at ≤ more → m.from ≤ more + 1 → AreMarked (marks ++ m ∷ []) more
+marked_more : (marks : List Mark) (m : Mark) (at more : ℕ) → AreMarked marks at → at ≤ more → m.from ≤ more + 1
+    → AreMarked (marks ++ m ∷ []) more
 marked_more marks m at more all le within k s there = by_case (pushed marks m s k there)
   where
     by_case : (slice_get marks k ≡ Some s) ⊎ (m ≡ s) → s.from ≤ more + 1
     by_case (inl old) = let h = all k s old in omega arith
     by_case (inr same) = let P : Mark → Type 0 = λ m. m.from ≤ more + 1 in subst P same within
 
-rising_more : (marks : List Mark) (m : Mark) (at : ℕ) → AreMarked marks at → at + 1 ≤ m.from → IsNonDecreasingBy (λ (m : Mark). m.from) marks → IsNonDecreasingBy (λ (m : Mark). m.from) (marks ++ m ∷ [])
+rising_more : (marks : List Mark) (m : Mark) (at : ℕ) → AreMarked marks at → at + 1 ≤ m.from
+    → IsNonDecreasingBy (λ (m : Mark). m.from) marks → IsNonDecreasingBy (λ (m : Mark). m.from) (marks ++ m ∷ [])
 rising_more marks m at all le rising =
     IsNonDecreasingBy-push (λ (m : Mark). m.from) marks m rising
     (λ d lt. let h = all (length marks - 1) (get_or marks (length marks - 1) d) (slice_get-get_or marks (length marks - 1) d (omega arith)) in omega arith)
@@ -71,7 +75,9 @@ record MarksKept (marks behind : List Mark) (more : ℕ) : Type 0 where
   rising : IsNonDecreasingBy (λ (m : Mark). m.from) behind
   marked : AreMarked behind more
 
-marks_kept : (bytes : List ℕ) (gap : Gap) (at n : ℕ) (marks behind : List Mark) → MarksBehind bytes gap at n marks behind → IsNonDecreasingBy (λ (m : Mark). m.from) marks → AreMarked marks at → MarksKept marks behind (at + n)
+marks_kept : (bytes : List ℕ) (gap : Gap) (at n : ℕ) (marks behind : List Mark)
+    → MarksBehind bytes gap at n marks behind → IsNonDecreasingBy (λ (m : Mark). m.from) marks → AreMarked marks at
+    → MarksKept marks behind (at + n)
 marks_kept bytes Blank at n marks behind is rising marked = rw is (record { rising = rising; marked = marked_later marks at (at + n) marked (omega arith) })
 marks_kept bytes LineFeed at n marks behind is rising marked = rw is (record { rising = rising; marked = marked_later marks at (at + n) marked (omega arith) })
 marks_kept bytes OtherSpace at n marks behind is rising marked = rw is (record { rising = rising; marked = marked_later marks at (at + n) marked (omega arith) })
@@ -110,7 +116,8 @@ with_name_len names name = by_test (is_some (position (bytes_eq name) names))
     by_test true = omega arith
     by_test false = let l = length-append names (name ∷ []) in omega arith
 
-names_len : (names : List (List ℕ)) (bytes : List ℕ) (kind : TokenKind) → length (names_behind names bytes kind) ≤ length names + 1
+names_len : (names : List (List ℕ)) (bytes : List ℕ) (kind : TokenKind)
+    → length (names_behind names bytes kind) ≤ length names + 1
 names_len names bytes (Name id) = with_name_len names bytes
 names_len names bytes (Keyword k) = omega arith
 names_len names bytes Number = omega arith
@@ -121,7 +128,8 @@ names_len names bytes (Qual l e) = omega arith
 names_len names bytes Index = omega arith
 names_len names bytes End = omega arith
 
-takes_kept : (unit : ℕ) (wide : Bool) (words : Meanings) (bytes : List ℕ) (old new : Front) → IsKept bytes old → Takes unit wide words bytes old new → IsKept bytes new
+takes_kept : (unit : ℕ) (wide : Bool) (words : Meanings) (bytes : List ℕ) (old new : Front) → IsKept bytes old
+    → Takes unit wide words bytes old new → IsKept bytes new
 takes_kept unit wide words bytes old new kept t =
     let some = token-some (drop old.at bytes) t.n t.longest in
     let fits = t.longest.inside in
@@ -140,7 +148,8 @@ takes_kept unit wide words bytes old new kept t =
       marked = rw t.marks (marked_later old.marks old.at new.at kept.marked (omega arith));
     }
 
-pub reaches-kept : (unit : ℕ) (wide : Bool) (words : Meanings) (bytes : List ℕ) (front : Front) → Reaches unit wide words bytes front → IsKept bytes front
+pub reaches-kept : (unit : ℕ) (wide : Bool) (words : Meanings) (bytes : List ℕ) (front : Front)
+    → Reaches unit wide words bytes front → IsKept bytes front
 reaches-kept unit wide words bytes front begins = record {
   inside = omega arith;
   counted = record { tokens = omega arith; names = omega arith };
@@ -152,16 +161,19 @@ reaches-kept unit wide words bytes front (skips old new reached step) = skips_ke
 reaches-kept unit wide words bytes front (takes old new reached step) = takes_kept unit wide words bytes old new (reaches-kept unit wide words bytes old reached) step
 
 -- each step leads on
-pub step-further : (unit : ℕ) (wide : Bool) (words : Meanings) (bytes : List ℕ) (old new : Front) → IsStep unit wide words bytes old new → old.at < new.at
+pub step-further : (unit : ℕ) (wide : Bool) (words : Meanings) (bytes : List ℕ) (old new : Front)
+    → IsStep unit wide words bytes old new → old.at < new.at
 step-further unit wide words bytes old new (inl s) = let fits = gap-fits s.gap old.fresh (drop old.at bytes) s.n s.stands in let at = s.at in omega arith
 step-further unit wide words bytes old new (inr t) = let some = token-some (drop old.at bytes) t.n t.longest in let at = t.at in omega arith
 
-pub step-reaches : (unit : ℕ) (wide : Bool) (words : Meanings) (bytes : List ℕ) (old new : Front) → Reaches unit wide words bytes old → IsStep unit wide words bytes old new → Reaches unit wide words bytes new
+pub step-reaches : (unit : ℕ) (wide : Bool) (words : Meanings) (bytes : List ℕ) (old new : Front)
+    → Reaches unit wide words bytes old → IsStep unit wide words bytes old new → Reaches unit wide words bytes new
 step-reaches unit wide words bytes old new reached (inl s) = skips old new reached s
 step-reaches unit wide words bytes old new reached (inr t) = takes old new reached t
 
 -- a whole unit with its last token
-pub sound-end : (unit : ℕ) (wide : Bool) (words : Meanings) (bytes : List ℕ) (front : Front) (tokens : List Token) (marks : List Mark) (end : ℕ) → length bytes < 2 ^ 32 - 1 → Reaches unit wide words bytes front → front.at ≡ length bytes → end ≡ length bytes →
+pub sound-end : (unit : ℕ) (wide : Bool) (words : Meanings) (bytes : List ℕ) (front : Front) (tokens : List Token) (marks : List Mark) (end : ℕ)
+    → length bytes < 2 ^ 32 - 1 → Reaches unit wide words bytes front → front.at ≡ length bytes → end ≡ length bytes →
     tokens ≡ front.tokens ++ record { kind = End; start = end; end = end } ∷ [] → marks ≡ front.marks → IsSound bytes tokens marks
 sound-end unit wide words bytes front tokens marks end small reached whole end_is tokens_are marks_are =
     let kept = reaches-kept unit wide words bytes front reached in
@@ -172,7 +184,8 @@ sound-end unit wide words bytes front tokens marks end small reached whole end_i
       rising = rw marks_are kept.rising;
     }
 
-pub spells-end : (unit : ℕ) (wide : Bool) (words : Meanings) (bytes : List ℕ) (front : Front) (tokens : List Token) (marks : List Mark) (end : ℕ) → Reaches unit wide words bytes front → front.at ≡ length bytes → end ≡ length bytes →
+pub spells-end : (unit : ℕ) (wide : Bool) (words : Meanings) (bytes : List ℕ) (front : Front) (tokens : List Token) (marks : List Mark) (end : ℕ)
+    → Reaches unit wide words bytes front → front.at ≡ length bytes → end ≡ length bytes →
     tokens ≡ front.tokens ++ record { kind = End; start = end; end = end } ∷ [] → marks ≡ front.marks → Spells unit wide words bytes tokens front.names marks
 spells-end unit wide words bytes front tokens marks end reached whole end_is tokens_are marks_are = record {
   front = front;
@@ -184,7 +197,8 @@ spells-end unit wide words bytes front tokens marks end reached whole end_is tok
 }
 
 -- where reading stops, the marks are in order, and the place is within the bytes
-pub stop-kept : (unit : ℕ) (wide : Bool) (words : Meanings) (bytes : List ℕ) (front : Front) (stop : Stop) → StopsBehind unit wide words bytes front stop → (stop ≡ NoMemory → ⊥) → IsKept bytes front
+pub stop-kept : (unit : ℕ) (wide : Bool) (words : Meanings) (bytes : List ℕ) (front : Front) (stop : Stop)
+    → StopsBehind unit wide words bytes front stop → (stop ≡ NoMemory → ⊥) → IsKept bytes front
 stop-kept unit wide words bytes front BadByte h other = rw h.2.0 (reaches-kept unit wide words bytes h.0 h.1)
 stop-kept unit wide words bytes front Unended h other = rw h.2.0 (reaches-kept unit wide words bytes h.0 h.1)
 stop-kept unit wide words bytes front UnknownQualifier h other = rw h.2.0 (reaches-kept unit wide words bytes h.0 h.1)

@@ -9,19 +9,22 @@ use Rattle.c_lexer.specs.Words.{signs, sign_kind}
 use Rattle.c_lexer.specs.Spelling.{is_sign, is_letter, is_digit, begins_with, IsLongestOf, HasNone}
 
 -- no entry of a table whose texts all fail a test stands beside bytes that pass it
-no_entry : (p : List ℕ → Bool) (table : List (List ℕ × Punct)) (bytes : List ℕ) → list_all (λ entry. not (p entry.0)) table ≡ true → p bytes ≡ true →
+no_entry : (p : List ℕ → Bool) (table : List (List ℕ × Punct)) (bytes : List ℕ)
+    → list_all (λ entry. not (p entry.0)) table ≡ true → p bytes ≡ true →
     find (λ entry. bytes_eq bytes entry.0) table ≡ None
 no_entry p [] bytes none passes = refl
 no_entry p (entry ∷ entries) bytes none passes =
     let parts = and_parts (not (p entry.0)) (list_all (λ entry. not (p entry.0)) entries) none in
     by_test (bytes_eq bytes entry.0) refl parts.0 (no_entry p entries bytes parts.1 passes)
   where
-    by_test : (b : Bool) → bytes_eq bytes entry.0 ≡ b → not (p entry.0) ≡ true → find (λ entry. bytes_eq bytes entry.0) entries ≡ None →
+    by_test : (b : Bool) → bytes_eq bytes entry.0 ≡ b → not (p entry.0) ≡ true
+        → find (λ entry. bytes_eq bytes entry.0) entries ≡ None →
         cond b (Some entry) (find (λ entry. bytes_eq bytes entry.0) entries) ≡ None
     by_test true is fails rest = absurd (let same : bytes ≡ entry.0 = (bytes_eq-Decides bytes entry.0).0 is in let h = rw same at passes in let g = rw h at fails in cc)
     by_test false is fails rest = rest
 
-pub no_sign : (p : List ℕ → Bool) (bytes : List ℕ) → list_all (λ entry. not (p entry.0)) signs ≡ true → p bytes ≡ true → sign_kind bytes ≡ None
+pub no_sign : (p : List ℕ → Bool) (bytes : List ℕ) → list_all (λ entry. not (p entry.0)) signs ≡ true → p bytes ≡ true
+    → sign_kind bytes ≡ None
 unfolding sign_kind
 no_sign p bytes none passes = ap (option_map (λ entry. entry.1)) (no_entry p signs bytes none passes)
 
@@ -41,7 +44,9 @@ pub sign-then_digit : (bytes : List ℕ) → begins_with is_digit (drop 1 bytes)
 unfolding signs
 sign-then_digit bytes h = no_sign (λ bytes. begins_with is_digit (drop 1 bytes)) bytes refl h
 
-pub sign-byte : (byte : ℕ) (bytes : List ℕ) → list_all (λ entry. not (begins_with (λ c. c == byte) entry.0)) signs ≡ true → begins_with (λ c. c == byte) bytes ≡ true → sign_kind bytes ≡ None
+pub sign-byte : (byte : ℕ) (bytes : List ℕ)
+    → list_all (λ entry. not (begins_with (λ c. c == byte) entry.0)) signs ≡ true
+    → begins_with (λ c. c == byte) bytes ≡ true → sign_kind bytes ≡ None
 sign-byte byte bytes none h = no_sign (begins_with (λ c. c == byte)) bytes none h
 
 pub sign-quote : (bytes : List ℕ) → begins_with (λ c. c == 39) bytes ≡ true → sign_kind bytes ≡ None
@@ -60,10 +65,13 @@ pub sign-nil : sign_kind [] ≡ None
 unfolding signs sign_kind
 sign-nil = refl
 
-some-fits : (n : ℕ) (bytes : List ℕ) (sign : Punct) → cond (nat_le n (length bytes)) (sign_kind (take n bytes)) None ≡ Some sign → (n ≤ length bytes) × (sign_kind (take n bytes) ≡ Some sign)
+some-fits : (n : ℕ) (bytes : List ℕ) (sign : Punct)
+    → cond (nat_le n (length bytes)) (sign_kind (take n bytes)) None ≡ Some sign
+    → (n ≤ length bytes) × (sign_kind (take n bytes) ≡ Some sign)
 some-fits n bytes sign e = by_test (nat_le n (length bytes)) refl e
   where
-    by_test : (b : Bool) → nat_le n (length bytes) ≡ b → cond b (sign_kind (take n bytes)) None ≡ Some sign → (n ≤ length bytes) × (sign_kind (take n bytes) ≡ Some sign)
+    by_test : (b : Bool) → nat_le n (length bytes) ≡ b → cond b (sign_kind (take n bytes)) None ≡ Some sign
+        → (n ≤ length bytes) × (sign_kind (take n bytes) ≡ Some sign)
     by_test true is e = (leb-true n (length bytes) is, e)
     by_test false is e = absurd cc
 
@@ -77,7 +85,8 @@ none-at bytes n none le = rw (le-leb n (length bytes) le) at none
 past_three : (bytes : List ℕ) (m : ℕ) → 3 < m → m ≤ length bytes → is_sign (take m bytes) ≡ false
 past_three bytes m lt le = rw (sign-long (take m bytes) (let l = length-take-le m bytes le in omega arith)) refl
 
-pub sign-found : (bytes : List ℕ) (n : ℕ) (sign : Punct) → n ≤ 3 → cond (nat_le n (length bytes)) (sign_kind (take n bytes)) None ≡ Some sign →
+pub sign-found : (bytes : List ℕ) (n : ℕ) (sign : Punct) → n ≤ 3
+    → cond (nat_le n (length bytes)) (sign_kind (take n bytes)) None ≡ Some sign →
     ((m : ℕ) → n < m → m ≤ 3 → NoneAt bytes m) → (sign_kind (take n bytes) ≡ Some sign) × IsLongestOf is_sign bytes n
 sign-found bytes n sign few found none =
     let fits = some-fits n bytes sign found in

@@ -22,11 +22,13 @@ line_some : (bytes : List ℕ) (b : ℕ) → (b == 10) ≡ false → begins_with
 line_some [] b other h = absurd cc
 line_some (c ∷ cs) b other h = let same : c ≡ b = eqb-true c b h in rw (same, other) (omega arith)
 
-slashes_begin : (bytes : List ℕ) → starts_with nat_eq bytes (codes "//") ≡ true → begins_with (λ c. c == 47) bytes ≡ true
+slashes_begin : (bytes : List ℕ) → starts_with nat_eq bytes (codes "//") ≡ true
+    → begins_with (λ c. c == 47) bytes ≡ true
 slashes_begin [] h = absurd cc
 slashes_begin (c ∷ cs) h = let same : 47 ≡ c = eqb-true 47 c (and_parts (nat_eq 47 c) _ h).0 in rw (← same) refl
 
-pub gap-fits : (gap : Gap) (fresh : Bool) (bytes : List ℕ) (n : ℕ) → IsGap gap fresh bytes n → (0 < n) × (n ≤ length bytes)
+pub gap-fits : (gap : Gap) (fresh : Bool) (bytes : List ℕ) (n : ℕ) → IsGap gap fresh bytes n
+    → (0 < n) × (n ≤ length bytes)
 gap-fits Blank fresh bytes n h = let some = begins_some is_blank bytes h.0 in let one = h.1 in (omega arith, omega arith)
 gap-fits LineFeed fresh bytes n h = let some = begins_some (λ c. c == 10) bytes h.0 in let one = h.1 in (omega arith, omega arith)
 gap-fits OtherSpace fresh bytes n h = let some = begins_some is_other_space bytes h.0 in let one = h.1 in (omega arith, omega arith)
@@ -36,7 +38,8 @@ gap-fits LineComment fresh bytes n h =
 gap-fits SkippedLine fresh bytes n h =
     let some = line_some bytes 35 refl h.1 in let most = prefix_len-le-length (λ c. not (c == 10)) bytes in let is = h.2 in (omega arith, omega arith)
 
-pub no-comment : (fresh : Bool) (bytes : List ℕ) → HasNoGap fresh bytes → starts_with nat_eq bytes (codes "/*") ≡ false → begins_comment bytes ≡ false
+pub no-comment : (fresh : Bool) (bytes : List ℕ) → HasNoGap fresh bytes → starts_with nat_eq bytes (codes "/*") ≡ false
+    → begins_comment bytes ≡ false
 no-comment fresh bytes none block =
     or_from (starts_with nat_eq bytes (codes "/*")) (starts_with nat_eq bytes (codes "//")) block (false_from_ne_true _ (λ line. none LineComment (line_len bytes) (line, refl)))
 
@@ -49,9 +52,12 @@ pub token-some : (bytes : List ℕ) (n : ℕ) → IsLongestOf is_token bytes n �
 token-some bytes zero long = absurd (both_ways (is_token []) nil_token long.passes)
 token-some bytes (suc n) long = omega arith
 
-pub stuck : (unit : ℕ) (wide : Bool) (words : Meanings) (bytes : List ℕ) (front : Front) (stop : Stop) → stop ≡ (if opens (drop front.at bytes) then Unended else BadByte) → IsStuck bytes front → StopsAt unit wide words bytes front front stop
+pub stuck : (unit : ℕ) (wide : Bool) (words : Meanings) (bytes : List ℕ) (front : Front) (stop : Stop)
+    → stop ≡ (if opens (drop front.at bytes) then Unended else BadByte) → IsStuck bytes front
+    → StopsAt unit wide words bytes front front stop
 stuck unit wide words bytes front stop is h = by_test (opens (drop front.at bytes)) refl is
   where
-    by_test : (b : Bool) → opens (drop front.at bytes) ≡ b → stop ≡ (if b then Unended else BadByte) → StopsAt unit wide words bytes front front stop
+    by_test : (b : Bool) → opens (drop front.at bytes) ≡ b → stop ≡ (if b then Unended else BadByte)
+        → StopsAt unit wide words bytes front front stop
     by_test true e is = rw is (refl, h, e)
     by_test false e is = rw is (refl, h, e)

@@ -9,7 +9,8 @@ use Rattle.c_lexer.proofs.QuoteLemmas.{wide_cases}
 use Rattle.c_lexer.proofs.SignLemmas.{sign-letter, sign-digit, sign-then_digit, sign-quote, sign-double, sign-dollar}
 
 -- no kind of token, and some kind
-pub no_token : (a : List ℕ) → is_word a ≡ false → is_number a ≡ false → is_char a ≡ false → is_text a ≡ false → is_dollar a ≡ false → sign_kind a ≡ None → is_token a ≡ false
+pub no_token : (a : List ℕ) → is_word a ≡ false → is_number a ≡ false → is_char a ≡ false → is_text a ≡ false
+    → is_dollar a ≡ false → sign_kind a ≡ None → is_token a ≡ false
 no_token a w n c t d s = rw (w, n, c, t, d, s) refl
 
 word_token : (a : List ℕ) → is_word a ≡ true → is_token a ≡ true
@@ -38,7 +39,8 @@ no_kind a h = by_case (sign_kind a) h
     by_case (Some x) e = absurd cc
 
 -- the first byte of a longer front
-begins_longer : (p : ℕ → Bool) (k : ℕ) (bytes : List ℕ) (n m : ℕ) → n ≤ m → begins_with p (drop k (take n bytes)) ≡ true → begins_with p (drop k (take m bytes)) ≡ true
+begins_longer : (p : ℕ → Bool) (k : ℕ) (bytes : List ℕ) (n m : ℕ) → n ≤ m → begins_with p (drop k (take n bytes)) ≡ true
+    → begins_with p (drop k (take m bytes)) ≡ true
 begins_longer p zero bytes zero m le h = absurd cc
 begins_longer p zero [] (suc n) m le h = absurd cc
 begins_longer p zero (c ∷ cs) (suc n) zero le h = absurd (omega arith)
@@ -48,7 +50,8 @@ begins_longer p (suc k) [] (suc n) m le h = absurd cc
 begins_longer p (suc k) (c ∷ cs) (suc n) zero le h = absurd (omega arith)
 begins_longer p (suc k) (c ∷ cs) (suc n) (suc m) le h = begins_longer p k cs n m (omega arith) h
 
-begins_front : (p : ℕ → Bool) (bytes : List ℕ) (m : ℕ) → 0 < m → begins_with p bytes ≡ true → begins_with p (take m bytes) ≡ true
+begins_front : (p : ℕ → Bool) (bytes : List ℕ) (m : ℕ) → 0 < m → begins_with p bytes ≡ true
+    → begins_with p (take m bytes) ≡ true
 begins_front p bytes zero lt h = absurd (omega arith)
 begins_front p [] (suc m) lt h = absurd cc
 begins_front p (c ∷ cs) (suc m) lt h = h
@@ -72,7 +75,8 @@ letter_dollar : (a : List ℕ) → begins_with is_letter a ≡ true → is_dolla
 letter_dollar [] h = absurd cc
 letter_dollar (c ∷ cs) h = rw (let e : (c == 36) ≡ false = grind (arith, nat_tests) in e) refl
 
-pub longest-word : (bytes : List ℕ) (n : ℕ) → HasNone is_char bytes → HasNone is_text bytes → begins_with is_letter bytes ≡ true → IsLongestOf is_word bytes n → IsLongestOf is_token bytes n
+pub longest-word : (bytes : List ℕ) (n : ℕ) → HasNone is_char bytes → HasNone is_text bytes
+    → begins_with is_letter bytes ≡ true → IsLongestOf is_word bytes n → IsLongestOf is_token bytes n
 longest-word bytes n chars texts h long = record {
   inside = long.inside;
   passes = word_token (take n bytes) long.passes;
@@ -89,7 +93,8 @@ pub dollar_word : (a : List ℕ) → begins_with (λ c. c == 36) a ≡ true → 
 dollar_word [] h = absurd cc
 dollar_word (c ∷ cs) h = let e : c ≡ 36 = eqb-true c 36 h in rw e refl
 
-pub longest-dollar : (bytes : List ℕ) (n : ℕ) → HasNone is_char bytes → HasNone is_text bytes → begins_with (λ c. c == 36) bytes ≡ true → IsLongestOf is_dollar bytes n → IsLongestOf is_token bytes n
+pub longest-dollar : (bytes : List ℕ) (n : ℕ) → HasNone is_char bytes → HasNone is_text bytes
+    → begins_with (λ c. c == 36) bytes ≡ true → IsLongestOf is_dollar bytes n → IsLongestOf is_token bytes n
 longest-dollar bytes n chars texts h long = record {
   inside = long.inside;
   passes = dollar_token (take n bytes) long.passes;
@@ -98,7 +103,8 @@ longest-dollar bytes n chars texts h long = record {
       no_token (take m bytes) (dollar_word (take m bytes) front) (dollar_number (take m bytes) front) (chars m le) (texts m le) (long.longest m lt le) (sign-dollar (take m bytes) front);
 }
 
-pub number_begins : (a : List ℕ) → is_number a ≡ true → (begins_with is_digit a ≡ true) ⊎ (begins_with is_digit (drop 1 a) ≡ true)
+pub number_begins : (a : List ℕ) → is_number a ≡ true
+    → (begins_with is_digit a ≡ true) ⊎ (begins_with is_digit (drop 1 a) ≡ true)
 number_begins [] h = absurd cc
 number_begins (c ∷ cs) h = by_case (or_cases (is_digits (c ∷ cs)) (c == 46 && is_digits cs) h)
   where
@@ -106,18 +112,21 @@ number_begins (c ∷ cs) h = by_case (or_cases (is_digits (c ∷ cs)) (c == 46 &
     digits_begin [] e = absurd cc
     digits_begin (d ∷ ds) e = (and_parts (is_digit d) _ e).0
 
-    by_case : (is_digits (c ∷ cs) ≡ true) ⊎ ((c == 46 && is_digits cs) ≡ true) → (is_digit c ≡ true) ⊎ (begins_with is_digit cs ≡ true)
+    by_case : (is_digits (c ∷ cs) ≡ true) ⊎ ((c == 46 && is_digits cs) ≡ true)
+        → (is_digit c ≡ true) ⊎ (begins_with is_digit cs ≡ true)
     by_case (inl e) = inl (digits_begin (c ∷ cs) e)
     by_case (inr e) = inr (digits_begin cs (and_parts (c == 46) (is_digits cs) e).1)
 
 pub number_sign : (bytes : List ℕ) (n m : ℕ) → n ≤ m → is_number (take n bytes) ≡ true → sign_kind (take m bytes) ≡ None
 number_sign bytes n m le h = by_case (number_begins (take n bytes) h)
   where
-    by_case : (begins_with is_digit (take n bytes) ≡ true) ⊎ (begins_with is_digit (drop 1 (take n bytes)) ≡ true) → sign_kind (take m bytes) ≡ None
+    by_case : (begins_with is_digit (take n bytes) ≡ true) ⊎ (begins_with is_digit (drop 1 (take n bytes)) ≡ true)
+        → sign_kind (take m bytes) ≡ None
     by_case (inl e) = sign-digit (take m bytes) (begins_longer is_digit 0 bytes n m le e)
     by_case (inr e) = sign-then_digit (take m bytes) (begins_longer is_digit 1 bytes n m le e)
 
-pub longest-number : (bytes : List ℕ) (n : ℕ) → HasNone is_char bytes → HasNone is_text bytes → begins_with is_letter bytes ≡ false → begins_with (λ c. c == 36) bytes ≡ false →
+pub longest-number : (bytes : List ℕ) (n : ℕ) → HasNone is_char bytes → HasNone is_text bytes
+    → begins_with is_letter bytes ≡ false → begins_with (λ c. c == 36) bytes ≡ false →
     IsLongestOf is_number bytes n → IsLongestOf is_token bytes n
 longest-number bytes n chars texts letter dollar long = record {
   inside = long.inside;
@@ -126,7 +135,8 @@ longest-number bytes n chars texts letter dollar long = record {
       no_token (take m bytes) (word_apart bytes m letter) (long.longest m lt le) (chars m le) (texts m le) (dollar_apart bytes m dollar) (number_sign bytes n m (omega arith) long.passes);
 }
 
-pub longest-sign : (bytes : List ℕ) (n : ℕ) → HasNone is_char bytes → HasNone is_text bytes → begins_with is_letter bytes ≡ false → begins_with (λ c. c == 36) bytes ≡ false →
+pub longest-sign : (bytes : List ℕ) (n : ℕ) → HasNone is_char bytes → HasNone is_text bytes
+    → begins_with is_letter bytes ≡ false → begins_with (λ c. c == 36) bytes ≡ false →
     HasNone is_number bytes → IsLongestOf is_sign bytes n → IsLongestOf is_token bytes n
 longest-sign bytes n chars texts letter dollar numbers long = record {
   inside = long.inside;
@@ -135,7 +145,8 @@ longest-sign bytes n chars texts letter dollar numbers long = record {
       no_token (take m bytes) (word_apart bytes m letter) (numbers m le) (chars m le) (texts m le) (dollar_apart bytes m dollar) (no_kind (take m bytes) (long.longest m lt le));
 }
 
-pub longest-none : (bytes : List ℕ) → HasNone is_char bytes → HasNone is_text bytes → begins_with is_letter bytes ≡ false → begins_with (λ c. c == 36) bytes ≡ false →
+pub longest-none : (bytes : List ℕ) → HasNone is_char bytes → HasNone is_text bytes
+    → begins_with is_letter bytes ≡ false → begins_with (λ c. c == 36) bytes ≡ false →
     HasNone is_number bytes → HasNone is_sign bytes → HasNone is_token bytes
 longest-none bytes chars texts letter dollar numbers none m le =
     no_token (take m bytes) (word_apart bytes m letter) (numbers m le) (chars m le) (texts m le) (dollar_apart bytes m dollar) (no_kind (take m bytes) (none m le))
@@ -144,7 +155,8 @@ longest-none bytes chars texts letter dollar numbers none m le =
 pub data Opens (quote : ℕ) (a : List ℕ) : Type 0 where
   plain : begins_with (λ c. c == quote) a ≡ true → Opens quote a
   wide : begins_with is_wide a ≡ true → begins_with (λ c. c == quote) (drop 1 a) ≡ true → Opens quote a
-  utf : begins_with (λ c. c == 117) a ≡ true → begins_with (λ c. c == 56) (drop 1 a) ≡ true → begins_with (λ c. c == quote) (drop 2 a) ≡ true → Opens quote a
+  utf : begins_with (λ c. c == 117) a ≡ true → begins_with (λ c. c == 56) (drop 1 a) ≡ true
+      → begins_with (λ c. c == quote) (drop 2 a) ≡ true → Opens quote a
 
 opens_longer : (quote : ℕ) (bytes : List ℕ) (n m : ℕ) → n ≤ m → Opens quote (take n bytes) → Opens quote (take m bytes)
 opens_longer quote bytes n m le (plain e) = plain (begins_longer (λ c. c == quote) 0 bytes n m le e)
@@ -156,7 +168,8 @@ quoted_begins : (quote : ℕ) (a : List ℕ) → is_quoted quote a ≡ true → 
 quoted_begins quote [] h = absurd cc
 quoted_begins quote (c ∷ cs) h = (and_parts (c == quote) _ h).0
 
-prefix_wide : (w c : ℕ) (b : Bool) → is_wide w ≡ true → (nat_eq w c && true && b) ≡ true → (is_wide c ≡ true) × (b ≡ true)
+prefix_wide : (w c : ℕ) (b : Bool) → is_wide w ≡ true → (nat_eq w c && true && b) ≡ true
+    → (is_wide c ≡ true) × (b ≡ true)
 prefix_wide w c b h e =
     let parts = and_parts (nat_eq w c && true) b e in
     let same : w ≡ c = eqb-true w c (and_parts (nat_eq w c) true parts.0).0 in
@@ -173,15 +186,18 @@ char_opens (c ∷ cs) h = by_case (or_cases (is_quoted 39 (c ∷ cs)) _ h)
     by_last (inl e) = behind 85 refl e
     by_last (inr e) = absurd cc
 
-    by_second : ((nat_eq 117 c && true && is_quoted 39 cs) ≡ true) ⊎ ((nat_eq 85 c && true && is_quoted 39 cs || false) ≡ true) → Opens 39 (c ∷ cs)
+    by_second : ((nat_eq 117 c && true && is_quoted 39 cs) ≡ true) ⊎ ((nat_eq 85 c && true && is_quoted 39 cs || false) ≡ true)
+        → Opens 39 (c ∷ cs)
     by_second (inl e) = behind 117 refl e
     by_second (inr e) = by_last (or_cases _ _ e)
 
-    by_first : ((nat_eq 76 c && true && is_quoted 39 cs) ≡ true) ⊎ ((nat_eq 117 c && true && is_quoted 39 cs || (nat_eq 85 c && true && is_quoted 39 cs || false)) ≡ true) → Opens 39 (c ∷ cs)
+    by_first : ((nat_eq 76 c && true && is_quoted 39 cs) ≡ true) ⊎ ((nat_eq 117 c && true && is_quoted 39 cs || (nat_eq 85 c && true && is_quoted 39 cs || false)) ≡ true)
+        → Opens 39 (c ∷ cs)
     by_first (inl e) = behind 76 refl e
     by_first (inr e) = by_second (or_cases _ _ e)
 
-    by_case : (is_quoted 39 (c ∷ cs) ≡ true) ⊎ ((nat_eq 76 c && true && is_quoted 39 cs || (nat_eq 117 c && true && is_quoted 39 cs || (nat_eq 85 c && true && is_quoted 39 cs || false))) ≡ true) → Opens 39 (c ∷ cs)
+    by_case : (is_quoted 39 (c ∷ cs) ≡ true) ⊎ ((nat_eq 76 c && true && is_quoted 39 cs || (nat_eq 117 c && true && is_quoted 39 cs || (nat_eq 85 c && true && is_quoted 39 cs || false))) ≡ true)
+        → Opens 39 (c ∷ cs)
     by_case (inl e) = plain (quoted_begins 39 (c ∷ cs) e)
     by_case (inr e) = by_first (or_cases _ _ e)
 
@@ -201,15 +217,18 @@ text_opens (c ∷ cs) h = by_case (or_cases (is_quoted 34 (c ∷ cs)) _ h)
     behind : (w : ℕ) → is_wide w ≡ true → (nat_eq w c && true && is_quoted 34 cs) ≡ true → Opens 34 (c ∷ cs)
     behind w h e = let parts = prefix_wide w c (is_quoted 34 cs) h e in wide parts.0 (quoted_begins 34 cs parts.1)
 
-    by_last : ((starts_with nat_eq (c ∷ cs) (117 ∷ 56 ∷ []) && is_quoted 34 (drop 1 cs)) ≡ true) ⊎ (false ≡ true) → Opens 34 (c ∷ cs)
+    by_last : ((starts_with nat_eq (c ∷ cs) (117 ∷ 56 ∷ []) && is_quoted 34 (drop 1 cs)) ≡ true) ⊎ (false ≡ true)
+        → Opens 34 (c ∷ cs)
     by_last (inl e) = utf_opens (c ∷ cs) e
     by_last (inr e) = absurd cc
 
-    by_third : ((nat_eq 85 c && true && is_quoted 34 cs) ≡ true) ⊎ ((starts_with nat_eq (c ∷ cs) (117 ∷ 56 ∷ []) && is_quoted 34 (drop 1 cs) || false) ≡ true) → Opens 34 (c ∷ cs)
+    by_third : ((nat_eq 85 c && true && is_quoted 34 cs) ≡ true) ⊎ ((starts_with nat_eq (c ∷ cs) (117 ∷ 56 ∷ []) && is_quoted 34 (drop 1 cs) || false) ≡ true)
+        → Opens 34 (c ∷ cs)
     by_third (inl e) = behind 85 refl e
     by_third (inr e) = by_last (or_cases _ _ e)
 
-    by_second : ((nat_eq 117 c && true && is_quoted 34 cs) ≡ true) ⊎ ((nat_eq 85 c && true && is_quoted 34 cs || (starts_with nat_eq (c ∷ cs) (117 ∷ 56 ∷ []) && is_quoted 34 (drop 1 cs) || false)) ≡ true) → Opens 34 (c ∷ cs)
+    by_second : ((nat_eq 117 c && true && is_quoted 34 cs) ≡ true) ⊎ ((nat_eq 85 c && true && is_quoted 34 cs || (starts_with nat_eq (c ∷ cs) (117 ∷ 56 ∷ []) && is_quoted 34 (drop 1 cs) || false)) ≡ true)
+        → Opens 34 (c ∷ cs)
     by_second (inl e) = behind 117 refl e
     by_second (inr e) = by_third (or_cases _ _ e)
 
@@ -299,7 +318,8 @@ longest-char bytes n long = record {
       no_token (take m bytes) others.word others.number (long.longest m lt le) (char_text (take m bytes) opens) others.dollar others.sign;
 }
 
-pub longest-text : (bytes : List ℕ) (n : ℕ) → HasNone is_char bytes → IsLongestOf is_text bytes n → IsLongestOf is_token bytes n
+pub longest-text : (bytes : List ℕ) (n : ℕ) → HasNone is_char bytes → IsLongestOf is_text bytes n
+    → IsLongestOf is_token bytes n
 longest-text bytes n chars long = record {
   inside = long.inside;
   passes = text_token (take n bytes) long.passes;

@@ -51,13 +51,15 @@ gap_class-is LineComment fresh (c ∷ d ∷ r) n h = let e = slash_then 47 c d r
 gap_class-is SkippedLine fresh [] n h = absurd (let e = h.1 in cc)
 gap_class-is SkippedLine fresh (c ∷ cs) n h = let e : c ≡ 35 = eqb-true c 35 h.1 in rw e refl
 
-pub gap-unique : (fresh : Bool) (bytes : List ℕ) (one other : Gap) (n k : ℕ) → IsGap one fresh bytes n → IsGap other fresh bytes k → one ≡ other
+pub gap-unique : (fresh : Bool) (bytes : List ℕ) (one other : Gap) (n k : ℕ) → IsGap one fresh bytes n
+    → IsGap other fresh bytes k → one ≡ other
 gap-unique fresh bytes one other n k h g = sym (gap_class-is one fresh bytes n h) ∙ gap_class-is other fresh bytes k g
 
 block_len : (bytes : List ℕ) (n k : ℕ) → IsBlockComment bytes n → IsBlockComment bytes k → n < k → ⊥
 block_len bytes n k h g lt = let long = h.long in g.first (n - 2) (omega arith) (omega arith) h.closes
 
-pub gap-len : (gap : Gap) (fresh : Bool) (bytes : List ℕ) (n k : ℕ) → IsGap gap fresh bytes n → IsGap gap fresh bytes k → n ≡ k
+pub gap-len : (gap : Gap) (fresh : Bool) (bytes : List ℕ) (n k : ℕ) → IsGap gap fresh bytes n → IsGap gap fresh bytes k
+    → n ≡ k
 gap-len Blank fresh bytes n k h g = h.1 ∙ sym g.1
 gap-len LineFeed fresh bytes n k h g = h.1 ∙ sym g.1
 gap-len OtherSpace fresh bytes n k h g = h.1 ∙ sym g.1
@@ -71,7 +73,8 @@ gap-len LineComment fresh bytes n k h g = h.1 ∙ sym g.1
 gap-len SkippedLine fresh bytes n k h g = h.2 ∙ sym g.2
 
 -- quoted bytes in front have one length
-quoted_more : (quote : ℕ) → quote ≢ 92 → (bytes : List ℕ) (k n : ℕ) → k < n → n ≤ length bytes → is_quoted_tail quote (take k bytes) ≡ true → is_quoted_tail quote (take n bytes) ≡ false
+quoted_more : (quote : ℕ) → quote ≢ 92 → (bytes : List ℕ) (k n : ℕ) → k < n → n ≤ length bytes
+    → is_quoted_tail quote (take k bytes) ≡ true → is_quoted_tail quote (take n bytes) ≡ false
 quoted_more quote plain bytes zero n lt le h = absurd cc
 quoted_more quote plain [] (suc k) n lt le h = absurd cc
 quoted_more quote plain (c ∷ cs) (suc k) zero lt le h = absurd (omega arith)
@@ -85,7 +88,8 @@ quoted_more quote plain (c ∷ d ∷ cs) (suc (suc k)) (suc zero) lt le h = absu
 quoted_more quote plain (c ∷ d ∷ cs) (suc (suc k)) (suc (suc n)) lt le h =
     by_test (c == 92) h (λ h. quoted_more quote plain cs k n (omega arith) (omega arith) h) (λ h. quoted_more quote plain (d ∷ cs) (suc k) (suc n) (omega arith) (omega arith) h)
   where
-    by_test : (b : Bool) → cond b (not (d == 10) && is_quoted_tail quote (take k cs)) (not (c == quote) && not (c == 10) && is_quoted_tail quote (d ∷ take k cs)) ≡ true →
+    by_test : (b : Bool)
+        → cond b (not (d == 10) && is_quoted_tail quote (take k cs)) (not (c == quote) && not (c == 10) && is_quoted_tail quote (d ∷ take k cs)) ≡ true →
         (is_quoted_tail quote (take k cs) ≡ true → is_quoted_tail quote (take n cs) ≡ false) →
         (is_quoted_tail quote (d ∷ take k cs) ≡ true → is_quoted_tail quote (d ∷ take n cs) ≡ false) →
         cond b (not (d == 10) && is_quoted_tail quote (take n cs)) (not (c == quote) && not (c == 10) && is_quoted_tail quote (d ∷ take n cs)) ≡ false
@@ -95,14 +99,16 @@ quoted_more quote plain (c ∷ d ∷ cs) (suc (suc k)) (suc (suc n)) lt le h =
 plain_quote : (quote : ℕ) → quote ≡ 34 → quote ≢ 92
 plain_quote quote is e = omega (arith, is, e)
 
-quoted_apart : (bytes : List ℕ) (k n : ℕ) → k < n → n ≤ length bytes → is_quoted 34 (take k bytes) ≡ true → is_quoted 34 (take n bytes) ≡ true → ⊥
+quoted_apart : (bytes : List ℕ) (k n : ℕ) → k < n → n ≤ length bytes → is_quoted 34 (take k bytes) ≡ true
+    → is_quoted 34 (take n bytes) ≡ true → ⊥
 quoted_apart bytes zero n lt le h g = cc
 quoted_apart [] (suc k) n lt le h g = cc
 quoted_apart (c ∷ cs) (suc k) zero lt le h g = cc
 quoted_apart (c ∷ cs) (suc k) (suc n) lt le h g =
     both_ways _ (quoted_more 34 (plain_quote 34 refl) cs k n (omega arith) (omega arith) (and_parts (c == 34) _ h).1) (and_parts (c == 34) _ g).1
 
-quoted_len : (bytes : List ℕ) (k n : ℕ) → k ≤ length bytes → n ≤ length bytes → is_quoted 34 (take k bytes) ≡ true → is_quoted 34 (take n bytes) ≡ true → k ≡ n
+quoted_len : (bytes : List ℕ) (k n : ℕ) → k ≤ length bytes → n ≤ length bytes → is_quoted 34 (take k bytes) ≡ true
+    → is_quoted 34 (take n bytes) ≡ true → k ≡ n
 quoted_len bytes k n le within h g = by_order (cases_order k n)
   where
     by_order : (k ≡ n) ⊎ ((k < n) ⊎ (n < k)) → k ≡ n
@@ -134,7 +140,8 @@ marker-unique line a b h g =
     (h.name_from ∙ ap (λ n. n + 1) (one.quote_at ∙ sym other.quote_at) ∙ sym g.name_from)
     (omega (arith, ends))
 
-pub marks-unique : (bytes : List ℕ) (gap : Gap) (at n : ℕ) (marks one other : List Mark) → MarksBehind bytes gap at n marks one → MarksBehind bytes gap at n marks other → one ≡ other
+pub marks-unique : (bytes : List ℕ) (gap : Gap) (at n : ℕ) (marks one other : List Mark)
+    → MarksBehind bytes gap at n marks one → MarksBehind bytes gap at n marks other → one ≡ other
 marks-unique bytes Blank at n marks one other h g = h ∙ sym g
 marks-unique bytes LineFeed at n marks one other h g = h ∙ sym g
 marks-unique bytes OtherSpace at n marks one other h g = h ∙ sym g
@@ -180,7 +187,8 @@ gap_token c r h = by_7 (or_cases _ (c == 35) h)
     by_6 (inl e) = by_5 (or_cases _ (c == 12) e)
     by_6 (inr e) = at 13 (eqb-true c 13 e) (no_token (13 ∷ r) refl refl refl refl refl (sign_gap (13 ∷ r) refl))
 
-    by_7 : ((c == 32 || c == 9 || c == 10 || c == 11 || c == 12 || c == 13) ≡ true) ⊎ ((c == 35) ≡ true) → is_token (c ∷ r) ≡ false
+    by_7 : ((c == 32 || c == 9 || c == 10 || c == 11 || c == 12 || c == 13) ≡ true) ⊎ ((c == 35) ≡ true)
+        → is_token (c ∷ r) ≡ false
     by_7 (inl e) = by_6 (or_cases _ (c == 13) e)
     by_7 (inr e) = at 35 (eqb-true c 35 e) (no_token (35 ∷ r) refl refl refl refl refl (sign_gap (35 ∷ r) refl))
 
@@ -190,7 +198,8 @@ byte_token [] (suc n) h = absurd cc
 byte_token (c ∷ cs) (suc n) h = gap_token c (take n cs) h
 
 -- no token stands where a gap does
-pub gap-no_token : (gap : Gap) (fresh : Bool) (bytes : List ℕ) (k n : ℕ) → IsGap gap fresh bytes k → begins_comment bytes ≡ false → is_token (take n bytes) ≡ true → ⊥
+pub gap-no_token : (gap : Gap) (fresh : Bool) (bytes : List ℕ) (k n : ℕ) → IsGap gap fresh bytes k
+    → begins_comment bytes ≡ false → is_token (take n bytes) ≡ true → ⊥
 gap-no_token Blank fresh [] k n h none t = let e = h.0 in cc
 gap-no_token Blank fresh (c ∷ cs) k n h none t = let e : is_blank c ≡ true = h.0 in both_ways _ (byte_token (c ∷ cs) n (let f : is_gap_byte c ≡ true = grind arith in f)) t
 gap-no_token LineFeed fresh [] k n h none t = let e = h.0 in cc

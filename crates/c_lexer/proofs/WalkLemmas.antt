@@ -14,7 +14,8 @@ Follows test s bytes at s' = (m : ℕ) → at ≤ m → m ≤ length bytes → t
 abbrev pub NoneUpTo : (List ℕ → Bool) → List ℕ → ℕ → Type 0
 NoneUpTo test bytes at = (m : ℕ) → m ≤ at → m ≤ length bytes → test (take m bytes) ≡ false
 
-front_step : (bytes : List ℕ) (at m : ℕ) → at < m → m ≤ length bytes → take (m - at) (drop at bytes) ≡ get_or bytes at 0 ∷ take (m - (at + 1)) (drop (at + 1) bytes)
+front_step : (bytes : List ℕ) (at m : ℕ) → at < m → m ≤ length bytes
+    → take (m - at) (drop at bytes) ≡ get_or bytes at 0 ∷ take (m - (at + 1)) (drop (at + 1) bytes)
 front_step [] at m lt le = absurd (omega arith)
 front_step (c ∷ cs) zero zero lt le = absurd (omega arith)
 front_step (c ∷ cs) zero (suc m) lt le = rw (let e : suc m - 0 ≡ suc m = omega arith in e, let e : suc m - (0 + 1) ≡ m = omega arith in e) refl
@@ -26,13 +27,15 @@ front_step (c ∷ cs) (suc at) (suc m) lt le =
 pub follows-start : {S : Type 0} (test : S → List ℕ → Bool) (s : S) (bytes : List ℕ) → Follows test s bytes 0 s
 follows-start test s bytes m lo le = rw (let e : m - 0 ≡ m = omega arith in e) refl
 
-pub follows-more : {S : Type 0} (test : S → List ℕ → Bool) (s s' s'' : S) (bytes : List ℕ) (at : ℕ) → Follows test s bytes at s' →
+pub follows-more : {S : Type 0} (test : S → List ℕ → Bool) (s s' s'' : S) (bytes : List ℕ) (at : ℕ)
+    → Follows test s bytes at s' →
     ((r : List ℕ) → test s' (get_or bytes at 0 ∷ r) ≡ test s'' r) → Follows test s bytes (at + 1) s''
 follows-more test s s' s'' bytes at f step m lo le =
     f m (omega arith) le ∙ ap (test s') (front_step bytes at m (omega arith) le) ∙ step (take (m - (at + 1)) (drop (at + 1) bytes))
 
 -- the front that ends where nothing goes on
-pub follows-stop : {S : Type 0} (test : S → List ℕ → Bool) (s s' : S) (bytes : List ℕ) (at : ℕ) → at ≤ length bytes → Follows test s bytes at s' →
+pub follows-stop : {S : Type 0} (test : S → List ℕ → Bool) (s s' : S) (bytes : List ℕ) (at : ℕ) → at ≤ length bytes
+    → Follows test s bytes at s' →
     test s' [] ≡ true → ((r : List ℕ) → at < length bytes → test s' (get_or bytes at 0 ∷ r) ≡ false) → IsLongestOf (test s) bytes at
 follows-stop test s s' bytes at within f done stop = record {
   inside = within;
@@ -41,7 +44,8 @@ follows-stop test s s' bytes at within f done stop = record {
 }
 
 -- no front passes up to here, and none that goes on
-pub follows-none : {S : Type 0} (test : S → List ℕ → Bool) (s s' : S) (bytes : List ℕ) (at : ℕ) → Follows test s bytes at s' → NoneUpTo (test s) bytes at →
+pub follows-none : {S : Type 0} (test : S → List ℕ → Bool) (s s' : S) (bytes : List ℕ) (at : ℕ)
+    → Follows test s bytes at s' → NoneUpTo (test s) bytes at →
     ((r : List ℕ) → at < length bytes → test s' (get_or bytes at 0 ∷ r) ≡ false) → HasNone (test s) bytes
 follows-none test s s' bytes at f none stop m le = by_order (cases_lt at m)
   where
@@ -49,7 +53,8 @@ follows-none test s s' bytes at f none stop m le = by_order (cases_lt at m)
     by_order (inl lt) = f m (omega arith) le ∙ ap (test s') (front_step bytes at m (omega arith) le) ∙ stop (take (m - (at + 1)) (drop (at + 1) bytes)) (omega arith)
     by_order (inr lo) = none m lo le
 
-pub none-more : {S : Type 0} (test : S → List ℕ → Bool) (s s'' : S) (bytes : List ℕ) (at : ℕ) → Follows test s bytes (at + 1) s'' → NoneUpTo (test s) bytes at →
+pub none-more : {S : Type 0} (test : S → List ℕ → Bool) (s s'' : S) (bytes : List ℕ) (at : ℕ)
+    → Follows test s bytes (at + 1) s'' → NoneUpTo (test s) bytes at →
     test s'' [] ≡ false → NoneUpTo (test s) bytes (at + 1)
 none-more test s s'' bytes at f none fails m lo le = by_order (cases_lt at m)
   where
@@ -68,7 +73,8 @@ quoted-nil quote true = refl
 quoted-nil quote false = refl
 
 -- the front that ends with the byte that has to be the last
-pub follows-close : {S : Type 0} (test : S → List ℕ → Bool) (s s' : S) (bytes : List ℕ) (at : ℕ) → at < length bytes → Follows test s bytes at s' →
+pub follows-close : {S : Type 0} (test : S → List ℕ → Bool) (s s' : S) (bytes : List ℕ) (at : ℕ) → at < length bytes
+    → Follows test s bytes at s' →
     test s' (get_or bytes at 0 ∷ []) ≡ true → ((d : ℕ) (r : List ℕ) → test s' (get_or bytes at 0 ∷ d ∷ r) ≡ false) → IsLongestOf (test s) bytes (at + 1)
 follows-close test s s' bytes at within f done stop = record {
   inside = omega arith;
@@ -92,17 +98,20 @@ module _ (quote : ℕ) (plain : quote ≢ 92) (inline : quote ≢ 10) where
   quoted-newline false x e [] = rw e (ne_eqb 10 quote (λ h. inline (sym h)))
   quoted-newline false x e (d ∷ r) = rw (e, ne_eqb 10 quote (λ h. inline (sym h))) refl
 
-  pub quoted-last : (escaped : Bool) (x : ℕ) → (not escaped && x == quote) ≡ true → quoted_from quote escaped (x ∷ []) ≡ true
+  pub quoted-last : (escaped : Bool) (x : ℕ) → (not escaped && x == quote) ≡ true
+      → quoted_from quote escaped (x ∷ []) ≡ true
   quoted-last true x e = absurd cc
   quoted-last false x e = e
 
-  pub quoted-past : (escaped : Bool) (x : ℕ) → (not escaped && x == quote) ≡ true → (d : ℕ) (r : List ℕ) → quoted_from quote escaped (x ∷ d ∷ r) ≡ false
+  pub quoted-past : (escaped : Bool) (x : ℕ) → (not escaped && x == quote) ≡ true → (d : ℕ) (r : List ℕ)
+      → quoted_from quote escaped (x ∷ d ∷ r) ≡ false
   quoted-past true x e d r = absurd cc
   quoted-past false x e d r =
       let same : x ≡ quote = eqb-true x quote e in
       rw (e, let h : (x == 92) ≡ false = ne_eqb x 92 (λ h. plain (sym same ∙ h)) in h) refl
 
-  pub quoted-more : (escaped : Bool) (x : ℕ) → (x ≡ 10 → ⊥) → (not escaped && x == quote) ≡ false → (r : List ℕ) → quoted_from quote escaped (x ∷ r) ≡ quoted_from quote (not escaped && x == 92) r
+  pub quoted-more : (escaped : Bool) (x : ℕ) → (x ≡ 10 → ⊥) → (not escaped && x == quote) ≡ false → (r : List ℕ)
+      → quoted_from quote escaped (x ∷ r) ≡ quoted_from quote (not escaped && x == 92) r
   quoted-more true x line e r = rw (ne_eqb x 10 line) refl
   quoted-more false x line e [] = by_test (x == 92) refl
     where
@@ -111,6 +120,7 @@ module _ (quote : ℕ) (plain : quote ≢ 92) (inline : quote ≢ 10) where
       by_test false is = e
   quoted-more false x line e (d ∷ r) = by_test (x == 92) refl
     where
-      by_test : (b : Bool) → (x == 92) ≡ b → cond b (not (d == 10) && is_quoted_tail quote r) (not (x == quote) && not (x == 10) && is_quoted_tail quote (d ∷ r)) ≡ quoted_from quote b (d ∷ r)
+      by_test : (b : Bool) → (x == 92) ≡ b
+          → cond b (not (d == 10) && is_quoted_tail quote r) (not (x == quote) && not (x == 10) && is_quoted_tail quote (d ∷ r)) ≡ quoted_from quote b (d ∷ r)
       by_test true is = refl
       by_test false is = rw (e, ne_eqb x 10 line) refl

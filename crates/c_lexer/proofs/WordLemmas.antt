@@ -21,7 +21,8 @@ same_number m n is = elim (eqb_tells m n) [
   | inr b ↦ absurd (let not_so : false ≡ true = sym b.0 ∙ is in cc)
 ]
 
-differs : (word spelling : List ℕ) (n : ℕ) → length spelling ≡ n → (length word ≡ n → ⊥) → bytes_eq word spelling ≡ false
+differs : (word spelling : List ℕ) (n : ℕ) → length spelling ≡ n → (length word ≡ n → ⊥)
+    → bytes_eq word spelling ≡ false
 differs word spelling n has not_so = by_test (bytes_eq word spelling) refl
   where
     by_test : (b : Bool) → bytes_eq word spelling ≡ b → bytes_eq word spelling ≡ false
@@ -30,7 +31,8 @@ differs word spelling n has not_so = by_test (bytes_eq word spelling) refl
         absurd (not_so (ap (λ (l : List ℕ). length l) ((bytes_eq-Decides word spelling).0 is) ∙ has))
 
 -- a table of another length says nothing
-passed : (n : ℕ) (table rest : List (List ℕ × Listed)) (word : List ℕ) → have_length n table ≡ true → (length word ≡ n → ⊥)
+passed : (n : ℕ) (table rest : List (List ℕ × Listed)) (word : List ℕ) → have_length n table ≡ true
+    → (length word ≡ n → ⊥)
     → kind_in (table ++ rest) word ≡ kind_in rest word
 passed n [] rest word are not_so = refl
 passed n (entry ∷ entries) rest word are not_so =

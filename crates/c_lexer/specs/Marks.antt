@@ -23,6 +23,7 @@ abbrev pub are_flags : Bool → List ℕ → Bool
 are_flags spaced [] = not spaced
 are_flags spaced (c ∷ cs) = may_stand spaced c && are_flags (is_blank c) cs
 
+-- the number that decimal digits spell
 abbrev pub decimal : List ℕ → ℕ
 decimal digits = fold (λ n c. 10 * n + (c - 48)) 0 digits
 

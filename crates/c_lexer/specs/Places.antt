@@ -21,6 +21,7 @@ before_in_line bytes at = prefix_len (λ b. not (nat_eq b 10)) (reverse (take at
 abbrev pub line_by : List ℕ → Mark → ℕ → ℕ
 line_by bytes mark at = mark.number + count_by (λ b. nat_eq b 10) (slice_range bytes mark.from at)
 
+-- the spot of a place by the linemarker that governs it
 abbrev pub spot_by : ℕ → List ℕ → Mark → ℕ → Spot
 spot_by unit bytes mark at = record {
   unit = unit;
@@ -30,7 +31,8 @@ spot_by unit bytes mark at = record {
   column = before_in_line bytes at + 1;
 }
 
--- The spot of a place of a unit: the file and the line by the linemarker that governs it, and the column by the number of
+-- The spot of a place of a unit: the file and the line by the linemarker that governs it, and the column by the number
+-- of
 -- the byte in its line.
 abbrev pub spot_at : ℕ → List ℕ → List Mark → ℕ → Spot
 spot_at unit bytes marks at = spot_by unit bytes (governing no_mark marks at) at
@@ -40,7 +42,8 @@ spot_at unit bytes marks at = spot_by unit bytes (governing no_mark marks at) at
 -- the mark is the last of those whose lines begin at or before the place
 pub data Governs (marks : List Mark) (at : ℕ) (mark : Mark) : Type 0 where
   none : mark ≡ no_mark → ((k : ℕ) (m : Mark) → slice_get marks k ≡ Some m → at < m.from) → Governs marks at mark
-  last : (k : ℕ) → slice_get marks k ≡ Some mark → mark.from ≤ at → ((j : ℕ) (m : Mark) → k < j → slice_get marks j ≡ Some m → at < m.from) → Governs marks at mark
+  last : (k : ℕ) → slice_get marks k ≡ Some mark → mark.from ≤ at
+      → ((j : ℕ) (m : Mark) → k < j → slice_get marks j ≡ Some m → at < m.from) → Governs marks at mark
 
 -- a line of the bytes begins at `from`, and the place stands in it
 pub record IsLineOf (bytes : List ℕ) (at from : ℕ) : Type 0 where

@@ -1,4 +1,5 @@
--- What the bytes of a unit spell: gaps and tokens in turn, where no longer front of the rest is a token (C99, 6.4 paragraph 4).
+-- What the bytes of a unit spell: gaps and tokens in turn, where no longer front of the rest is a token (C99, 6.4
+-- paragraph 4).
 use Rattle.std.specs.Prelude.{◌≡◌, ℕ, ◌+◌, ◌<◌, ◌≤◌, Bool, true, false, ◌||◌, ◌&&◌, ◌==◌, ◌⊎◌, List, [], ◌∷◌, ◌++◌, length, take, drop, Some, None, nat_eq, codes, slice_range}
 use Rattle.std.specs.List.{starts_with}
 use Rattle.qual_base.specs.Words.{meaning_of}
@@ -52,6 +53,7 @@ pub record Front : Type 0 where
   pub names : List (List ℕ)
   pub marks : List Mark
 
+-- nothing is read yet: the place is 0, a line is fresh there, and nothing stands before it
 abbrev pub begin : Front
 begin = record { at = 0; fresh = true; tokens = []; names = []; marks = [] }
 
@@ -93,8 +95,10 @@ pub record Takes (unit : ℕ) (wide : Bool) (words : Meanings) (bytes : List ℕ
 -- gaps and tokens in turn lead to a place
 pub data Reaches (unit : ℕ) (wide : Bool) (words : Meanings) (bytes : List ℕ) : Front → Type 0 where
   begins : Reaches unit wide words bytes begin
-  skips : (old new : Front) → Reaches unit wide words bytes old → Skips bytes old new → Reaches unit wide words bytes new
-  takes : (old new : Front) → Reaches unit wide words bytes old → Takes unit wide words bytes old new → Reaches unit wide words bytes new
+  skips : (old new : Front) → Reaches unit wide words bytes old → Skips bytes old new
+      → Reaches unit wide words bytes new
+  takes : (old new : Front) → Reaches unit wide words bytes old → Takes unit wide words bytes old new
+      → Reaches unit wide words bytes new
 
 -- the bytes spell these tokens, with these different names and linemarkers
 pub record Spells (unit : ℕ) (wide : Bool) (words : Meanings) (bytes : List ℕ) (tokens : List Token) (names : List (List ℕ)) (marks : List Mark) : Type 0 where

@@ -5,6 +5,7 @@ use Rattle.c_lexer.specs.declared.longest.Shape.TheVariants.{Word, Number, Char,
 use Rattle.c_lexer.specs.Words.{sign_kind}
 use Rattle.c_lexer.specs.Spelling.{is_word, is_number, is_char, is_text, is_dollar}
 
+-- bytes that spell a token of a shape
 abbrev pub HasShape : Shape → List ℕ → Type 0
 HasShape Word bytes = is_word bytes ≡ true
 HasShape Number bytes = is_number bytes ≡ true

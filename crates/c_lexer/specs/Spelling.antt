@@ -3,6 +3,7 @@ use Rattle.std.specs.Prelude.{◌≡◌, ℕ, ◌<◌, ◌≤◌, Bool, true, fa
 use Rattle.std.specs.List.{list_all, list_any, starts_with}
 use Rattle.c_lexer.specs.Words.{sign_kind}
 
+-- a decimal digit
 abbrev pub is_digit : ℕ → Bool
 is_digit c = nat_le 48 c && nat_le c 57
 
@@ -10,6 +11,7 @@ is_digit c = nat_le 48 c && nat_le c 57
 abbrev pub is_letter : ℕ → Bool
 is_letter c = (nat_le 97 c && nat_le c 122) || (nat_le 65 c && nat_le c 90) || c == 95
 
+-- a byte that goes on with a name: a letter, a digit or `_`
 abbrev pub is_word_byte : ℕ → Bool
 is_word_byte c = is_letter c || is_digit c
 
@@ -79,6 +81,7 @@ is_dollar (c ∷ cs) = c == 36 && list_all is_word_byte cs
 abbrev pub is_sign : List ℕ → Bool
 is_sign bytes = is_some (sign_kind bytes)
 
+-- bytes that spell a token, of whatever kind
 abbrev pub is_token : List ℕ → Bool
 is_token bytes = is_word bytes || is_number bytes || is_char bytes || is_text bytes || is_dollar bytes || is_sign bytes
 

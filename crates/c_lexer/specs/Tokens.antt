@@ -12,7 +12,8 @@ use Rattle.c_lexer.specs.declared.places.Mark.{Mark}
 use Rattle.c_lexer.specs.Places.{spot_at}
 use Rattle.c_lexer.specs.Reading.{Meanings, Spells}
 
--- A unit with its tokens and linemarkers, whether it is read as wider C, and what `const`, `volatile` and `restrict` mean in the
+-- A unit with its tokens and linemarkers, whether it is read as wider C, and what `const`, `volatile` and `restrict`
+-- mean in the
 -- lattices.
 pub record Lexed : Type 0 where
   pub unit : ℕ
@@ -54,10 +55,11 @@ pub record IsMarkedBy (meanings : Meanings) (lexed : Lexed) : Type 0 where
   pub spelled : IsSpelled words lexed
   pub keywords : NamesKeywords words lexed
 
--- where a token begins and ends; 0 where there is no such token
+-- where a token begins; 0 where there is no such token
 abbrev pub start_of : List Token → ℕ → ℕ
 start_of tokens n = unwrap_or (slice_get (map (λ (token : Token). token.start) tokens) n) 0
 
+-- where a token ends; 0 where there is no such token
 abbrev pub end_of : List Token → ℕ → ℕ
 end_of tokens n = unwrap_or (slice_get (map (λ (token : Token). token.end) tokens) n) 0
 
@@ -73,7 +75,8 @@ token_spot lexed n = spot_at lexed.unit lexed.bytes lexed.marks (start_of lexed.
 abbrev pub IsEnded : List Token → Type 0
 IsEnded tokens = (front : List Token) × (last : Token) × (tokens ≡ front ++ last ∷ []) × (last.kind ≡ End)
 
--- each token stands within the bytes, which are few enough to number, the last one is the end of the unit, and the lines
+-- each token stands within the bytes, which are few enough to number, the last one is the end of the unit, and the
+-- lines
 -- of the marks come in order
 pub record IsSound (bytes : List ℕ) (tokens : List Token) (marks : List Mark) : Type 0 where
   pub few : length tokens < 2 ^ 32

@@ -114,7 +114,8 @@ abbrev pub kind_in : List (List ℕ × Listed) → List ℕ → Option Listed
 kind_in [] word = None
 kind_in (entry ∷ entries) word = if bytes_eq word entry.0 then Some entry.1 else kind_in entries word
 
--- What a word of the table is in sources that are read as wider C, and in others: there a word of wider C is reserved, or a name.
+-- What a word of the table is in sources that are read as wider C, and in others: there a word of wider C is reserved,
+-- or a name.
 abbrev pub read_as : Bool → Option Listed → Option Word
 read_as wide None = None
 read_as wide (Some (Always keyword)) = Some (AsKeyword keyword)

@@ -1,4 +1,7 @@
 //! The tokens of a C source with their places (C99, 6.4).
+//!
+//! Entry: `lex`. Invariant: the tokens of a text are one list, and equal names have equal numbers.
+//! It does not know the grammar and types. Above: the parser, and whatever prints a place.
 #![tactic(auto)]
 
 mod front;

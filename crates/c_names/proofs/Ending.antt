@@ -6,12 +6,12 @@ use Rattle.tape_ops.specs.declared.op.Op.{Op}
 use Rattle.name_rules.specs.Spellings.{Spelling}
 use Rattle.name_rules.specs.Scopes.{TypeNamed, Names}
 use Rattle.name_rules.specs.Pieces.{bare}
-use Rattle.name_rules.specs.Identifiers.{type_or_base, is_unknown}
-use Rattle.name_steps.specs.State.{State}
-use Rattle.name_steps.specs.Steps.{with_type, part_ended, bare_or_base, typed_by, auto_typed, name_declared, type_or, type_ended}
-use Rattle.shape_steps.specs.State as shape_states
-use Rattle.shape_steps.specs.Steps as shapes
-use Rattle.c_names.specs.Parts.{blamed, auto_declared, type_of_name, type_last, with_some_type}
+use Rattle.name_rules.specs.Identifiers.{type_or_base}
+use Rattle.name_rules.specs.NameSteps.State.{State}
+use Rattle.name_rules.specs.NameSteps.Steps.{with_type, part_ended, bare_or_base, typed_by, auto_typed, name_declared, type_or}
+use Rattle.name_rules.specs.ShapeSteps.State as shape_states
+use Rattle.name_rules.specs.ShapeSteps.Steps as shapes
+use Rattle.c_names.specs.Parts.{blamed, auto_declared, type_of_name, with_some_type}
 
 pub shapes_on : (u : Spelling) (s : Names) (tape : List Op) (i : ℕ) (op : Op) (st after : shape_states.State)
     → op ≡ slice_index_or tape i op → i < length tape → after ≡ shapes.step u s st op
@@ -26,11 +26,8 @@ bare_made : (o : Option CType) → type_or_base (option_map bare o) ≡ bare_or_
 bare_made None = refl
 bare_made (Some t) = refl
 
-bare_unknown : (o : Option CType) → is_unknown (option_map bare o) ≡ is_unknown o
-bare_unknown None = refl
-bare_unknown (Some t) = refl
-
-blamed_bare : (u : Spelling) (token : ℕ) (o : Option CType) (st : State) → blamed u token (option_map bare o) st ≡ blamed u token o st
+blamed_bare : (u : Spelling) (token : ℕ) (o : Option CType) (st : State)
+    → blamed u token (option_map bare o) st ≡ blamed u token o st
 blamed_bare u token None st = refl
 blamed_bare u token (Some t) st = refl
 
@@ -54,9 +51,6 @@ ended_by : (o : Option TypeNamed) (st : State) →
 ended_by None st = refl
 ended_by (Some it) st = refl
 
-pub type_ended_is : (st : State) → with_some_type (type_last (part_ended st)) (part_ended st) ≡ type_ended st
-type_ended_is st = ended_by (last_or None st.names.type_names) (part_ended st)
-
 -- the last of what a list shows
 
 pub map_last : {A B : Type 0} (f : A → B) (o : Option A) (xs : List A) → last_or (option_map f o) (map f xs)
@@ -71,7 +65,3 @@ last_from x (y ∷ ys) = last_from y ys
 pub last_get : {A : Type 0} (xs : List A) → slice_get xs (length xs - 1) ≡ last_or None xs
 last_get [] = refl
 last_get (x ∷ xs) = let e : length (x ∷ xs) - 1 ≡ length xs = omega arith in rw e (last_from x xs)
-
-pub last_shown : {A : Type 0} (f : A → TypeNamed) (xs : List A) →
-    type_of_name (last_or None (map f xs)) ≡ type_of_name (option_map f (last_or None xs))
-last_shown f xs = ap type_of_name (map_last f None xs)

@@ -1,15 +1,16 @@
--- The numbers of types that a state holds are those of its table: what is shown alike by the types of all tables that this
+-- The numbers of types that a state holds are those of its table: what is shown alike by the types of all tables that
+-- this
 -- one grows to, does not depend on numbers past it.
 use Rattle.std.proofs.Common.{arith, ◌≡◌, ℕ, zero, suc, ◌+◌, slice_index_or, take, ◌<◌, ◌≤◌, nat_lt, List, [], ◌∷◌, ◌++◌, length, map, Option, Some, None, inl, inr, refl, sym, ◌∙◌, ap, Vec, Global, if◌then◌else◌}
 use Rattle.std.proofs.lemmas.Bool.{cases_lt, lt-ltb, le-ltb}
 use Rattle.type_table.specs.declared.row.Row.{Row}
 use Rattle.type_table.specs.Types.{CType, base, void}
 use Rattle.type_table.specs.Rows.{type_of, AreBelow}
-use Rattle.name_types.specs.Known.{Knows, Grows, so_far_type, IsLow}
-use Rattle.name_types.specs.declared.types.SoFar.{SoFar}
-use Rattle.name_types.specs.declared.types.SoFar.TheVariants as so_fars
-use Rattle.name_steps.specs.State as steps
-use Rattle.name_steps.specs.Steps.{names_step, passed_on, step}
+use Rattle.name_state.specs.NameTypes.Known.{Knows, Grows, so_far_type, IsLow}
+use Rattle.name_state.specs.declared.name_types.types.SoFar.{SoFar}
+use Rattle.name_state.specs.declared.name_types.types.SoFar.TheVariants as so_fars
+use Rattle.name_rules.specs.NameSteps.State as steps
+use Rattle.name_rules.specs.NameSteps.Steps.{names_step, passed_on, step}
 use Rattle.tape_ops.specs.declared.op.Op.{Op}
 use Rattle.name_rules.specs.Spellings.{Spelling}
 use Rattle.c_names.specs.declared.state.OpenDeclaration.{OpenDeclaration}
@@ -142,7 +143,8 @@ stepped t u tape at op old new is lt made =
     ap (λ p. state_of t p new) (taken tape at op is lt) ∙ ap (passed_on op) made
 
 -- a step leaves a state that is shown alike
-pub shown_after : (u : Spelling) (op : Op) (before behind : List Op) (old new : List Row) (s after : State) → IsShown old s
+pub shown_after : (u : Spelling) (op : Op) (before behind : List Op) (old new : List Row) (s after : State)
+    → IsShown old s
     → Grows old new
     → ((t : ℕ → CType) → Knows t new → state_of t behind after ≡ step u (state_of t before s) op) → IsShown new after
 unfolding state_of

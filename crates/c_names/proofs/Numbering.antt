@@ -35,7 +35,8 @@ number_behind (x ∷ all) it key new =
     by false false apart rest = ap (option_map suc) rest
 
 -- one more, of a new spelling
-pub one_numbered : (all new : List OldParameter) (it : OldParameter) (n : ℕ) (before after : NumberTable) → AreNumbered all before →
+pub one_numbered : (all new : List OldParameter) (it : OldParameter) (n : ℕ) (before after : NumberTable)
+    → AreNumbered all before →
     number_in it.key all ≡ None → new ≡ all ++ it ∷ [] → n ≡ length all →
     ((key : ℕ) → number_there after key ≡ (if nat_eq it.key key then Some n else number_there before key)) →
     AreNumbered new after
@@ -45,7 +46,8 @@ one_numbered all new it n before after h unknown is at set = record {
       sym (number_behind all it key unknown) ∙ ap (number_in key) (sym is);
 }
 
-typed_number : (all : List OldParameter) (n ty key : ℕ) → number_in key (changed_at all n (typed_once ty)) ≡ number_in key all
+typed_number : (all : List OldParameter) (n ty key : ℕ)
+    → number_in key (changed_at all n (typed_once ty)) ≡ number_in key all
 typed_number [] n ty key = refl
 typed_number (it ∷ all) zero ty key = refl
 typed_number (it ∷ all) (suc n) ty key =
@@ -64,7 +66,8 @@ changed [] n x y f lt is made = absurd (omega arith)
 changed (z ∷ xs) zero x y f lt is made = ap (λ w. w ∷ xs) (made ∙ ap f is)
 changed (z ∷ xs) (suc n) x y f lt is made = ap (λ ys. z ∷ ys) (changed xs n x y f (omega arith) is made)
 
-pub unchanged : (xs : List OldParameter) (n : ℕ) (f : OldParameter → OldParameter) → length xs ≤ n → xs ≡ changed_at xs n f
+pub unchanged : (xs : List OldParameter) (n : ℕ) (f : OldParameter → OldParameter) → length xs ≤ n
+    → xs ≡ changed_at xs n f
 unchanged [] n f le = refl
 unchanged (z ∷ xs) zero f le = absurd (omega arith)
 unchanged (z ∷ xs) (suc n) f le = ap (λ ys. z ∷ ys) (unchanged xs n f (omega arith))

@@ -20,7 +20,8 @@ module _ (t : ℕ → CType) where
   number_shown (it ∷ ids) key =
       ap (λ (o : Option ℕ). if nat_eq it.key key then Some 0 else option_map suc o) (number_shown ids key)
 
-  has_shown : (ids : List OldParameter) (key : ℕ) → has_identifier key (map (old_of t) ids) ≡ is_some (number_in key ids)
+  has_shown : (ids : List OldParameter) (key : ℕ)
+      → has_identifier key (map (old_of t) ids) ≡ is_some (number_in key ids)
   has_shown [] key = refl
   has_shown (it ∷ ids) key = by (nat_eq it.key key) (number_in key ids) (has_shown ids key) where
     by : (b : Bool) (o : Option ℕ) → has_identifier key (map (old_of t) ids) ≡ is_some o →
@@ -29,7 +30,8 @@ module _ (t : ℕ → CType) where
     by false None h = h
     by false (Some n) h = h
 
-  typed_shown : (ids : List OldParameter) (n : ℕ) → is_typed (slice_get (map (old_of t) ids) n) ≡ is_typed_in (slice_get ids n)
+  typed_shown : (ids : List OldParameter) (n : ℕ)
+      → is_typed (slice_get (map (old_of t) ids) n) ≡ is_typed_in (slice_get ids n)
   typed_shown [] n = refl
   typed_shown (it ∷ ids) zero = by it.ty where
     by : (o : Option ℕ) → is_some (option_map t o) ≡ is_some o
@@ -39,7 +41,8 @@ module _ (t : ℕ → CType) where
 
   once_shown : (it : OldParameter) (ty : ℕ) → old_of t (typed_once ty it) ≡ typed_first (t ty) (old_of t it)
   once_shown it ty = by it.ty where
-    by : (o : Option ℕ) → old_of t (typed_once ty (record it { ty = o })) ≡ typed_first (t ty) (old_of t (record it { ty = o }))
+    by : (o : Option ℕ)
+        → old_of t (typed_once ty (record it { ty = o })) ≡ typed_first (t ty) (old_of t (record it { ty = o }))
     by None = refl
     by (Some first) = refl
 
@@ -50,7 +53,8 @@ module _ (t : ℕ → CType) where
   changed_shown (it ∷ ids) (suc n) ty = ap (λ xs. old_of t it ∷ xs) (changed_shown ids n ty)
 
   pub declared_is : (u : Spelling) (own : Option Place) (it : Named) (ty : ℕ) (ids new : List OldParameter) (number : ℕ)
-      (names after : Names) → Some number ≡ number_in (u.key it.name) ids → new ≡ changed_at ids number (typed_once ty) →
+      (names after : Names) → Some number ≡ number_in (u.key it.name) ids
+      → new ≡ changed_at ids number (typed_once ty) →
       after ≡ declared_param u (Some it) number own (t ty)
       (with_faults (fault_where (is_typed_in (slice_get ids number)) (place u it.token) defined_twice) names) →
       with_names (map (old_of t) new) after ≡

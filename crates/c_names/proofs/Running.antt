@@ -2,8 +2,8 @@
 use Rattle.std.proofs.Common.{arith, ◌≡◌, ℕ, zero, suc, ◌+◌, ◌<◌, List, [], ◌∷◌, length, drop, slice_index_or, ◌∙◌, ap}
 use Rattle.tape_ops.specs.declared.op.Op.{Op}
 use Rattle.name_rules.specs.Spellings.{Spelling}
-use Rattle.name_steps.specs.State.{State}
-use Rattle.name_steps.specs.Steps.{step, run}
+use Rattle.name_rules.specs.NameSteps.State.{State}
+use Rattle.name_rules.specs.NameSteps.Steps.{step, run}
 
 pub runs_on : (u : Spelling) (tape : List Op) (i : ℕ) (op : Op) (s after : State) → op ≡ slice_index_or tape i op
     → i < length tape → after ≡ step u s op

@@ -4,9 +4,10 @@ use Rattle.type_table.specs.Types.{CType}
 use Rattle.name_rules.specs.Spellings.{Spelling, Named}
 use Rattle.name_rules.specs.Pieces.{decayed}
 use Rattle.name_rules.specs.Declaring.{declared_param}
-use Rattle.name_steps.specs.State.{State, with_innermost}
-use Rattle.name_steps.specs.Steps.{parameters}
+use Rattle.name_rules.specs.NameSteps.State.{State, with_innermost}
+use Rattle.name_rules.specs.NameSteps.Steps.{parameters}
 
+-- the innermost list has one parameter more, with this name, where it has one, and this type
 abbrev pub parameter_added : Spelling → Option Named → CType → State → State
 parameter_added u it t st =
     record st {

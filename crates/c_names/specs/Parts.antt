@@ -7,8 +7,8 @@ use Rattle.name_rules.specs.Faults.{no_type, fault_where}
 use Rattle.name_rules.specs.Scopes.{TypeNamed, with_faults}
 use Rattle.name_rules.specs.Pieces.{with_words}
 use Rattle.name_rules.specs.Identifiers.{is_unknown}
-use Rattle.name_steps.specs.State.{State, with_innermost}
-use Rattle.name_steps.specs.Steps.{declaration, with_type}
+use Rattle.name_rules.specs.NameSteps.State.{State, with_innermost}
+use Rattle.name_rules.specs.NameSteps.Steps.{declaration, with_type}
 
 -- a number, where there is one, is below this
 abbrev pub IsLowSome : ℕ → Option ℕ → Type 0
@@ -28,6 +28,7 @@ declared_as t st =
 abbrev pub auto_declared : CType → State → State
 auto_declared t st = declared_as (with_words (words_of (declaration st).type) t) st
 
+-- the type of a type's name, where there is one
 abbrev pub type_of_name : Option TypeNamed → Option CType
 type_of_name None = None
 type_of_name (Some it) = Some it.type
@@ -36,6 +37,7 @@ type_of_name (Some it) = Some it.type
 abbrev pub type_last : State → Option CType
 type_last st = type_of_name (last_or None st.names.type_names)
 
+-- the specifiers have this type, where there is one
 abbrev pub with_some_type : Option CType → State → State
 with_some_type None st = st
 with_some_type (Some t) st = with_type t st

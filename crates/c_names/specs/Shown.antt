@@ -3,12 +3,12 @@ use Rattle.std.specs.Prelude.{◌≡◌, ℕ, List, map, take, option_map, Vec}
 use Rattle.std.specs.Global.{Global}
 use Rattle.type_table.specs.declared.row.Row.{Row}
 use Rattle.type_table.specs.Types.{CType}
-use Rattle.name_types.specs.Known.{Knows, so_far_type}
-use Rattle.name_steps.specs.State as steps
-use Rattle.name_uses.specs.Named.{named_of}
+use Rattle.name_state.specs.NameTypes.Known.{Knows, so_far_type}
+use Rattle.name_rules.specs.NameSteps.State as steps
+use Rattle.name_state.specs.NameUses.Named.{named_of}
 use Rattle.name_rules.specs.Scopes as rules
-use Rattle.unit_names.specs.declared.names.Names.{Names}
-use Rattle.unit_names.specs.Shown.{names_of}
+use Rattle.name_state.specs.declared.unit_names.names.Names.{Names}
+use Rattle.name_state.specs.UnitNames.Shown.{names_of}
 use Rattle.c_names.specs.declared.state.Specifiers.{Specifiers}
 use Rattle.c_names.specs.declared.state.OpenBody.{OpenBody}
 use Rattle.c_names.specs.declared.state.OpenDeclaration.{OpenDeclaration}
@@ -76,6 +76,7 @@ module _ (t : ℕ → CType) where
 abbrev pub state_at : (ℕ → CType) → List Op → ℕ → State → steps.State
 state_at t tape at s = state_of t (take at tape) s
 
+-- a state, with these ops as those that were passed
 abbrev pub passed_by : List Op → steps.State → steps.State
 passed_by passed s = record s { passed = passed }
 

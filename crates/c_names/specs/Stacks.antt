@@ -1,6 +1,7 @@
 -- The innermost item of a stack.
 use Rattle.std.specs.Prelude.{List, [], ◌∷◌, Option, Some, None}
 
+-- the innermost item, where there is one
 abbrev pub top : {A : Type 0} → List A → Option A
 top [] = None
 top (x ∷ xs) = Some x

@@ -3,30 +3,30 @@
 ghost use Rattle.std.specs.Prelude.{◌≡◌, ◌≤◌, ◌<◌, ℕ, OnOk, length, option_map, List, []};
 ghost use Rattle.tape_ops.specs.declared.op.Op.{Op};
 ghost use Rattle.type_table.specs.Types.{CType};
-ghost use Rattle.name_types.specs.Known.{Knows, Grows};
+ghost use Rattle.name_state.specs.NameTypes.Known.{Knows, Grows};
 ghost use Rattle.name_rules.specs.Declaring.{own_where};
 ghost use Rattle.name_rules.specs.Spellings.{place};
-ghost use Rattle.name_steps.specs.Steps.{declaration, with_name, pointed, called_with, linked_some, parameters_begun, let_go, with_parameter, parameters_ended, name_declared, with_member, with_type_name, declarator_step};
-ghost use Rattle.unit_spelling.specs.Spelled.{spelling_of};
+ghost use Rattle.name_rules.specs.NameSteps.Steps.{declaration, with_name, pointed, called_with, linked_some, parameters_begun, let_go, with_parameter, parameters_ended, name_declared, with_member, with_type_name, declarator_step};
+ghost use Rattle.name_tables.specs.UnitSpelling.Spelled.{spelling_of};
 ghost use Rattle.unit_shapes.specs.Views.{AreImplicit};
 ghost use Rattle.c_names.specs.Shown.{state_of, state_at, IsShown};
 ghost use Rattle.c_names.specs.Parameters.{parameter_added};
-ghost use Rattle.name_uses.specs.Named.{named_of};
+ghost use Rattle.name_state.specs.NameUses.Named.{named_of};
 
 use crate::identifiers::Identifiers;
 use crate::old::add_identifiers;
 use crate::specifier::no_specifiers;
 use crate::state::{OpenParameters, State};
-use name_scopes::Place;
-use name_types::Types;
-use name_uses::{
+use name_state::name_types::Types;
+use name_state::name_uses::{
     Named, declare_member, declare_name, declare_parameter, name_type, untagged_number,
 };
+use name_tables::name_scopes::Place;
+use name_tables::unit_spelling::Spelling;
 use qual_base::{NameId, NoMemory, TokenId, TypeId};
 use std::mem;
 use tape_ops::{DeclrOp, Op};
 use unit_shapes::ImplicitTypes;
-use unit_spelling::Spelling;
 
 impl State {
     /// The name of a declarator. Constant time.

@@ -3,27 +3,27 @@
 ghost use Rattle.std.specs.Prelude.{◌≡◌, ◌<◌, ◌++◌, [], ℕ, List, Option, OnOk, length, map, option_map};
 ghost use Rattle.tape_ops.specs.declared.op.Op.{Op};
 ghost use Rattle.type_table.specs.Types.{CType, base};
-ghost use Rattle.name_types.specs.Known.{Knows, Grows};
+ghost use Rattle.name_state.specs.NameTypes.Known.{Knows, Grows};
 ghost use Rattle.c_words.specs.declared.kinds.Keyword.TheVariants as keywords;
 ghost use Rattle.name_rules.specs.Identifiers.{identified, number_of_identifier, old_declared, old_declared_some, old_faults, old_types, type_or_base};
 ghost use Rattle.name_rules.specs.Declaring.{has_word};
 ghost use Rattle.name_rules.specs.Pieces.{decayed};
-ghost use Rattle.name_steps.specs.Steps.{declaration, parameters, olds, with_olds, name_ended, with_identifier, with_old_parameter};
-ghost use Rattle.unit_spelling.specs.Spelled.{spelling_of};
-ghost use Rattle.unit_names.specs.Shown.{names_of};
-ghost use Rattle.name_uses.specs.Named.{named_of};
+ghost use Rattle.name_rules.specs.NameSteps.Steps.{declaration, parameters, olds, with_olds, name_ended, with_identifier, with_old_parameter};
+ghost use Rattle.name_tables.specs.UnitSpelling.Spelled.{spelling_of};
+ghost use Rattle.name_state.specs.UnitNames.Shown.{names_of};
+ghost use Rattle.name_state.specs.NameUses.Named.{named_of};
 ghost use Rattle.c_names.specs.Shown.{state_of, old_of, olds_of, IsShown};
 
 use crate::identifiers::{Identifiers, OldParameter};
 use crate::state::State;
 use c_words::Keyword;
-use name_records::Rule;
-use name_scopes::Place;
-use name_types::Types;
-use name_uses::{Named, declare_parameter, has_word};
+use name_state::name_types::Types;
+use name_state::name_uses::{Named, declare_parameter, has_word};
+use name_state::unit_names::Names;
+use name_tables::name_records::Rule;
+use name_tables::name_scopes::Place;
+use name_tables::unit_spelling::Spelling;
 use qual_base::{NameId, NoMemory, TokenId, TypeId};
-use unit_names::Names;
-use unit_spelling::Spelling;
 
 /// The type of a parameter; the base type where no declaration declares it.
 fn type_or(it: &OldParameter, plain: TypeId) -> TypeId

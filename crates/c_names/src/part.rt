@@ -3,34 +3,34 @@
 ghost use Rattle.std.specs.Prelude.{◌≡◌, [], None, ◌<◌, ◌≤◌, ℕ, IfOk, OnOk, length, option_map, drop, take, List};
 ghost use Rattle.tape_ops.specs.declared.op.Op.{Op};
 ghost use Rattle.type_table.specs.Types.{CType, pointer, words_of};
-ghost use Rattle.name_types.specs.Known.{Knows, Grows};
+ghost use Rattle.name_state.specs.NameTypes.Known.{Knows, Grows};
 ghost use Rattle.type_table.specs.Rows.{type_of};
 ghost use Rattle.name_rules.specs.Identifiers.{type_or_base};
-ghost use Rattle.name_steps.specs.Steps.{declaration, part, part_begun, part_ended, shape_of_part, with_type, typeof_ended, type_ended, auto_ended};
+ghost use Rattle.name_rules.specs.NameSteps.Steps.{declaration, part, part_begun, part_ended, shape_of_part, with_type, typeof_ended, type_ended, auto_ended};
 ghost use Rattle.c_names.specs.Parts.{IsLowSome, blamed, declared_as, auto_declared, type_last, with_some_type};
 ghost use Rattle.std.specs.List.{last_or};
-ghost use Rattle.unit_names.specs.Shown.{type_named_of};
-ghost use Rattle.unit_spelling.specs.Spelled.{spelling_of};
+ghost use Rattle.name_state.specs.UnitNames.Shown.{type_named_of};
+ghost use Rattle.name_tables.specs.UnitSpelling.Spelled.{spelling_of};
 ghost use Rattle.name_rules.specs.Pieces.{bare, with_words};
-ghost use Rattle.shape_steps.specs.State as states;
-ghost use Rattle.shape_steps.specs.Steps as steps;
-ghost use Rattle.shape_values.specs.Views.{shape_in, some_type, some_value_type};
+ghost use Rattle.name_rules.specs.ShapeSteps.State as states;
+ghost use Rattle.name_rules.specs.ShapeSteps.Steps as steps;
+ghost use Rattle.expr_shapes.specs.ShapeValues.Views.{shape_in, some_type, some_value_type};
 ghost use Rattle.unit_shapes.specs.Views.{names_in, AreImplicit};
 ghost use Rattle.c_names.specs.Shown.{state_of, state_at, IsShown};
 
 use crate::specifier::no_specifiers;
 use crate::state::{OpenPart, State};
-use name_records::{Rule, TypeNamed};
-use name_types::{SoFar, Types};
+use expr_shapes::shape_stacks::Stacks;
+use expr_shapes::shape_values::{ExprShape, ValueType, value};
+use name_state::name_types::{SoFar, Types};
+use name_state::unit_names::Names;
+use name_tables::name_records::{Rule, TypeNamed};
+use name_tables::unit_spelling::Spelling;
 use qual_base::{NoMemory, TokenId, TypeId};
-use shape_stacks::Stacks;
-use shape_values::{ExprShape, ValueType, value};
 use std::alloc::Global;
 use std::mem;
 use tape_ops::Op;
-use unit_names::Names;
 use unit_shapes::{ImplicitTypes, step};
-use unit_spelling::Spelling;
 
 /// The shape that the ops of an expression leave on the stack, by names that are known. Linear in the ops.
 fn shape_of(

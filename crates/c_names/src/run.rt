@@ -3,27 +3,27 @@
 ghost use Rattle.std.specs.Prelude.{◌≡◌, ◌≤◌, ℕ, [], length, OnOk, IfOk, List};
 ghost use Rattle.tape_ops.specs.declared.op.Op.{Op};
 ghost use Rattle.type_table.specs.Types.{CType};
-ghost use Rattle.name_types.specs.Known.{Knows, Grows};
+ghost use Rattle.name_state.specs.NameTypes.Known.{Knows, Grows};
 ghost use Rattle.name_rules.specs.Units.{no_names, unit_begun};
-ghost use Rattle.name_steps.specs.State.{with_names};
-ghost use Rattle.name_steps.specs.Steps.{is_plain, is_counted, expression_step, statement_step, names_step, run};
-ghost use Rattle.unit_spelling.specs.Spelled.{spelling_of};
+ghost use Rattle.name_rules.specs.NameSteps.State.{with_names};
+ghost use Rattle.name_rules.specs.NameSteps.Steps.{is_plain, is_counted, expression_step, statement_step, names_step, run};
+ghost use Rattle.name_tables.specs.UnitSpelling.Spelled.{spelling_of};
 ghost use Rattle.unit_shapes.specs.Views.{AreImplicit};
-ghost use Rattle.unit_names.specs.Shown.{names_of};
+ghost use Rattle.name_state.specs.UnitNames.Shown.{names_of};
 ghost use Rattle.c_names.specs.Shown.{state_of, state_at, passed_by, IsShown, AreShown};
 
 use crate::specifier::no_specifiers;
 use crate::stack::Stack;
 use crate::state::State;
 use c_words::Keyword;
-use name_types::Types;
-use name_uses::{enter_body, has_word, use_name};
+use name_state::name_types::Types;
+use name_state::name_uses::{enter_body, has_word, use_name};
+use name_state::unit_names::Names;
+use name_tables::unit_spelling::Spelling;
 use qual_base::NoMemory;
 use std::alloc::Global;
 use tape_ops::{ExprOp, Op, StmtOp};
-use unit_names::Names;
 use unit_shapes::ImplicitTypes;
-use unit_spelling::Spelling;
 
 impl State {
     /// Nothing is begun; names are known as before. Takes no memory.

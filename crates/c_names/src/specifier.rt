@@ -3,26 +3,26 @@
 ghost use Rattle.std.specs.Prelude.{◌≡◌, ◌≤◌, ◌<◌, ℕ, OnOk, length, List, []};
 ghost use Rattle.tape_ops.specs.declared.op.Op.{Op};
 ghost use Rattle.type_table.specs.Types.{CType};
-ghost use Rattle.name_types.specs.Known.{Knows, Grows, so_far_type};
+ghost use Rattle.name_state.specs.NameTypes.Known.{Knows, Grows, so_far_type};
 ghost use Rattle.name_rules.specs.Declaring.{tag_type, tag_used, tag_begun, untagged_begun};
-ghost use Rattle.name_steps.specs.State.{no_specifiers};
-ghost use Rattle.name_steps.specs.Steps.{body, declaration, with_type, with_word, untagged_by, without_tag, with_tag, with_body, body_ended, specifiers_ended, with_unnamed_member, specifier_step};
-ghost use Rattle.unit_spelling.specs.Spelled.{spelling_of};
+ghost use Rattle.name_rules.specs.NameSteps.State.{no_specifiers};
+ghost use Rattle.name_rules.specs.NameSteps.Steps.{body, declaration, with_type, with_word, untagged_by, without_tag, with_tag, with_body, body_ended, specifiers_ended, with_unnamed_member, specifier_step};
+ghost use Rattle.name_tables.specs.UnitSpelling.Spelled.{spelling_of};
 ghost use Rattle.unit_shapes.specs.Views.{AreImplicit};
 ghost use Rattle.c_names.specs.Shown.{state_of, state_at, specifiers_of, IsShown};
 
 use crate::state::{OpenBody, OpenDeclaration, Specifiers, State};
-use name_scopes::Place;
-use name_types::{SoFar, Types};
-use name_uses::{
+use name_state::name_types::{SoFar, Types};
+use name_state::name_uses::{
     Begun, begin_tag, begin_untagged, declare_enumerator, declare_unnamed, type_by, use_tag,
 };
+use name_tables::name_scopes::Place;
+use name_tables::unit_spelling::Spelling;
 use qual_base::{NameId, NoMemory, Numbered, StructId, TokenId, TypeId};
 use std::alloc::Global;
 use std::mem;
 use tape_ops::{Op, SpecOp, TagKind};
 use unit_shapes::ImplicitTypes;
-use unit_spelling::Spelling;
 
 /// Specifiers of which no word was read. Takes no memory.
 pub(crate) fn no_specifiers(alloc: Global) -> Specifiers

@@ -3,12 +3,12 @@
 use crate::identifiers::Identifiers;
 use crate::stack::Stack;
 use c_words::Keyword;
-use name_scopes::Place;
-use name_types::SoFar;
-use name_uses::Named;
+use name_state::name_types::SoFar;
+use name_state::name_uses::Named;
+use name_state::unit_names::Names;
+use name_tables::name_scopes::Place;
 use qual_base::{StructId, TypeId};
 use std::alloc::Global;
-use unit_names::Names;
 
 /// Specifiers: their type without annotation words, these words, the storage words and `inline`, and whether a struct or union
 /// without a tag is one of them, so far.

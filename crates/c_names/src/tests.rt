@@ -1,17 +1,17 @@
 //! What no clause says: that names are resolved where there is memory; and worked tapes.
 
 use crate::run::resolve_names;
-use name_records::{Role, Rule, Use};
-use name_types::Types;
+use name_state::name_types::Types;
+use name_state::unit_names::Names;
+use name_tables::name_records::{Role, Rule, Use};
+use name_tables::unit_spelling::Spelling;
 use qual_base::{NameId, NoMemory, Numbered, StructId, TokenId, TypeId, UnitNo};
 use std::alloc::Global;
 use std::process::Abort;
 use std::test::Fail;
 use tape_ops::{DeclrOp, ExprOp, Op, SpecOp, StmtOp, TagKind};
 use type_table::Shape;
-use unit_names::Names;
 use unit_shapes::ImplicitTypes;
-use unit_spelling::Spelling;
 
 /// A spelling without annotations.
 fn plain(alloc: Global) -> Spelling {

@@ -1,7 +1,10 @@
 //! Nodes of syntax trees with their heights, made of boxed parts.
 //!
-//! A reader of the program holds sized parts alone: each knows its height without a walk, and its
-//! type says that the height is right. Functions are named as the forms of trees that they make.
+//! A reader of the program holds sized parts alone: each knows its height without a walk, and its type says that the
+//! height is right. Functions are named as the forms of trees that they make.
+//!
+//! Entry: the functions of `making`. Invariant: a sized part has the height that its type says.
+//! It does not know the tokens before and behind. Above: the readers.
 #![tactic(auto)]
 
 mod declarators;

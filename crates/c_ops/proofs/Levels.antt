@@ -70,7 +70,8 @@ level_right (cond middle colon) = omega arith
 level_right (binary p) = omega arith
 
 -- an operator that takes another with its operands on its left ends the other's right operand
-pub ends_right : (op next : Operator) → IsOperator next → left_level next ≤ operator_level op → operator_level next < right_level op
+pub ends_right : (op next : Operator) → IsOperator next → left_level next ≤ operator_level op
+    → operator_level next < right_level op
 ends_right comma comma i h = omega arith
 ends_right comma (assign q) i h = omega arith
 ends_right comma (cond m c) i h = omega arith
@@ -89,7 +90,8 @@ ends_right (binary p) (cond m c) i h = omega arith
 ends_right (binary p) (binary q) i h = omega arith
 
 -- an operator that ends another's right operand can take that with its operands on its left, unless it assigns
-pub takes_left : (op next : Operator) → IsOperator op → is_assign next ≡ false → operator_level next < right_level op → left_level next ≤ operator_level op
+pub takes_left : (op next : Operator) → IsOperator op → is_assign next ≡ false → operator_level next < right_level op
+    → left_level next ≤ operator_level op
 takes_left op comma i a h = omega arith
 takes_left op (assign q) i a h = absurd cc
 takes_left comma (cond m c) i a h = omega arith

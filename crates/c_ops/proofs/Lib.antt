@@ -4,5 +4,3 @@ pub mod Unique
 pub mod Targets
 pub mod Progress
 pub mod Lasts
-pub mod Heights
-pub mod Stacks

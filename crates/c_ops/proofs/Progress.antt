@@ -52,7 +52,8 @@ pushed s e x h =
     in_order-pushed r.below r.last x.operator x.token x.operand h
     ∙ ap (λ (tree : Expr). appended (in_order tree []) (x ∷ [])) (settle_keeps (operator_level x.operator) s e).same
 
-pub goes_on : (list : Operations) (s : Stack) (e : Expr) (x : Entry) (k : List Entry) → Progress list s e (x ∷ k) → 13 ≤ expr_level x.operand → IsOperator x.operator →
+pub goes_on : (list : Operations) (s : Stack) (e : Expr) (x : Entry) (k : List Entry) → Progress list s e (x ∷ k)
+    → 13 ≤ expr_level x.operand → IsOperator x.operator →
     is_untargeted x.operator (settle_of (operator_level x.operator) s e).last ≡ false →
     Progress list (waits_after x (settle_of (operator_level x.operator) s e)) x.operand k
 goes_on list s e x k p h i t =
@@ -67,11 +68,13 @@ goes_on list s e x k p h i t =
       clean = ap bad_target added ∙ bad_target-pushed s e x.operator x.token x.operand p.operand ∙ rw (p.clean, t) refl;
     }
 
-first_bad-more : (k m : List Entry) (before : Option Operator) (e : Expr) (n : ℕ) → first_bad before e k ≡ Some n → first_bad before e (k ++ m) ≡ Some n
+first_bad-more : (k m : List Entry) (before : Option Operator) (e : Expr) (n : ℕ) → first_bad before e k ≡ Some n
+    → first_bad before e (k ++ m) ≡ Some n
 first_bad-more [] m before e n h = absurd cc
 first_bad-more (y ∷ k) m before e n h = by_test (λ h. first_bad-more k m (Some y.operator) y.operand n h) (is_bad before e y.operator) h
   where
-    by_test : (first_bad (Some y.operator) y.operand k ≡ Some n → first_bad (Some y.operator) y.operand (k ++ m) ≡ Some n) → (b : Bool) →
+    by_test : (first_bad (Some y.operator) y.operand k ≡ Some n → first_bad (Some y.operator) y.operand (k ++ m) ≡ Some n)
+        → (b : Bool) →
         (if b then Some y.token else first_bad (Some y.operator) y.operand k) ≡ Some n →
         (if b then Some y.token else first_bad (Some y.operator) y.operand (k ++ m)) ≡ Some n
     by_test rest true h = h
@@ -87,7 +90,8 @@ fails list s e x k p t =
 pub joined_all : (s : Stack) (e : Expr) → (settle_of 0 s e).last ≡ finished s e
 joined_all s e = ap (λ (b : Stack). finished b (settle_of 0 s e).last) (sym (settle_all s e)) ∙ (settle_keeps 0 s e).same
 
-pub ends : (list : Operations) (s : Stack) (e : Expr) → Progress list s e [] → IsTheTreeOf list (finished s e) × (bad_target list ≡ None)
+pub ends : (list : Operations) (s : Stack) (e : Expr) → Progress list s e []
+    → IsTheTreeOf list (finished s e) × (bad_target list ≡ None)
 ends list s e p =
     let o = in_order (finished s e) [] in
     let same : o ≡ list = ap (λ (r : List Entry). record { first = o.first; rest = r }) (sym (append-nil o.rest)) ∙ p.same in
@@ -117,7 +121,8 @@ tree_operand-leaf _ h = refl
 abbrev MayAssign : Option Operator → ℕ → Type 0
 MayAssign before n = (begins_side before ≡ true) ⊎ (2 ≤ n)
 
-assigns_well : (op : Operator) (before : Option Operator) (a : Expr) → left_level op ≤ expr_level a → MayAssign before (operator_level op) →
+assigns_well : (op : Operator) (before : Option Operator) (a : Expr) → left_level op ≤ expr_level a
+    → MayAssign before (operator_level op) →
     is_bad (tree_operator before a) (tree_operand a) op ≡ false
 assigns_well comma before a h m = refl
 assigns_well (cond x c) before a h m = refl
@@ -135,7 +140,8 @@ right_assigns (assign p) b h = inl refl
 right_assigns (cond m c) b h = inr h
 right_assigns (binary p) b h = inr (omega (arith, h))
 
-left_assigns : (op : Operator) (before : Option Operator) (a : Expr) → left_level op ≤ expr_level a → MayAssign before (operator_level op) → MayAssign before (expr_level a)
+left_assigns : (op : Operator) (before : Option Operator) (a : Expr) → left_level op ≤ expr_level a
+    → MayAssign before (operator_level op) → MayAssign before (expr_level a)
 left_assigns op before a h (inl is) = inl is
 left_assigns op before a h (inr low) = inr (omega (arith, h, low, level_left op))
 
@@ -162,12 +168,14 @@ some_is : (n : ℕ) → Some n ≡ None → ⊥
 some_is n h = absurd cc
 
 -- the tree of what is left
-pub made : (list : Operations) (k : List Entry) (s : Stack) (e : Expr) → Progress list s e k → AllOperands k → bad_target list ≡ None → IsTheTreeOf list (tree_from s e k)
+pub made : (list : Operations) (k : List Entry) (s : Stack) (e : Expr) → Progress list s e k → AllOperands k
+    → bad_target list ≡ None → IsTheTreeOf list (tree_from s e k)
 made list [] s e p h is = (ends list s e p).0
 made list (x ∷ k) s e p h is = by_test (λ p. made list k (waits_after x (settle_of (operator_level x.operator) s e)) x.operand p h.1 is) (is_untargeted x.operator (settle_of (operator_level x.operator) s e).last) refl
   where
     by_test : (Progress list (waits_after x (settle_of (operator_level x.operator) s e)) x.operand k → IsTheTreeOf list (tree_from s e (x ∷ k))) →
-        (b : Bool) → is_untargeted x.operator (settle_of (operator_level x.operator) s e).last ≡ b → IsTheTreeOf list (tree_from s e (x ∷ k))
+        (b : Bool) → is_untargeted x.operator (settle_of (operator_level x.operator) s e).last ≡ b
+        → IsTheTreeOf list (tree_from s e (x ∷ k))
     by_test rest true t = absurd (some_is x.token (sym (fails list s e x k p t) ∙ is))
     by_test rest false t = rest (goes_on list s e x k p h.0.1 h.0.0 t)
 

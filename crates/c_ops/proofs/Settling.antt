@@ -16,15 +16,18 @@ pub settle-kept : (n : ℕ) (s : Stack) (e : Expr) → Accepts s n → settle_of
 settle-kept n bottom e h = refl
 settle-kept n (above s l) e h = rw (le-leb (right_level l.operator) n h) refl
 
-pub settle-joins : (n : ℕ) (s : Stack) (l : Left) (e : Expr) → n < right_level l.operator → settle_of n (above s l) e ≡ settle_of n s (operation l.tree l.operator l.token e)
+pub settle-joins : (n : ℕ) (s : Stack) (l : Left) (e : Expr) → n < right_level l.operator
+    → settle_of n (above s l) e ≡ settle_of n s (operation l.tree l.operator l.token e)
 settle-joins n s l e h = rw (not_le (right_level l.operator) n h) refl
 
 pub record Keeps (n : ℕ) (s : Stack) (e : Expr) (r : Settled) : Type 0 where
   pub same : finished r.below r.last ≡ finished s e
   pub accepts : Accepts r.below n
   pub operators : AreOperators s → AreOperators r.below
-  pub good : IsStack s → IsLevelled e → Accepts s (expr_level e) → IsStack r.below × IsLevelled r.last × Accepts r.below (expr_level r.last)
-  pub left : (next : Operator) → is_assign next ≡ false → operator_level next ≡ n → AreOperators s → left_level next ≤ expr_level e → left_level next ≤ expr_level r.last
+  pub good : IsStack s → IsLevelled e → Accepts s (expr_level e)
+      → IsStack r.below × IsLevelled r.last × Accepts r.below (expr_level r.last)
+  pub left : (next : Operator) → is_assign next ≡ false → operator_level next ≡ n → AreOperators s
+      → left_level next ≤ expr_level e → left_level next ≤ expr_level r.last
   pub low : expr_level e ≤ 12 → expr_level r.last ≤ 12
 
 pub settle_keeps : (n : ℕ) (s : Stack) (e : Expr) → Keeps n s e (settle_of n s e)
@@ -73,6 +76,7 @@ pub accepts_leaf : (s : Stack) (e : Expr) → 13 ≤ expr_level e → Accepts s 
 accepts_leaf bottom e h = tt
 accepts_leaf (above s l) e h = omega (arith, right_most l.operator)
 
-pub finished_levelled : (s : Stack) (e : Expr) → IsStack s → IsLevelled e → Accepts s (expr_level e) → IsLevelled (finished s e)
+pub finished_levelled : (s : Stack) (e : Expr) → IsStack s → IsLevelled e → Accepts s (expr_level e)
+    → IsLevelled (finished s e)
 finished_levelled bottom e i l a = l
 finished_levelled (above s l) e i lev a = finished_levelled s (operation l.tree l.operator l.token e) i.0 (i.1, lev, i.2, i.3, a) i.4

@@ -51,7 +51,8 @@ abbrev pub newest : Stack → Option Operator
 newest bottom = None
 newest (above s l) = Some l.operator
 
-ends_behind : (s : Stack) (o : Operations) → Ends None (behind s o) (operator_before (newest s) o.rest) (last_of o.first o.rest)
+ends_behind : (s : Stack) (o : Operations)
+    → Ends None (behind s o) (operator_before (newest s) o.rest) (last_of o.first o.rest)
 ends_behind bottom o = record { operator = refl; operand = refl }
 ends_behind (above s l) o =
     let first = ends_behind s (in_order l.tree (joined l.operator l.token o)) in
@@ -75,7 +76,8 @@ first_bad-append (y ∷ k) before e x = by_test (is_bad before e y.operator) (fi
     by_test false rest = rest
 
 -- what stands on the left of an assignment is one unary form exactly where what is joined before it is one
-target_is : (s : Stack) (e : Expr) → nat_le 14 (expr_level (settle_of 1 s e).last) ≡ (begins_side (newest s) && nat_le 14 (expr_level e))
+target_is : (s : Stack) (e : Expr)
+    → nat_le 14 (expr_level (settle_of 1 s e).last) ≡ (begins_side (newest s) && nat_le 14 (expr_level e))
 target_is bottom e = refl
 target_is (above s l) e = by_operator l.operator refl
   where
@@ -85,7 +87,8 @@ target_is (above s l) e = by_operator l.operator refl
         (not_le 14 (expr_level (settle_of 1 s (operation l.tree l.operator l.token e)).last)
         (let low = (settle_keeps 1 s (operation l.tree l.operator l.token e)).low (level_most l.operator) in omega (arith, low)))
 
-    by_operator : (op : Operator) → l.operator ≡ op → nat_le 14 (expr_level (settle_of 1 (above s l) e).last) ≡ (begins_side (Some op) && nat_le 14 (expr_level e))
+    by_operator : (op : Operator) → l.operator ≡ op
+        → nat_le 14 (expr_level (settle_of 1 (above s l) e).last) ≡ (begins_side (Some op) && nat_le 14 (expr_level e))
     by_operator comma is = ap (λ (r : Settled). nat_le 14 (expr_level r.last)) (settle-kept 1 (above s l) e (omega (arith, ap right_level is)))
     by_operator (assign p) is = ap (λ (r : Settled). nat_le 14 (expr_level r.last)) (settle-kept 1 (above s l) e (omega (arith, ap right_level is)))
     by_operator (cond m c) is = joins (omega (arith, ap right_level is))

@@ -32,13 +32,15 @@ follows_more [] n m h l = tt
 follows_more (x ∷ k) n m h l = (h.0, omega (arith, h.1))
 
 -- an operator joins its operands before what follows
-joins_first : (k : List Entry) (s : Stack) (l : Left) (e : Expr) → Follows k (operator_level l.operator) → fed k (above s l) e ≡ fed k s (operation l.tree l.operator l.token e)
+joins_first : (k : List Entry) (s : Stack) (l : Left) (e : Expr) → Follows k (operator_level l.operator)
+    → fed k (above s l) e ≡ fed k s (operation l.tree l.operator l.token e)
 joins_first [] s l e h = refl
 joins_first (x ∷ k) s l e h =
     let later : operator_level x.operator ≤ operator_level x.operator = omega arith in
     ap (fed_with (λ s e. fed k s e) x) (settle-joins (operator_level x.operator) s l e (ends_right l.operator x.operator h.0 h.1))
 
-feeds : (e : Expr) (s : Stack) (k : List Entry) → IsLevelled e → Accepts s (expr_level e) → Follows k (expr_level e) → fed_list s (in_order e k) ≡ fed k s e
+feeds : (e : Expr) (s : Stack) (k : List Entry) → IsLevelled e → Accepts s (expr_level e) → Follows k (expr_level e)
+    → fed_list s (in_order e k) ≡ fed k s e
 feeds (operation a op token b) s k h accepts follows =
     let o = in_order b k in
     feeds a s (joined op token o) h.0 (accepts_more s (operator_level op) (expr_level a) accepts (omega (arith, level_left op, h.3))) (h.2, h.3)

@@ -25,6 +25,7 @@ abbrev pub Accepts : Stack → ℕ → Type 0
 Accepts bottom n = Unit {0}
 Accepts (above s l) n = right_level l.operator ≤ n
 
+-- left operands that still wait, and the last operand, into which the others were joined
 pub record Settled : Type 0 where
   pub below : Stack
   pub last : Expr
@@ -34,6 +35,7 @@ abbrev pub settle_of : ℕ → Stack → Expr → Settled
 settle_of n bottom e = record { below = bottom; last = e }
 settle_of n (above s l) e = if nat_le (right_level l.operator) n then record { below = above s l; last = e } else settle_of n s (operation l.tree l.operator l.token e)
 
+-- each left operand waits at an operator of the precedence table
 abbrev pub AreOperators : Stack → Type 0
 AreOperators bottom = Unit {0}
 AreOperators (above s l) = AreOperators s × IsOperator l.operator

@@ -9,6 +9,7 @@ pub record Entry : Type 0 where
   pub token : ℕ
   pub operand : Expr
 
+-- a first operand, and operators each with the operand behind it
 pub record Operations : Type 0 where
   pub first : Expr
   pub rest : List Entry
@@ -36,6 +37,7 @@ pub record IsTreeOf (list : Operations) (tree : Expr) : Type 0 where
   pub same : in_order tree [] ≡ list
   pub levelled : IsLevelled tree
 
+-- whether an operator assigns
 abbrev pub is_assign : Operator → Bool
 is_assign (assign p) = true
 is_assign _ = false
@@ -61,6 +63,7 @@ abbrev pub first_bad : Option Operator → Expr → List Entry → Option ℕ
 first_bad before operand [] = None
 first_bad before operand (x ∷ k) = if is_bad before operand x.operator then Some x.token else first_bad (Some x.operator) x.operand k
 
+-- the token of the first assignment of a list whose left side is no unary form, if any
 abbrev pub bad_target : Operations → Option ℕ
 bad_target list = first_bad None list.first list.rest
 

@@ -5,15 +5,16 @@ use Rattle.c_tree.specs.Levels.{IsOperator, expr_level, operator_level}
 use Rattle.c_ops.specs.Operations.{Entry, Operations, IsTreeOf, bad_target}
 use Rattle.c_ops.specs.Joining.{Stack, bottom, above, Settled, settle_of, finished}
 
--- an operator of the table with an operand, which is at least a cast
+-- an operator of the table, and behind it an operand that is at least a cast
 abbrev pub IsOperand : Entry → Type 0
 IsOperand x = IsOperator x.operator × (13 ≤ expr_level x.operand)
 
+-- operators of the table, each with an operand that is at least a cast
 abbrev pub AllOperands : List Entry → Type 0
 AllOperands [] = Unit {0}
 AllOperands (x ∷ k) = IsOperand x × AllOperands k
 
--- what is between two operators is one operand
+-- a list whose operands are casts or forms that hold together more tightly, with operators of the table
 pub record AreOperands (list : Operations) : Type 0 where
   pub first : 13 ≤ expr_level list.first
   pub rest : AllOperands list.rest

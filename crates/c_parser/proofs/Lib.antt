@@ -1,3 +1,4 @@
 pub mod Numbering
 pub mod TapeOfItems
 pub mod Refusals
+pub mod UnitForms

@@ -1,4 +1,5 @@
--- What the reader of units refuses is refused with the first bad token, and with a code that is allowed where that is proved.
+-- What the reader of units refuses is refused with the first bad token, and with a code that is allowed where that is
+-- proved.
 use Rattle.std.proofs.Common.{◌≡◌, ◌≢◌, ℕ, suc, ◌+◌, Bool, false, List, [], ◌∷◌, ◌++◌, take, Ok, Err, refl, ◌∙◌, sym, ap, subst}
 use Rattle.c_words.specs.declared.kinds.Keyword.TheVariants as keywords
 use Rattle.c_words.specs.declared.kinds.TokenKind.{TokenKind}
@@ -35,7 +36,8 @@ as_it_is (kinds.Keyword keywords.Atomic) = refl
 as_it_is kind = refl
 
 -- the last kind stands last, whatever those before it are read as
-kinds_front : (front : List Token) (last : Token) → (ks : List TokenKind) × (kinds_in (front ++ last ∷ []) ≡ ks ++ read_before last.kind false ∷ [])
+kinds_front : (front : List Token) (last : Token)
+    → (ks : List TokenKind) × (kinds_in (front ++ last ∷ []) ≡ ks ++ read_before last.kind false ∷ [])
 kinds_front [] last = ([], refl)
 kinds_front (t ∷ front) last =
     let rest = kinds_front front last in
@@ -68,14 +70,16 @@ not_deep reading.Redeclared token h e = absurd cc
 not_deep reading.BadMix token h e = absurd cc
 not_deep reading.BadTarget token h e = absurd cc
 
-syntax_is : (fault : Fault) (one token : ℕ) → faults.Syntax token ≡ fault_named fault one → (fault ≡ reading.Unexpected) × (token ≡ one)
+syntax_is : (fault : Fault) (one token : ℕ) → faults.Syntax token ≡ fault_named fault one
+    → (fault ≡ reading.Unexpected) × (token ≡ one)
 syntax_is reading.Unexpected one token e = (refl, cc)
 syntax_is reading.TooDeep one token e = absurd cc
 syntax_is reading.Redeclared one token e = absurd cc
 syntax_is reading.BadMix one token e = absurd cc
 syntax_is reading.BadTarget one token e = absurd cc
 
-deep_is : (fault : Fault) (one token : ℕ) → faults.TooDeep token ≡ fault_named fault one → (fault ≡ reading.TooDeep) × (token ≡ one)
+deep_is : (fault : Fault) (one token : ℕ) → faults.TooDeep token ≡ fault_named fault one
+    → (fault ≡ reading.TooDeep) × (token ≡ one)
 deep_is reading.Unexpected one token e = absurd cc
 deep_is reading.TooDeep one token e = (refl, cc)
 deep_is reading.Redeclared one token e = absurd cc
@@ -83,30 +87,36 @@ deep_is reading.BadMix one token e = absurd cc
 deep_is reading.BadTarget one token e = absurd cc
 
 module _ (wide : Bool) (tokens : List Token) (ended : tokens_end.IsEnded tokens) where
-  refuses : (named : Fault) (token : ℕ) → unit_at wide (numbered 0 tokens) ≡ Err (named, token) → places.Refuses wide (kinds_in tokens) named token
+  refuses : (named : Fault) (token : ℕ) → unit_at wide (numbered 0 tokens) ≡ Err (named, token)
+      → places.Refuses wide (kinds_in tokens) named token
   refuses named token e = ap (unit_at wide) (sym (numbered_kinds 0 tokens)) ∙ e
 
-  pub first_of : places.PlaceIsFirst → (fault : ParseFault) → IsRefused wide tokens fault → IsFirstBad wide (kinds_in tokens) (token_of fault)
+  pub first_of : places.PlaceIsFirst → (fault : ParseFault) → IsRefused wide tokens fault
+      → IsFirstBad wide (kinds_in tokens) (token_of fault)
   first_of law fault r =
       subst (IsFirstBad wide (kinds_in tokens)) (sym (ap token_of r.is ∙ token_is r.named r.token)) (law wide (kinds_in tokens) r.named r.token (kinds_ended tokens ended) (refuses r.named r.token r.refused))
 
-  pub height_of : places.HeightAlone → (fault : ParseFault) → IsRefused wide tokens fault → is_for_height fault ≡ false → ¬ BeginsUnitOfAnyHeight wide (take (token_of fault + 1) (kinds_in tokens))
+  pub height_of : places.HeightAlone → (fault : ParseFault) → IsRefused wide tokens fault → is_for_height fault ≡ false
+      → ¬ BeginsUnitOfAnyHeight wide (take (token_of fault + 1) (kinds_in tokens))
   height_of law fault r low =
       subst (λ (token : ℕ). ¬ BeginsUnitOfAnyHeight wide (take (token + 1) (kinds_in tokens))) (sym (ap token_of r.is ∙ token_is r.named r.token))
       (law wide (kinds_in tokens) r.named r.token (kinds_ended tokens ended) (refuses r.named r.token r.refused) (not_deep r.named r.token (ap is_for_height (sym r.is) ∙ low)))
 
-  pub allowed_of : places.SyntaxIsAllowed → (token : ℕ) → IsRefused wide tokens (faults.Syntax token) → IsAllowed wide (kinds_in tokens) token syntax
+  pub allowed_of : places.SyntaxIsAllowed → (token : ℕ) → IsRefused wide tokens (faults.Syntax token)
+      → IsAllowed wide (kinds_in tokens) token syntax
   allowed_of law token r =
       let s = syntax_is r.named r.token token r.is in
       subst (λ (token : ℕ). IsAllowed wide (kinds_in tokens) token syntax) (sym s.1)
       (law wide (kinds_in tokens) r.token (kinds_ended tokens ended) (refuses reading.Unexpected r.token (subst (λ (named : Fault). unit_at wide (numbered 0 tokens) ≡ Err (named, r.token)) s.0 r.refused)))
 
-  pub deep_of : OnlyTheHeight → (token : ℕ) → IsRefused wide tokens (faults.TooDeep token) → IsAllowed wide (kinds_in tokens) token too_deep
+  pub deep_of : OnlyTheHeight → (token : ℕ) → IsRefused wide tokens (faults.TooDeep token)
+      → IsAllowed wide (kinds_in tokens) token too_deep
   deep_of law token r =
       let d = deep_is r.named r.token token r.is in
       subst (λ (token : ℕ). IsAllowed wide (kinds_in tokens) token too_deep) (sym d.1)
       (law wide (kinds_in tokens) r.token (kinds_ended tokens ended) (refuses reading.TooDeep r.token (subst (λ (named : Fault). unit_at wide (numbered 0 tokens) ≡ Err (named, r.token)) d.0 r.refused)))
 
 -- the reader's error, as a refusal
-pub refusal_of : (read : Read (List Item)) (error : ReadError) (named : Fault) (token : ℕ) → error ≡ errors.Fault named token → Fails error read → read ≡ Err (named, token)
+pub refusal_of : (read : Read (List Item)) (error : ReadError) (named : Fault) (token : ℕ)
+    → error ≡ errors.Fault named token → Fails error read → read ≡ Err (named, token)
 refusal_of read error named token is fails = let At : ReadError → Type 0 = λ e. Fails e read in subst At is fails

@@ -46,12 +46,14 @@ taped (Ok x) = Ok (record { tree = tape_of x.tree; scopes = x.scopes; rest = x.r
 taped (Err e) = Err e
 
 -- a turn of the tape takes a token where one of the trees does
-pub tape_takes : (depth room : ℕ) → TakesToken (repeated_turn no_end (item_with (knot depth) room)) → TakesToken (tape_turn depth room)
+pub tape_takes : (depth room : ℕ) → TakesToken (repeated_turn no_end (item_with (knot depth) room))
+    → TakesToken (tape_turn depth room)
 unfolding and_then
 tape_takes depth room takes ops s ts x is = by_test (no_end (kind_at ts)) refl (item_with (knot depth) room s ts) refl is
   where
     by_test : (b : Bool) → no_end (kind_at ts) ≡ b → (r : Read Item) → item_with (knot depth) room s ts ≡ r →
-        (if b then Some (and_then r (λ x. ends (ops ++ item_tape x.tree) x.scopes x.rest)) else None) ≡ Some (Ok x) → length x.rest < length ts
+        (if b then Some (and_then r (λ x. ends (ops ++ item_tape x.tree) x.scopes x.rest)) else None) ≡ Some (Ok x)
+        → length x.rest < length ts
     by_test false test r read is = absurd cc
     by_test true test (Err e) read is = absurd cc
     by_test true test (Ok y) read is =
@@ -88,7 +90,8 @@ module _ (depth room : ℕ) where
   unfolding tapes_at items_with repeated run
   taped_run s ts = taped_turns (suc (length ts)) [] s ts
 
-taped_alone : (wide : Bool) (items : List Item) (rest : List Lexeme) → tape_alone wide (tape_of items) rest ≡ taped (alone wide items rest)
+taped_alone : (wide : Bool) (items : List Item) (rest : List Lexeme)
+    → tape_alone wide (tape_of items) rest ≡ taped (alone wide items rest)
 taped_alone wide items [] = refl
 taped_alone wide items (t ∷ ts) = refl
 
@@ -122,6 +125,7 @@ refused_alike (Err f) e is = cc
 refused_alike (Ok x) e is = absurd cc
 
 -- an error of the reader of tapes is one of the reader of trees
-pub fails_alike : (wide : Bool) (error : ReadError) (all : List Lexeme) → Fails error (tape_at wide all) → Fails error (unit_at wide all)
+pub fails_alike : (wide : Bool) (error : ReadError) (all : List Lexeme) → Fails error (tape_at wide all)
+    → Fails error (unit_at wide all)
 fails_alike wide (errors.Fault fault token) all is = refused_alike (unit_at wide all) (fault, token) (sym (taped_unit wide all) ∙ is)
 fails_alike wide errors.NoMemory all is = tt

@@ -18,6 +18,7 @@ abbrev pub kinds_in : List Token → List TokenKind
 kinds_in [] = []
 kinds_in (t ∷ ts) = read_before t.kind (opens ts) ∷ kinds_in ts
 
+-- the kinds of the tokens of a unit as its readers see them
 abbrev pub kinds_of : Lexed → List TokenKind
 kinds_of lexed = kinds_in lexed.tokens
 
@@ -47,11 +48,14 @@ is_for_height (faults.BadMix token) = false
 is_for_height (faults.BadTarget token) = false
 is_for_height faults.NoMemory = false
 
--- Why these tokens are refused: they are those of no well-formed unit, the token is the first up to which none begins so, and
--- the code is one that may be answered there. Where the fault is not the height, no unit of any height begins so either.
+-- Why these tokens are refused: they are those of no well-formed unit, the token is the first up to which none begins
+-- so, and
+-- the code is one that may be answered there. Where the fault is not the height, no unit of any height begins so
+-- either.
 pub record IsUnitRefusal (tokens : Lexed) (fault : ParseFault) : Type 0 where
   pub none : (items : List Item) → IsWellFormed tokens.wide (lexemes_of tokens) items → ⊥
   pub first : IsFirstBad tokens.wide (kinds_of tokens) (token_of fault)
-  pub height : is_for_height fault ≡ false → ¬ BeginsUnitOfAnyHeight tokens.wide (take (token_of fault + 1) (kinds_of tokens))
+  pub height : is_for_height fault ≡ false
+      → ¬ BeginsUnitOfAnyHeight tokens.wide (take (token_of fault + 1) (kinds_of tokens))
   pub allowed : (token : ℕ) → fault ≡ faults.Syntax token → IsAllowed tokens.wide (kinds_of tokens) token syntax
   pub deep : (token : ℕ) → fault ≡ faults.TooDeep token → IsAllowed tokens.wide (kinds_of tokens) token too_deep

@@ -3,9 +3,9 @@
 ghost use Rattle.std.specs.Prelude.{◌≡◌};
 ghost use Rattle.reader_base.specs.Lent.{ReadsAsked, asked_at};
 
+use decl_forms::init_forms::init_list;
 use declr_forms::{declarator, type_name};
 use expr_rows::expr;
-use init_forms::init_list;
 use reader_base::{Answer, Ask, Place, ReadError};
 use spec_forms::specifiers;
 use stmt_forms::{block, statement};

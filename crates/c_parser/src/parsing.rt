@@ -16,6 +16,7 @@ ghost use Rattle.c_parser.specs.Refusing.{fault_named, IsUnitRefusal};
 
 use crate::knot::read;
 use crate::taping::unit_tape;
+use crate::unit_forms::items;
 use c_lexer::Tokens;
 use c_reading::{Fault, unit_is_well_formed, well_formed_is_read};
 use c_syntax::Unit;
@@ -27,7 +28,6 @@ use qual_base::{NoMemory, Numbered, TokenId};
 use reader_base::{Ask, Place, ReadError, end, is_open_paren, refused};
 use std::alloc::Global;
 use tape_ops::Op;
-use unit_forms::items;
 use unit_places::{height_alone, place_is_first, syntax_is_allowed};
 
 /// Why tokens are those of no well-formed unit, with the token that is refused.

@@ -10,6 +10,7 @@ ghost use Rattle.reader_base.specs.Looping.{IsLoop, Turns};
 ghost use Rattle.c_parser.specs.Taping.{tape_turn, tapes_at, tape_at, tape_found};
 
 use crate::knot::read;
+use crate::unit_forms::item;
 use c_reading::{Fault, turns_take_tokens};
 use c_syntax::{Item, Unit};
 use c_tape::{Node, OpList, tape};
@@ -19,7 +20,6 @@ use qual_base::NoMemory;
 use reader_base::{Answer, Ask, Place, ReadError, end, is_end, kind_at, refused};
 use std::alloc::Global;
 use tape_ops::Op;
-use unit_forms::item;
 
 /// The number of the readers of a unit, and the greatest height of its tree.
 const MOST: u32 = 500;

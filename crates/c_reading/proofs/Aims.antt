@@ -1,6 +1,7 @@
 -- What is to be shown of the reader of each nonterminal, and what of the readers inside may be taken for that.
 --
--- A family of readers is shown over any readers inside that have `Laws`, over `TokenLaws` and `FirstLaws`; so the families do
+-- A family of readers is shown over any readers inside that have `Laws`, over `TokenLaws` and `FirstLaws`; so the
+-- families do
 -- not wait for each other.
 use Rattle.std.proofs.Common.{◌≡◌, ℕ, suc, ◌<◌, ◌≤◌, Bool, true, false, List, [], ◌∷◌, Option, Some, None}
 use Rattle.std.specs.Prelude.{if◌then◌else◌, ◌+◌, max, not, ◌&&◌, ◌||◌, ◌⊎◌, is_some, option_map, All}
@@ -383,18 +384,23 @@ module _ (all : List Lexeme) where
     pub quals_complete : (room : ℕ) → IsComplete quals_form (λ xs kind. not (is_made (word_qual_of kind))) room quals_at
     pub array_words_falls : Falls array_words_at
     pub array_words_sound : (room : ℕ) → IsSound all array_words_form room array_words_at
-    pub array_words_complete : (room : ℕ) → IsComplete array_words_form (λ xs kind. not (is_made (array_word_of kind))) room array_words_at
+    pub array_words_complete : (room : ℕ)
+        → IsComplete array_words_form (λ xs kind. not (is_made (array_word_of kind))) room array_words_at
     pub asm_words_falls : Falls asm_words_at
     pub asm_words_sound : (room : ℕ) → IsSound all asm_words_form room asm_words_at
-    pub asm_words_complete : (room : ℕ) → IsComplete asm_words_form (λ xs kind. not (is_made (asm_word_of kind))) room asm_words_at
+    pub asm_words_complete : (room : ℕ)
+        → IsComplete asm_words_form (λ xs kind. not (is_made (asm_word_of kind))) room asm_words_at
     pub group_shrinks : Shrinks group_at
     pub group_sound : (room : ℕ) → IsSound all group_form room group_at
     pub group_complete : (room : ℕ) → IsComplete group_form always room group_at
     pub attr_shrinks : Shrinks attr_at
-    pub attr_sound : (room : ℕ) (s : HeldScopes) (ts : List Lexeme) (x : Found Attr) → IsTail all ts → attr_at s ts ≡ done x → Takes all attrs_form 2 s ts (found (x.tree ∷ []) x.scopes x.rest)
-    pub attr_complete : (a : Attr) (s : HeldScopes) (k : List Lexeme) → IsGroup all a.group → attr_at s (attrs_text all (a ∷ []) k) ≡ done (found a s k)
+    pub attr_sound : (room : ℕ) (s : HeldScopes) (ts : List Lexeme) (x : Found Attr) → IsTail all ts
+        → attr_at s ts ≡ done x → Takes all attrs_form 2 s ts (found (x.tree ∷ []) x.scopes x.rest)
+    pub attr_complete : (a : Attr) (s : HeldScopes) (k : List Lexeme) → IsGroup all a.group
+        → attr_at s (attrs_text all (a ∷ []) k) ≡ done (found a s k)
     pub align_shrinks : Shrinks align_at
-    pub align_sound : (room : ℕ) (s : HeldScopes) (ts : List Lexeme) (x : Found Attr) → IsTail all ts → kind_at ts ≡ kinds.Keyword keywords.Alignas → align_at s ts ≡ done x →
+    pub align_sound : (room : ℕ) (s : HeldScopes) (ts : List Lexeme) (x : Found Attr) → IsTail all ts
+        → kind_at ts ≡ kinds.Keyword keywords.Alignas → align_at s ts ≡ done x →
         Takes all align_form room s ts x
     pub align_complete : (room : ℕ) → IsComplete align_form always room align_at
     pub attrs_falls : (room : ℕ) → Falls (attrs_at room)
@@ -402,7 +408,8 @@ module _ (all : List Lexeme) where
     pub attrs_complete : (room : ℕ) → IsComplete attrs_form (λ xs kind. not (is_attribute kind)) room (attrs_at room)
     pub pointer_words_falls : (room : ℕ) → Falls (pointer_words_at room)
     pub pointer_words_sound : (room : ℕ) → IsSound all pointer_words_form room (pointer_words_at room)
-    pub pointer_words_complete : (room : ℕ) → IsComplete pointer_words_form (λ xs kind. not (begins_pointer_word kind)) room (pointer_words_at room)
+    pub pointer_words_complete : (room : ℕ)
+        → IsComplete pointer_words_form (λ xs kind. not (begins_pointer_word kind)) room (pointer_words_at room)
     pub assert_shrinks : Shrinks assert_at
     pub assert_sound : (room : ℕ) → IsSound all assert_form room assert_at
     pub assert_complete : (room : ℕ) → IsComplete assert_form always room assert_at
@@ -415,16 +422,23 @@ module _ (all : List Lexeme) where
   FitsRole Naming ws = AreTypeWords all ws
 
   pub record FirstLaws : Type 0 where
-    pub words_begin : (ws : SpecWords) (s s' : HeldScopes) (k : List Lexeme) → IsMix ws → AreSpecWords all ws → spec_words_scopes ws s ≡ Some s' →
+    pub words_begin : (ws : SpecWords) (s s' : HeldScopes) (k : List Lexeme) → IsMix ws → AreSpecWords all ws
+        → spec_words_scopes ws s ≡ Some s' →
         begins_specs s (kind_at (spec_words_text all ws k)) ≡ true
-    pub type_words_begin : (ws : SpecWords) (s s' : HeldScopes) (k : List Lexeme) → IsMix ws → AreTypeWords all ws → spec_words_scopes ws s ≡ Some s' →
+    pub type_words_begin : (ws : SpecWords) (s s' : HeldScopes) (k : List Lexeme) → IsMix ws → AreTypeWords all ws
+        → spec_words_scopes ws s ≡ Some s' →
         begins_specs s (kind_at (spec_words_text all ws k)) ≡ true
-    pub words_stand : (role : Role) (ws : SpecWords) (s s' : HeldScopes) (k : List Lexeme) → IsMix ws → FitsRole role ws → spec_words_scopes ws s ≡ Some s' →
+    pub words_stand : (role : Role) (ws : SpecWords) (s s' : HeldScopes) (k : List Lexeme) → IsMix ws → FitsRole role ws
+        → spec_words_scopes ws s ≡ Some s' →
         may_stand role (start_at s false (kind_at (spec_words_text all ws k))) ≡ true
-    pub expr_begins : (e : Expr) (s s' : HeldScopes) (k : List Lexeme) → IsExpr all e → expr_scopes e s ≡ Some s' → begins_expr s (kind_at (expr_text all e k)) ≡ true
-    pub named_begins : (d : Declr) (k : List Lexeme) → IsDeclr all d → is_named d ≡ true → begins_named (kind_at (declr_text all d k)) ≡ true
-    pub named_base : (d : Declr) (k : List Lexeme) → IsDeclr all d → is_named d ≡ true → is_base_word (kind_at (declr_text all d k)) ≡ begins_base d
-    pub abstract_begins : (d : Declr) (k : List Lexeme) → IsDeclr all d → is_named d ≡ false → begins_abstract (kind_at (declr_text all d k)) ≡ true
+    pub expr_begins : (e : Expr) (s s' : HeldScopes) (k : List Lexeme) → IsExpr all e → expr_scopes e s ≡ Some s'
+        → begins_expr s (kind_at (expr_text all e k)) ≡ true
+    pub named_begins : (d : Declr) (k : List Lexeme) → IsDeclr all d → is_named d ≡ true
+        → begins_named (kind_at (declr_text all d k)) ≡ true
+    pub named_base : (d : Declr) (k : List Lexeme) → IsDeclr all d → is_named d ≡ true
+        → is_base_word (kind_at (declr_text all d k)) ≡ begins_base d
+    pub abstract_begins : (d : Declr) (k : List Lexeme) → IsDeclr all d → is_named d ≡ false
+        → begins_abstract (kind_at (declr_text all d k)) ≡ true
 
   -- Expressions.
 
@@ -439,10 +453,13 @@ module _ (all : List Lexeme) where
   pub record ExprLaws (n : ℕ) (expr : Reach → Begun → ℕ → Reader Expr) : Type 0 where
     pub shrinks : (reach : Reach) (begun : Begun) (room : ℕ) → Shrinks (expr reach begun room)
     pub sound : (reach : Reach) (room : ℕ) → IsSound all (expr_form reach) room (expr reach nothing room)
-    pub complete : (reach : Reach) (room : ℕ) → room < n → IsComplete (expr_form reach) (λ e. ends_expr reach) room (expr reach nothing room)
-    pub begun_sound : (reach : Reach) (begun : Begun) (room : ℕ) → is_row reach ≡ true → (s : HeldScopes) (ts : List Lexeme) (x : Found Expr) → IsTail all ts →
+    pub complete : (reach : Reach) (room : ℕ) → room < n
+        → IsComplete (expr_form reach) (λ e. ends_expr reach) room (expr reach nothing room)
+    pub begun_sound : (reach : Reach) (begun : Begun) (room : ℕ) → is_row reach ≡ true
+        → (s : HeldScopes) (ts : List Lexeme) (x : Found Expr) → IsTail all ts →
         expr reach begun room s ts ≡ done x → TakesBegun reach begun room s ts x
-    pub begun_complete : (reach : Reach) (begun : Begun) (room : ℕ) → is_row reach ≡ true → room < n → (e : Expr) (s s' : HeldScopes) (k : List Lexeme) → IsExpr all e → reach_level reach ≤ expr_level e →
+    pub begun_complete : (reach : Reach) (begun : Begun) (room : ℕ) → is_row reach ≡ true → room < n
+        → (e : Expr) (s s' : HeldScopes) (k : List Lexeme) → IsExpr all e → reach_level reach ≤ expr_level e →
         IsBegun begun e → expr_scopes e s ≡ Some s' → expr_height e ≤ room → ends_expr reach (kind_at k) ≡ true → expr reach begun room s (behind_begun begun e k) ≡ done (found e s' k)
 
   -- Names of types.
@@ -454,7 +471,8 @@ module _ (all : List Lexeme) where
 
   -- Specifiers, behind words that were read already.
 
-  -- What was read behind words that stood already: they are a mix with these. The room is asked for where a word was read.
+  -- What was read behind words that stood already: they are a mix with these. The room is asked for where a word was
+  -- read.
   pub record TakesWords (role : Role) (words : SpecWords) (room : ℕ) (s : HeldScopes) (ts : List Lexeme) (x : Found SpecWords) : Type 0 where
     pub rest : SpecWords
     pub words_are : x.tree ≡ append_words words rest
@@ -469,9 +487,11 @@ module _ (all : List Lexeme) where
   pub record SpecsLaws (n : ℕ) (specs : Role → SpecWords → ℕ → Reader SpecWords) : Type 0 where
     pub falls : (role : Role) (words : SpecWords) (room : ℕ) → Falls (specs role words room)
     pub shrinks : (role : Role) (room : ℕ) → Shrinks (specs role no_words room)
-    pub sound : (role : Role) (words : SpecWords) (room : ℕ) (s : HeldScopes) (ts : List Lexeme) (x : Found SpecWords) → IsTail all ts → specs role words room s ts ≡ done x →
+    pub sound : (role : Role) (words : SpecWords) (room : ℕ) (s : HeldScopes) (ts : List Lexeme) (x : Found SpecWords)
+        → IsTail all ts → specs role words room s ts ≡ done x →
         TakesWords role words room s ts x
-    pub complete : (role : Role) (words rest : SpecWords) (room : ℕ) → room < n → (s s' : HeldScopes) (k : List Lexeme) → IsMix (append_words words rest) → FitsRole role rest →
+    pub complete : (role : Role) (words rest : SpecWords) (room : ℕ) → room < n → (s s' : HeldScopes) (k : List Lexeme)
+        → IsMix (append_words words rest) → FitsRole role rest →
         spec_words_scopes rest s ≡ Some s' → (rest ≡ no_words) ⊎ (specs_height (append_words words rest) ≤ room) → EndsWords s' (append_words words rest) (kind_at k) →
         specs role words room s (spec_words_text all rest k) ≡ done (found (append_words words rest) s' k)
 
@@ -504,9 +524,12 @@ module _ (all : List Lexeme) where
   pub record DeclrLaws (n : ℕ) (declr : Mode → Option Kind → Bool → ℕ → Reader Declared) : Type 0 where
     pub falls : (mode : Mode) (wanted : Option Kind) (flag : Bool) (room : ℕ) → Falls (declr mode wanted flag room)
     pub shrinks : (wanted : Option Kind) (flag : Bool) (room : ℕ) → Shrinks (declr Named wanted flag room)
-    pub sound : (mode : Mode) (wanted : Option Kind) (flag : Bool) (room : ℕ) (s : HeldScopes) (ts : List Lexeme) (x : Found Declared) → IsTail all ts → declr mode wanted flag room s ts ≡ done x →
+    pub sound : (mode : Mode) (wanted : Option Kind) (flag : Bool) (room : ℕ) (s : HeldScopes) (ts : List Lexeme) (x : Found Declared)
+        → IsTail all ts → declr mode wanted flag room s ts ≡ done x →
         TakesDeclr mode wanted flag room s ts x
-    pub complete : (mode : Mode) (wanted : Option Kind) (flag : Bool) (room : ℕ) → declr_number flag room < n → MayName mode wanted → (d : SomeDeclr) (s s' : HeldScopes) (k : List Lexeme) → FitsMode mode d s → (flag ≡ true) ⊎ (some_lists_identifiers d ≡ false) →
+    pub complete : (mode : Mode) (wanted : Option Kind) (flag : Bool) (room : ℕ) → declr_number flag room < n
+        → MayName mode wanted → (d : SomeDeclr) (s s' : HeldScopes) (k : List Lexeme) → FitsMode mode d s
+        → (flag ≡ true) ⊎ (some_lists_identifiers d ≡ false) →
         some_declr_scopes wanted d s ≡ Some s' → some_declr_height d ≤ declr_room flag (closed_of wanted d s) room → ends_declr mode d (kind_at k) ≡ true →
         declr mode wanted flag room s (some_declr_text all d k) ≡ done (found (declared_as wanted d s) s' k)
 
@@ -526,7 +549,8 @@ module _ (all : List Lexeme) where
   pub record StmtLaws (n : ℕ) (stmt : ℕ → Reader Stmt) : Type 0 where
     pub shrinks : (room : ℕ) → Shrinks (stmt room)
     pub sound : (room : ℕ) → IsSound all stmt_form room (stmt room)
-    pub ended : (room : ℕ) (s : HeldScopes) (ts : List Lexeme) (x : Found Stmt) → stmt room s ts ≡ done x → takes_else x.tree ≡ true → is_else (kind_at x.rest) ≡ false
+    pub ended : (room : ℕ) (s : HeldScopes) (ts : List Lexeme) (x : Found Stmt) → stmt room s ts ≡ done x
+        → takes_else x.tree ≡ true → is_else (kind_at x.rest) ≡ false
     pub complete : (room : ℕ) → room < n → IsComplete stmt_form ends_stmt room (stmt room)
 
   -- of readers of all nonterminals that read trees lower than a number

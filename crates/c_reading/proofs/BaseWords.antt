@@ -47,35 +47,42 @@ pub and_base_is : (ws : SpecWords) (token : ℕ) → and_base ws token ≡ appen
 and_base_is no_words token = refl
 and_base_is (more_words w ws) token = ap (more_words w) (and_base_is ws token)
 
-mix_and_base : (o : Option Mix) (ws : SpecWords) (token : ℕ) → mix_from o (and_base ws token) ≡ then_class (mix_from o ws) (classes.Spells keywords.BaseWord)
+mix_and_base : (o : Option Mix) (ws : SpecWords) (token : ℕ)
+    → mix_from o (and_base ws token) ≡ then_class (mix_from o ws) (classes.Spells keywords.BaseWord)
 mix_and_base o no_words token = refl
 mix_and_base o (more_words w ws) token = mix_and_base (then_class o (class_of w)) ws token
 
 -- a whole mix that goes on with a base word is a whole one with it
-base_whole : (o : Option Mix) → whole_in o ≡ true → is_some (then_class o (classes.Spells keywords.BaseWord)) ≡ true → whole_in (then_class o (classes.Spells keywords.BaseWord)) ≡ true
+base_whole : (o : Option Mix) → whole_in o ≡ true → is_some (then_class o (classes.Spells keywords.BaseWord)) ≡ true
+    → whole_in (then_class o (classes.Spells keywords.BaseWord)) ≡ true
 base_whole None whole on = absurd cc
 base_whole (Some mix) whole on = by_types mix.types on
   where
-    by_fits : (mark : Mark) (b : Bool) → fits bases.Alone mark ≡ b → is_some (with_types mix (if b then Some (Words bases.Alone mark) else None)) ≡ true →
+    by_fits : (mark : Mark) (b : Bool) → fits bases.Alone mark ≡ b
+        → is_some (with_types mix (if b then Some (Words bases.Alone mark) else None)) ≡ true →
         whole_in (with_types mix (if b then Some (Words bases.Alone mark) else None)) ≡ true
     by_fits mark true is on = refl
     by_fits mark false is on = absurd cc
 
-    by_types : (types : Types) → is_some (with_types mix (with_part types (parts.Core cores.Alone))) ≡ true → whole_in (with_types mix (with_part types (parts.Core cores.Alone))) ≡ true
+    by_types : (types : Types) → is_some (with_types mix (with_part types (parts.Core cores.Alone))) ≡ true
+        → whole_in (with_types mix (with_part types (parts.Core cores.Alone))) ≡ true
     by_types Named on = absurd cc
     by_types (Words bases.Nothing mark) on = by_fits mark (fits bases.Alone mark) refl on
     by_types (Words base mark) on = absurd cc
 
 -- words that a base word continues are a mix with it, and the other way round
-pub base_mixes : (whole_are : WholeAreMixes) (ws : SpecWords) → IsMix ws → goes_on ws (classes.Spells keywords.BaseWord) ≡ true → IsMix (and_base ws 0)
+pub base_mixes : (whole_are : WholeAreMixes) (ws : SpecWords) → IsMix ws
+    → goes_on ws (classes.Spells keywords.BaseWord) ≡ true → IsMix (and_base ws 0)
 base_mixes whole_are ws mix on =
     (whole_are (and_base ws 0)).0 (ap whole_in (mix_and_base (Some no_mix) ws 0) ∙ base_whole (mix_of ws) ((whole_are ws).1 mix) on)
 
-pub base_continues : (goes : MixesGoOn) (ws : SpecWords) → IsMix (and_base ws 0) → goes_on ws (classes.Spells keywords.BaseWord) ≡ true
+pub base_continues : (goes : MixesGoOn) (ws : SpecWords) → IsMix (and_base ws 0)
+    → goes_on ws (classes.Spells keywords.BaseWord) ≡ true
 base_continues goes ws mix = goes ws (basic (record { keyword = keywords.BaseWord; token = 0 })) no_words (subst IsMix (and_base_is ws 0) mix)
 
 -- a declarator that begins with a base word is that of a typedef in wider C
-pub base_scopes : (kind : Option Kind) (d : Declr) (s t : HeldScopes) → begins_base d ≡ true → declr_scopes kind d s ≡ Some t → (is_wide s ≡ true) × (is_typedef kind ≡ true)
+pub base_scopes : (kind : Option Kind) (d : Declr) (s t : HeldScopes) → begins_base d ≡ true
+    → declr_scopes kind d s ≡ Some t → (is_wide s ≡ true) × (is_typedef kind ≡ true)
 base_scopes kind (base_name token) s t begins named = by_tests (is_wide s) (is_typedef kind) named
   where
     by_tests : (a b : Bool) → where_true (a && b) s ≡ Some t → (a ≡ true) × (b ≡ true)
@@ -100,7 +107,8 @@ base_scopes kind (abs_array d opening words size closing) s t begins named = abs
 base_scopes kind (abs_params d opening ps dots closing) s t begins named = absurd cc
 
 -- so it is none of another kind
-pub not_base : (kind : Option Kind) (d : Declr) (s t : HeldScopes) → is_typedef kind ≡ false → declr_scopes kind d s ≡ Some t → begins_base d ≡ false
+pub not_base : (kind : Option Kind) (d : Declr) (s t : HeldScopes) → is_typedef kind ≡ false
+    → declr_scopes kind d s ≡ Some t → begins_base d ≡ false
 not_base kind d s t other named = by_begin (begins_base d) refl
   where
     by_begin : (b : Bool) → begins_base d ≡ b → begins_base d ≡ false
@@ -123,7 +131,8 @@ typedef_among (w ∷ ws) (suc k, l, e) = rw (typedef_among ws (k, omega (arith, 
 
 module _ (all : List Lexeme) where
   -- declarators that are read behind words which a base word does not continue
-  pub base_start : (goes : MixesGoOn) (ws : SpecWords) (ds : InitDeclrs) (k : List Lexeme) → (is_base_word (kind_at (init_declrs_text all ds k)) ≡ true → goes_on ws (classes.Spells keywords.BaseWord) ≡ false) →
+  pub base_start : (goes : MixesGoOn) (ws : SpecWords) (ds : InitDeclrs) (k : List Lexeme)
+      → (is_base_word (kind_at (init_declrs_text all ds k)) ≡ true → goes_on ws (classes.Spells keywords.BaseWord) ≡ false) →
       IsInitStart ds → AreInitDeclrs all ds → IsBaseStart ws ds
   base_start goes ws no_init_declrs k stops start fit = tt
   base_start goes ws (more_init_declrs (a ∷ attrs) d l attrs2 i ds) k stops start fit = absurd cc
@@ -132,7 +141,8 @@ module _ (all : List Lexeme) where
       let on : goes_on ws (classes.Spells keywords.BaseWord) ≡ true = base_continues goes ws mix in
       absurd cc
 
-  typedef_words : (words : SpecWords) → is_typedef (Some (declared_kind words)) ≡ true → has_typedef_word (storage_words words) ≡ true
+  typedef_words : (words : SpecWords) → is_typedef (Some (declared_kind words)) ≡ true
+      → has_typedef_word (storage_words words) ≡ true
   typedef_words words is = by_test (has_typedef_word (storage_words words)) is
     where
       by_test : (b : Bool) → is_typedef (Some (if b then Typedef else Value)) ≡ true → b ≡ true
@@ -140,7 +150,8 @@ module _ (all : List Lexeme) where
       by_test false e = absurd cc
 
   -- behind `__auto_type` a base word stands where `typedef` is one of the words
-  auto_typedef : (words : SpecWords) (d : Declr) (l : Option AsmLabel) (attrs : List Attr) (i : SomeInit) (ds : InitDeclrs) → begins_base d ≡ true → IsAutoDeclr words (more_init_declrs [] d l attrs i ds) →
+  auto_typedef : (words : SpecWords) (d : Declr) (l : Option AsmLabel) (attrs : List Attr) (i : SomeInit) (ds : InitDeclrs)
+      → begins_base d ≡ true → IsAutoDeclr words (more_init_declrs [] d l attrs i ds) →
       has_typedef_word (storage_words words) ≡ true
   auto_typedef words (base_name token) None attrs (some_init equal (init_value e)) no_init_declrs is auto = typedef_among (storage_words words) auto
   auto_typedef words (declr_name token name) l attrs i ds is auto = absurd cc
@@ -156,7 +167,8 @@ module _ (all : List Lexeme) where
 
   module _ (whole_are : WholeAreMixes) (firsts : FirstLaws all) where
     -- the words end before the declarators that are the definition's
-    pub declrs_end : (words : SpecWords) (ds : InitDeclrs) (semi : ℕ) (s t : HeldScopes) (k : List Lexeme) → IsMix words → IsInitStart ds → AreInitDeclrs all ds → IsAutoWhere (has_auto words) words ds → IsBaseStart words ds →
+    pub declrs_end : (words : SpecWords) (ds : InitDeclrs) (semi : ℕ) (s t : HeldScopes) (k : List Lexeme) → IsMix words
+        → IsInitStart ds → AreInitDeclrs all ds → IsAutoWhere (has_auto words) words ds → IsBaseStart words ds →
         words_declrs_scopes words ds s ≡ Some t → EndsWords s words (kind_at (init_declrs_text all ds (sign_text puncts.Semicolon semi k)))
     declrs_end words no_init_declrs semi s t k mix start fit auto base named = inl refl
     declrs_end words (more_init_declrs (a ∷ attrs) d l attrs2 i ds) semi s t k mix start fit auto base named = absurd cc
@@ -165,7 +177,8 @@ module _ (all : List Lexeme) where
         more : List Lexeme
         more = label_text all l (attrs_text all attrs2 (some_init_text all i (other_init_declrs_text all ds (sign_text puncts.Semicolon semi k))))
 
-        by_auto : begins_base d ≡ true → (b : Bool) → has_auto words ≡ b → IsAutoWhere b words (more_init_declrs [] d l attrs2 i ds) →
+        by_auto : begins_base d ≡ true → (b : Bool) → has_auto words ≡ b
+            → IsAutoWhere b words (more_init_declrs [] d l attrs2 i ds) →
             (if b then auto_declrs_scopes (more_init_declrs [] d l attrs2 i ds) else init_declrs_scopes (declared_kind words) (more_init_declrs [] d l attrs2 i ds)) s ≡ Some t →
             (is_wide s || has_auto words ≡ true) × (has_typedef_word (storage_words words) ≡ true)
         by_auto is true on auto named = (either_right (is_wide s) (has_auto words) on, auto_typedef words d l attrs2 i ds is auto)
@@ -175,7 +188,8 @@ module _ (all : List Lexeme) where
             let p = base_scopes (Some (declared_kind words)) d s b.0 is b.1 in
             (either_left (is_wide s) (has_auto words) p.0, typedef_words words p.1)
 
-        by_on : begins_base d ≡ true → (b : Bool) → goes_on words (classes.Spells keywords.BaseWord) ≡ b → goes_on words (classes.Spells keywords.BaseWord) ≡ false
+        by_on : begins_base d ≡ true → (b : Bool) → goes_on words (classes.Spells keywords.BaseWord) ≡ b
+            → goes_on words (classes.Spells keywords.BaseWord) ≡ false
         by_on is true on = absurd (base is (base_mixes whole_are words mix on))
         by_on is false on = on
 
@@ -214,7 +228,8 @@ pub bare_words : (ws : List Keyword) → (Contains ws keywords.Typedef → ⊥) 
 bare_words [] h = refl
 bare_words (w ∷ ws) h = by_word (is_typedef_word w) refl (bare_words ws (λ c. h (contains_later w ws c)))
   where
-    by_word : (b : Bool) → is_typedef_word w ≡ b → has_typedef_word ws ≡ false → (if b then true else has_typedef_word ws) ≡ false
+    by_word : (b : Bool) → is_typedef_word w ≡ b → has_typedef_word ws ≡ false
+        → (if b then true else has_typedef_word ws) ≡ false
     by_word true is later = absurd (h (contains_first w ws (typedef_is w is)))
     by_word false is later = later
 
@@ -222,6 +237,7 @@ pub among_typedef : (ws : List Keyword) → has_typedef_word ws ≡ true → Con
 among_typedef [] h = absurd cc
 among_typedef (w ∷ ws) h = by_word (is_typedef_word w) refl (among_typedef ws) h
   where
-    by_word : (b : Bool) → is_typedef_word w ≡ b → (has_typedef_word ws ≡ true → Contains ws keywords.Typedef) → (if b then true else has_typedef_word ws) ≡ true → Contains (w ∷ ws) keywords.Typedef
+    by_word : (b : Bool) → is_typedef_word w ≡ b → (has_typedef_word ws ≡ true → Contains ws keywords.Typedef)
+        → (if b then true else has_typedef_word ws) ≡ true → Contains (w ∷ ws) keywords.Typedef
     by_word true is later h = contains_first w ws (typedef_is w is)
     by_word false is later h = contains_later w ws (later h)

@@ -19,47 +19,57 @@ pub ok_is : {A : Type 0} {x y : A} → done x ≡ done y → x ≡ y
 ok_is e = cc
 
 -- the value of a step that did not fail
-pub bind_ok : {A B : Type 0} {r : Result A Refusal} {f : A → Result B Refusal} {y : B} → and_then r f ≡ done y → (x : A) × (r ≡ done x) × (f x ≡ done y)
+pub bind_ok : {A B : Type 0} {r : Result A Refusal} {f : A → Result B Refusal} {y : B} → and_then r f ≡ done y
+    → (x : A) × (r ≡ done x) × (f x ≡ done y)
 unfolding and_then
 bind_ok {r = Ok x} {f = f} {y = y} e = (x, refl, e)
 bind_ok {r = Err d} {f = f} {y = y} e = absurd cc
 
 -- the same in a long chain of steps: what was read at each is a variable, so that terms stay short
-pub bind_in : {A B P : Type 0} {r : Result A Refusal} {f : A → Result B Refusal} {y : B} → and_then r f ≡ done y → ((x : A) → r ≡ done x → f x ≡ done y → P) → P
+pub bind_in : {A B P : Type 0} {r : Result A Refusal} {f : A → Result B Refusal} {y : B} → and_then r f ≡ done y
+    → ((x : A) → r ≡ done x → f x ≡ done y → P) → P
 bind_in e then_so = let b = bind_ok e in then_so b.0 b.1 b.2
 
 -- a step that goes well goes on
-pub bind_is : {A B : Type 0} {r : Result A Refusal} (f : A → Result B Refusal) {x : A} {y : Result B Refusal} → r ≡ done x → f x ≡ y → and_then r f ≡ y
+pub bind_is : {A B : Type 0} {r : Result A Refusal} (f : A → Result B Refusal) {x : A} {y : Result B Refusal}
+    → r ≡ done x → f x ≡ y → and_then r f ≡ y
 unfolding and_then
 bind_is f is e = rw is e
 
 -- where there is room
-pub fits_ok : {A : Type 0} (least room : ℕ) (ts : List Lexeme) {read : Read A} {x : Found A} → fits least room ts read ≡ done x → (least ≤ room) × (read ≡ done x)
+pub fits_ok : {A : Type 0} (least room : ℕ) (ts : List Lexeme) {read : Read A} {x : Found A}
+    → fits least room ts read ≡ done x → (least ≤ room) × (read ≡ done x)
 unfolding fits
 fits_ok least room ts {read = read} {x = x} e = by_room (nat_le least room) refl e
   where
-    by_room : (b : Bool) → nat_le least room ≡ b → (if b then read else refuses TooDeep ts) ≡ done x → (least ≤ room) × (read ≡ done x)
+    by_room : (b : Bool) → nat_le least room ≡ b → (if b then read else refuses TooDeep ts) ≡ done x
+        → (least ≤ room) × (read ≡ done x)
     by_room true is e = (leb-true least room is, e)
     by_room false is e = absurd cc
 
-pub fits_is : {A : Type 0} (least room : ℕ) (ts : List Lexeme) (read : Read A) → least ≤ room → fits least room ts read ≡ read
+pub fits_is : {A : Type 0} (least room : ℕ) (ts : List Lexeme) (read : Read A) → least ≤ room
+    → fits least room ts read ≡ read
 unfolding fits
 fits_is least room ts read h = rw (le-leb least room h) refl
 
-pub take_falls : (s : HeldScopes) (ts : List Lexeme) (x : Found ℕ) → take_one s ts ≡ done x → suc (length x.rest) ≡ length ts
+pub take_falls : (s : HeldScopes) (ts : List Lexeme) (x : Found ℕ) → take_one s ts ≡ done x
+    → suc (length x.rest) ≡ length ts
 take_falls s [] x e = absurd cc
 take_falls s (t ∷ ts) x e = ap (λ (x : Found ℕ). suc (length x.rest)) (sym (ok_is e))
 
-pub token_falls : (test : TokenKind → Bool) (s : HeldScopes) (ts : List Lexeme) (x : Found ℕ) → token_at test s ts ≡ done x → suc (length x.rest) ≡ length ts
+pub token_falls : (test : TokenKind → Bool) (s : HeldScopes) (ts : List Lexeme) (x : Found ℕ)
+    → token_at test s ts ≡ done x → suc (length x.rest) ≡ length ts
 token_falls test s [] x e = absurd cc
 token_falls test s (t ∷ ts) x e = by_test (test t.kind) e
   where
-    by_test : (b : Bool) → (if b then ends t.at s ts else refuses Unexpected (t ∷ ts)) ≡ done x → suc (length x.rest) ≡ length (t ∷ ts)
+    by_test : (b : Bool) → (if b then ends t.at s ts else refuses Unexpected (t ∷ ts)) ≡ done x
+        → suc (length x.rest) ≡ length (t ∷ ts)
     by_test true e = ap (λ (x : Found ℕ). suc (length x.rest)) (sym (ok_is e))
     by_test false e = absurd cc
 
 -- by a test
-pub if_ok : {A P : Type 0} (b : Bool) {x y z : A} → (if b then x else y) ≡ z → (b ≡ true → x ≡ z → P) → (b ≡ false → y ≡ z → P) → P
+pub if_ok : {A P : Type 0} (b : Bool) {x y z : A} → (if b then x else y) ≡ z → (b ≡ true → x ≡ z → P)
+    → (b ≡ false → y ≡ z → P) → P
 if_ok true e yes_then no_then = yes_then refl e
 if_ok false e yes_then no_then = no_then refl e
 

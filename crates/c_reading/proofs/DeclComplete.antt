@@ -99,12 +99,14 @@ words_inside : (w d room : ℕ) → max w d + 1 ≤ room → w ≤ room - 1
 words_inside w d room h = omega (arith, h)
 
 module _ (all : List Lexeme) (numbered : IsNumbered all) (tokens : TokenLaws all) (firsts : FirstLaws all) (n : ℕ) (inner : Inner) (laws : Laws all n inner) where
-  label_read : (l : Option AsmLabel) (s : HeldScopes) (k : List Lexeme) → IsLabel all l → is_asm (kind_at k) ≡ false → label_at s (label_text all l k) ≡ done (found l s k)
+  label_read : (l : Option AsmLabel) (s : HeldScopes) (k : List Lexeme) → IsLabel all l → is_asm (kind_at k) ≡ false
+      → label_at s (label_text all l k) ≡ done (found l s k)
   unfolding label_at
   label_read None s k fit ended = rw ended refl
   label_read (Some l) s k fit ended = bind_is _ refl (bind_is _ (tokens.group_complete 0 l.group s s k fit refl (omega arith) refl) refl)
 
-  pub some_init_read : (room : ℕ) → room ≤ n → (i : SomeInit) (s s' : HeldScopes) (k : List Lexeme) → IsSomeInit all i → some_init_scopes i s ≡ Some s' → some_init_height i ≤ room - 1 →
+  pub some_init_read : (room : ℕ) → room ≤ n → (i : SomeInit) (s s' : HeldScopes) (k : List Lexeme) → IsSomeInit all i
+      → some_init_scopes i s ≡ Some s' → some_init_height i ≤ room - 1 →
       ends_expr Assigned (kind_at k) ≡ true → some_init_with inner room s (some_init_text all i k) ≡ done (found i s' k)
   unfolding some_init_with
   some_init_read room less no_init s s' k fit named low ended = rw (ends_no_equal (kind_at k) ended) (ap (λ (o : Option HeldScopes). done (found no_init (from o) k)) named)
@@ -116,16 +118,19 @@ module _ (all : List Lexeme) (numbered : IsNumbered all) (tokens : TokenLaws all
       bind_is _ refl (bind_is _ (init_complete all n inner laws firsts (room - 1) (init_less (init_height i) room n less low (init_high i)) i s s' k fit named low ended) refl)
 
   -- the first token of what stands behind a declarator
-  pub init_no_attr : (i : SomeInit) (k : List Lexeme) → ends_init_declr (kind_at k) ≡ true → is_attribute (kind_at (some_init_text all i k)) ≡ false
+  pub init_no_attr : (i : SomeInit) (k : List Lexeme) → ends_init_declr (kind_at k) ≡ true
+      → is_attribute (kind_at (some_init_text all i k)) ≡ false
   init_no_attr no_init k ended = ends_attrs (kind_at k) ended
   init_no_attr (some_init equal i) k ended = refl
 
-  pub attrs_no_asm : (attrs : List Attr) (i : SomeInit) (k : List Lexeme) → ends_init_declr (kind_at k) ≡ true → is_asm (kind_at (attrs_text all attrs (some_init_text all i k))) ≡ false
+  pub attrs_no_asm : (attrs : List Attr) (i : SomeInit) (k : List Lexeme) → ends_init_declr (kind_at k) ≡ true
+      → is_asm (kind_at (attrs_text all attrs (some_init_text all i k))) ≡ false
   attrs_no_asm (a ∷ attrs) i k ended = refl
   attrs_no_asm [] no_init k ended = ends_label (kind_at k) ended
   attrs_no_asm [] (some_init equal i) k ended = refl
 
-  pub label_no_suffix : (l : Option AsmLabel) (attrs : List Attr) (i : SomeInit) (k : List Lexeme) → ends_init_declr (kind_at k) ≡ true →
+  pub label_no_suffix : (l : Option AsmLabel) (attrs : List Attr) (i : SomeInit) (k : List Lexeme)
+      → ends_init_declr (kind_at k) ≡ true →
       ends_suffix (kind_at (label_text all l (attrs_text all attrs (some_init_text all i k)))) ≡ true
   label_no_suffix (Some l) attrs i k ended = refl
   label_no_suffix None (a ∷ attrs) i k ended = refl
@@ -133,7 +138,8 @@ module _ (all : List Lexeme) (numbered : IsNumbered all) (tokens : TokenLaws all
   label_no_suffix None [] (some_init equal i) k ended = refl
 
   -- what stands behind a declarator whose name is declared
-  pub declr_behind_read : (room : ℕ) → room ≤ n → (x : DeclrItem) (s s' : HeldScopes) (k : List Lexeme) → IsLabel all x.label → AreAttrs all x.attrs → IsSomeInit all x.init → some_init_scopes x.init s ≡ Some s' →
+  pub declr_behind_read : (room : ℕ) → room ≤ n → (x : DeclrItem) (s s' : HeldScopes) (k : List Lexeme)
+      → IsLabel all x.label → AreAttrs all x.attrs → IsSomeInit all x.init → some_init_scopes x.init s ≡ Some s' →
       attrs_height x.attrs ≤ room - 1 → some_init_height x.init ≤ room - 1 → ends_init_declr (kind_at k) ≡ true →
       declr_behind inner x.before x.declr room s (label_text all x.label (attrs_text all x.attrs (some_init_text all x.init k))) ≡ done (found x s' k)
   unfolding declr_behind
@@ -143,7 +149,8 @@ module _ (all : List Lexeme) (numbered : IsNumbered all) (tokens : TokenLaws all
       (bind_is _ (some_init_read room less x.init s s' k init_fit named i_low (ends_value (kind_at k) ended)) refl))
 
   -- a declarator with what stands behind it, behind its attributes
-  pub init_declr_read : (kind : Kind) (room : ℕ) → room ≤ n → (x : DeclrItem) (s s' : HeldScopes) (k : List Lexeme) → (declr_item_form all kind).Fits x → (declr_item_form all kind).scopes x s ≡ Some s' →
+  pub init_declr_read : (kind : Kind) (room : ℕ) → room ≤ n → (x : DeclrItem) (s s' : HeldScopes) (k : List Lexeme)
+      → (declr_item_form all kind).Fits x → (declr_item_form all kind).scopes x s ≡ Some s' →
       (declr_item_form all kind).height x ≤ room → ends_init_declr (kind_at k) ≡ true →
       init_declr_with inner x.before kind room s (declr_text all x.declr (label_text all x.label (attrs_text all x.attrs (some_init_text all x.init k)))) ≡ done (found x s' k)
   unfolding init_declr_with
@@ -158,7 +165,9 @@ module _ (all : List Lexeme) (numbered : IsNumbered all) (tokens : TokenLaws all
       (attrs_low (attrs_height x.before) (declr_height x.declr) (label_height x.label) (attrs_height x.attrs) (some_init_height x.init) room low)
       (init_low (attrs_height x.before) (declr_height x.declr) (label_height x.label) (attrs_height x.attrs) (some_init_height x.init) room low) ended)
 
-  next_declr_read : (kind : Kind) (room : ℕ) → room ≤ n → (token : ℕ) (x : DeclrItem) (s s' : HeldScopes) (k : List Lexeme) → (declr_item_form all kind).Fits x → (declr_item_form all kind).scopes x s ≡ Some s' →
+  next_declr_read : (kind : Kind) (room : ℕ) → room ≤ n
+      → (token : ℕ) (x : DeclrItem) (s s' : HeldScopes) (k : List Lexeme) → (declr_item_form all kind).Fits x
+      → (declr_item_form all kind).scopes x s ≡ Some s' →
       (declr_item_form all kind).height x ≤ room → ends_init_declr (kind_at k) ≡ true →
       next_init_declr inner kind room token s ((declr_item_form all kind).text x k) ≡ done (found (one_more x) s' k)
   unfolding next_init_declr
@@ -170,7 +179,8 @@ module _ (all : List Lexeme) (numbered : IsNumbered all) (tokens : TokenLaws all
       (bind_is _ (init_declr_read kind room less x s s' k fit named low ended) refl)
 
   -- more declarators and the end, behind a first, whatever read it
-  pub declrs_read : (exts : List ℕ) (words : SpecWords) (kind : Kind) (room : ℕ) → room ≤ n → (first : Reader DeclrItem) (x : DeclrItem) (ds : InitDeclrs) (semi : ℕ) (s₁ s t : HeldScopes) (ts₁ k : List Lexeme) →
+  pub declrs_read : (exts : List ℕ) (words : SpecWords) (kind : Kind) (room : ℕ) → room ≤ n
+      → (first : Reader DeclrItem) (x : DeclrItem) (ds : InitDeclrs) (semi : ℕ) (s₁ s t : HeldScopes) (ts₁ k : List Lexeme) →
       first s₁ ts₁ ≡ done (found x s (other_init_declrs_text all ds (sign_text puncts.Semicolon semi k))) → AreInitDeclrs all ds → init_declrs_scopes kind ds s ≡ Some t → init_declrs_height ds ≤ room - 1 →
       declrs_with inner exts words kind room first s₁ ts₁ ≡ done (found (declaration exts words (more_init_declrs x.before x.declr x.label x.attrs x.init ds) semi) t k)
   unfolding declrs_with
@@ -185,17 +195,21 @@ module _ (all : List Lexeme) (numbered : IsNumbered all) (tokens : TokenLaws all
       (subst (λ (h : ℕ). h ≤ room - 1) (sym (declrs_high all kind (declrs_items ds) ∙ ap init_declrs_height (declrs_back ds))) low) (refl, λ x. refl))
       (bind_is _ refl (ap (λ (ds : InitDeclrs). done (found (declaration exts words (more_init_declrs x.before x.declr x.label x.attrs x.init ds) semi) t k)) (declrs_back ds)))
 
-  pub bare_read : (exts : List ℕ) (words : SpecWords) (room : ℕ) (s : HeldScopes) (semi : ℕ) (k : List Lexeme) → 1 + specs_height words ≤ room →
+  pub bare_read : (exts : List ℕ) (words : SpecWords) (room : ℕ) (s : HeldScopes) (semi : ℕ) (k : List Lexeme)
+      → 1 + specs_height words ≤ room →
       bare_declaration inner exts words room s (sign_text puncts.Semicolon semi k) ≡ done (found (declaration exts words no_init_declrs semi) s k)
   unfolding bare_declaration
   bare_read exts words room s semi k low = fits_is (1 + specs_height words) room (sign_text puncts.Semicolon semi k) _ low ∙ bind_is _ refl refl
 
-  pub others_end : (ds : InitDeclrs) (semi : ℕ) (k : List Lexeme) → ends_init_declr (kind_at (other_init_declrs_text all ds (sign_text puncts.Semicolon semi k))) ≡ true
+  pub others_end : (ds : InitDeclrs) (semi : ℕ) (k : List Lexeme)
+      → ends_init_declr (kind_at (other_init_declrs_text all ds (sign_text puncts.Semicolon semi k))) ≡ true
   others_end no_init_declrs semi k = refl
   others_end (more_init_declrs attrs d l attrs2 i ds) semi k = refl
 
   -- the one name behind words with `__auto_type`
-  auto_name_read : (name room : ℕ) (s t : HeldScopes) (token : ℕ) (k : List Lexeme) → 1 ≤ room → at_name (Some Value) name s ≡ Some t → auto_name inner (Some name) room s (name_text name token k) ≡ done (found (declr_name token name) t k)
+  auto_name_read : (name room : ℕ) (s t : HeldScopes) (token : ℕ) (k : List Lexeme) → 1 ≤ room
+      → at_name (Some Value) name s ≡ Some t
+      → auto_name inner (Some name) room s (name_text name token k) ≡ done (found (declr_name token name) t k)
   auto_name_read name room s t token k low named =
       bind_is _ (ap (λ (o : Option HeldScopes). name_held name room o s (name_text name token k)) named ∙ fits_is 1 room (name_text name token k) _ low ∙ bind_is _ refl refl) refl
 
@@ -208,11 +222,13 @@ module _ (all : List Lexeme) (numbered : IsNumbered all) (tokens : TokenLaws all
   auto_value : (w d a h room : ℕ) → max w (max (max 0 (max d (max 0 (max a h))) + 1) 0) + 1 ≤ room → h ≤ room - 1 - 1
   auto_value w d a h room p = omega (arith, p)
 
-  auto_less : (w d a h room n : ℕ) → room ≤ n → max w (max (max 0 (max d (max 0 (max a h))) + 1) 0) + 1 ≤ room → room - 1 - 1 < n
+  auto_less : (w d a h room n : ℕ) → room ≤ n → max w (max (max 0 (max d (max 0 (max a h))) + 1) 0) + 1 ≤ room
+      → room - 1 - 1 < n
   auto_less w d a h room n q p = omega (arith, p, q)
 
   -- with what stands in the place of the name: a name, or a base word
-  auto_read : (exts : List ℕ) (words : SpecWords) (room : ℕ) → room ≤ n → (d : Declr) → 1 ≤ declr_height d → (attrs : List Attr) (equal : ℕ) (e : Expr) (semi : ℕ) (s s' : HeldScopes) (k : List Lexeme) →
+  auto_read : (exts : List ℕ) (words : SpecWords) (room : ℕ) → room ≤ n → (d : Declr) → 1 ≤ declr_height d
+      → (attrs : List Attr) (equal : ℕ) (e : Expr) (semi : ℕ) (s s' : HeldScopes) (k : List Lexeme) →
       ((t : HeldScopes) (k : List Lexeme) → 1 ≤ room - 2 → (if is_base d then Some s else declr_scopes (Some Value) d s) ≡ Some t →
       auto_declarator inner (has_typedef_word (storage_words words)) (room - 2) s (declr_text all d k) ≡ done (found d t k)) → AreAttrs all attrs → IsExpr all e × (1 ≤ expr_level e) →
       auto_declrs_scopes (more_init_declrs [] d None attrs (some_init equal (init_value e)) no_init_declrs) s ≡ Some s' →
@@ -242,7 +258,8 @@ module _ (all : List Lexeme) (numbered : IsNumbered all) (tokens : TokenLaws all
       same_scopes s t e = cc
 
   -- a base word is taken as it stands
-  auto_base_read : (room : ℕ) (s t : HeldScopes) (token : ℕ) (k : List Lexeme) → 1 ≤ room → Some s ≡ Some t → auto_declarator inner true room s (keyword_text keywords.BaseWord token k) ≡ done (found (base_name token) t k)
+  auto_base_read : (room : ℕ) (s t : HeldScopes) (token : ℕ) (k : List Lexeme) → 1 ≤ room → Some s ≡ Some t
+      → auto_declarator inner true room s (keyword_text keywords.BaseWord token k) ≡ done (found (base_name token) t k)
   auto_base_read room s t token k low same =
       fits_is 1 room (keyword_text keywords.BaseWord token k) _ low ∙ bind_is _ refl (ap (λ (s : HeldScopes). done (found (base_name token) s k)) (same_state s t same))
     where
@@ -250,7 +267,8 @@ module _ (all : List Lexeme) (numbered : IsNumbered all) (tokens : TokenLaws all
       same_state s t e = cc
 
   -- what stands behind words without `__auto_type`
-  plain_read : (exts : List ℕ) (words : SpecWords) (room : ℕ) → room ≤ n → (ds : InitDeclrs) (semi : ℕ) (s s' : HeldScopes) (k : List Lexeme) → IsInitStart ds → AreInitDeclrs all ds →
+  plain_read : (exts : List ℕ) (words : SpecWords) (room : ℕ) → room ≤ n
+      → (ds : InitDeclrs) (semi : ℕ) (s s' : HeldScopes) (k : List Lexeme) → IsInitStart ds → AreInitDeclrs all ds →
       init_declrs_scopes (declared_kind words) ds s ≡ Some s' → max (specs_height words) (init_declrs_height ds) + 1 ≤ room →
       (if is_semicolon (kind_at (init_declrs_text all ds (sign_text puncts.Semicolon semi k))) then bare_declaration inner exts words room s (init_declrs_text all ds (sign_text puncts.Semicolon semi k))
       else declrs_with inner exts words (declared_kind words) room (init_declr_with inner [] (declared_kind words) (room - 1)) s (init_declrs_text all ds (sign_text puncts.Semicolon semi k))) ≡
@@ -275,13 +293,16 @@ module _ (all : List Lexeme) (numbered : IsNumbered all) (tokens : TokenLaws all
       fit.6 b.2 (rest_low (specs_height words) ((declr_item_form all kind).height x) (init_declrs_height ds) room low))
 
   -- what stands behind the words
-  pub behind_read : (exts : List ℕ) (words : SpecWords) (room : ℕ) → room ≤ n → (ds : InitDeclrs) (semi : ℕ) (s s' : HeldScopes) (k : List Lexeme) → IsInitStart ds → AreInitDeclrs all ds → IsAutoWhere (has_auto words) words ds →
+  pub behind_read : (exts : List ℕ) (words : SpecWords) (room : ℕ) → room ≤ n
+      → (ds : InitDeclrs) (semi : ℕ) (s s' : HeldScopes) (k : List Lexeme) → IsInitStart ds → AreInitDeclrs all ds
+      → IsAutoWhere (has_auto words) words ds →
       words_declrs_scopes words ds s ≡ Some s' → max (specs_height words) (init_declrs_height ds) + 1 ≤ room →
       declaration_behind inner exts words room s (init_declrs_text all ds (sign_text puncts.Semicolon semi k)) ≡ done (found (declaration exts words ds semi) s' k)
   unfolding declaration_behind
   behind_read exts words room less ds semi s s' k start fit auto named low = by_auto (has_auto words) auto named
     where
-      auto_declr_read : (ds : InitDeclrs) → IsAutoDeclr words ds → AreInitDeclrs all ds → IsInitStart ds → auto_declrs_scopes ds s ≡ Some s' → max (specs_height words) (init_declrs_height ds) + 1 ≤ room →
+      auto_declr_read : (ds : InitDeclrs) → IsAutoDeclr words ds → AreInitDeclrs all ds → IsInitStart ds
+          → auto_declrs_scopes ds s ≡ Some s' → max (specs_height words) (init_declrs_height ds) + 1 ≤ room →
           auto_behind inner exts words room s (init_declrs_text all ds (sign_text puncts.Semicolon semi k)) ≡ done (found (declaration exts words ds semi) s' k)
       auto_declr_read (more_init_declrs [] (declr_name token name) None attrs2 (some_init equal (init_value e)) no_init_declrs) auto fit start named low =
           auto_read exts words room less (declr_name token name) (omega arith) attrs2 equal e semi s s' k
@@ -293,7 +314,8 @@ module _ (all : List Lexeme) (numbered : IsNumbered all) (tokens : TokenLaws all
       auto_declr_read (more_init_declrs (a ∷ attrs) (base_name token) None attrs2 (some_init equal (init_value e)) no_init_declrs) auto fit start named low = absurd cc
       auto_declr_read ds auto fit start named low = absurd auto
 
-      by_auto : (b : Bool) → IsAutoWhere b words ds → (if b then auto_declrs_scopes ds else init_declrs_scopes (declared_kind words) ds) s ≡ Some s' →
+      by_auto : (b : Bool) → IsAutoWhere b words ds
+          → (if b then auto_declrs_scopes ds else init_declrs_scopes (declared_kind words) ds) s ≡ Some s' →
           (if b then auto_behind inner exts words room s (init_declrs_text all ds (sign_text puncts.Semicolon semi k))
           else if is_semicolon (kind_at (init_declrs_text all ds (sign_text puncts.Semicolon semi k))) then bare_declaration inner exts words room s (init_declrs_text all ds (sign_text puncts.Semicolon semi k))
           else declrs_with inner exts words (declared_kind words) room (init_declr_with inner [] (declared_kind words) (room - 1)) s (init_declrs_text all ds (sign_text puncts.Semicolon semi k))) ≡
@@ -302,7 +324,9 @@ module _ (all : List Lexeme) (numbered : IsNumbered all) (tokens : TokenLaws all
       by_auto false auto named = plain_read exts words room less ds semi s s' k start fit named low
 
   -- a declaration, behind `__extension__`
-  pub declaration_read : (whole_are : WholeAreMixes) (exts : List ℕ) (room : ℕ) → room ≤ n → (words : SpecWords) (ds : InitDeclrs) (semi : ℕ) (s s' : HeldScopes) (k : List Lexeme) → IsMix words → AreSpecWords all words → IsInitStart ds →
+  pub declaration_read : (whole_are : WholeAreMixes) (exts : List ℕ) (room : ℕ) → room ≤ n
+      → (words : SpecWords) (ds : InitDeclrs) (semi : ℕ) (s s' : HeldScopes) (k : List Lexeme) → IsMix words
+      → AreSpecWords all words → IsInitStart ds →
       AreInitDeclrs all ds → IsAutoWhere (has_auto words) words ds → IsBaseStart words ds → behind (spec_words_scopes words s) (words_declrs_scopes words ds) ≡ Some s' → max (specs_height words) (init_declrs_height ds) + 1 ≤ room →
       declaration_with inner exts room s (spec_words_text all words (init_declrs_text all ds (sign_text puncts.Semicolon semi k))) ≡ done (found (declaration exts words ds semi) s' k)
   unfolding declaration_with
@@ -313,7 +337,9 @@ module _ (all : List Lexeme) (numbered : IsNumbered all) (tokens : TokenLaws all
       (behind_read exts words room less ds semi b.0 s' k start declrs_fit auto b.2 low)
 
   -- the same behind words that were read already
-  pub declaration_from_read : (whole_are : WholeAreMixes) (known rest : SpecWords) (room : ℕ) → room ≤ n → (ds : InitDeclrs) (semi : ℕ) (s t s' : HeldScopes) (k : List Lexeme) → IsMix (append_words known rest) → AreSpecWords all rest →
+  pub declaration_from_read : (whole_are : WholeAreMixes) (known rest : SpecWords) (room : ℕ) → room ≤ n
+      → (ds : InitDeclrs) (semi : ℕ) (s t s' : HeldScopes) (k : List Lexeme) → IsMix (append_words known rest)
+      → AreSpecWords all rest →
       IsInitStart ds → AreInitDeclrs all ds → IsAutoWhere (has_auto (append_words known rest)) (append_words known rest) ds → IsBaseStart (append_words known rest) ds → spec_words_scopes rest s ≡ Some t →
       words_declrs_scopes (append_words known rest) ds t ≡ Some s' → max (specs_height (append_words known rest)) (init_declrs_height ds) + 1 ≤ room →
       declaration_from inner known room s (spec_words_text all rest (init_declrs_text all ds (sign_text puncts.Semicolon semi k))) ≡ done (found (declaration [] (append_words known rest) ds semi) s' k)

@@ -43,24 +43,28 @@ attrs_asks (a ∷ attrs) room h = omega (arith, h)
 
 module _ (all : List Lexeme) where
   module _ (kind : Kind) where
-    other_declrs_are : (xs : List DeclrItem) (k : List Lexeme) → others_text (declr_item_form all kind) no_ending xs k ≡ other_init_declrs_text all (init_declrs_from xs) k
+    other_declrs_are : (xs : List DeclrItem) (k : List Lexeme)
+        → others_text (declr_item_form all kind) no_ending xs k ≡ other_init_declrs_text all (init_declrs_from xs) k
     other_declrs_are [] k = refl
     other_declrs_are (x ∷ xs) k =
         ap (λ (k : List Lexeme). separated (attrs_text all x.before (declr_text all x.declr (label_text all x.label (attrs_text all x.attrs (some_init_text all x.init k)))))) (other_declrs_are xs k)
 
-    pub declrs_are : (xs : List DeclrItem) (k : List Lexeme) → commas_text (declr_item_form all kind) no_ending xs k ≡ init_declrs_text all (init_declrs_from xs) k
+    pub declrs_are : (xs : List DeclrItem) (k : List Lexeme)
+        → commas_text (declr_item_form all kind) no_ending xs k ≡ init_declrs_text all (init_declrs_from xs) k
     declrs_are [] k = refl
     declrs_are (x ∷ xs) k =
         ap (λ (k : List Lexeme). attrs_text all x.before (declr_text all x.declr (label_text all x.label (attrs_text all x.attrs (some_init_text all x.init k))))) (other_declrs_are xs k)
 
-    pub others_are : (xs : List DeclrItem) (k : List Lexeme) → others_text (declr_item_form all kind) no_ending xs k ≡ other_init_declrs_text all (init_declrs_from xs) k
+    pub others_are : (xs : List DeclrItem) (k : List Lexeme)
+        → others_text (declr_item_form all kind) no_ending xs k ≡ other_init_declrs_text all (init_declrs_from xs) k
     others_are xs k = other_declrs_are xs k
 
     pub no_end : (last : Option ⊥) (k : List Lexeme) → ending_text (declr_item_form all kind) no_ending last k ≡ k
     no_end None k = refl
     no_end (Some e) k = absurd e
 
-    pub declrs_fit : (xs : List DeclrItem) → AllFit (declr_item_form all kind) xs → AreInitDeclrs all (init_declrs_from xs)
+    pub declrs_fit : (xs : List DeclrItem) → AllFit (declr_item_form all kind) xs
+        → AreInitDeclrs all (init_declrs_from xs)
     declrs_fit [] h = tt
     declrs_fit (x ∷ xs) h = (h.0.0, h.0.1, h.0.2, h.0.3, h.0.4, h.0.5, declrs_fit xs h.1, h.0.6)
 
@@ -68,38 +72,46 @@ module _ (all : List Lexeme) where
     declrs_fit_back no_init_declrs h = tt
     declrs_fit_back (more_init_declrs attrs d asm_label attrs2 init ds) h = ((h.0, h.1, h.2, h.3, h.4, h.5, h.7), declrs_fit_back ds h.6)
 
-    pub declrs_named : (xs : List DeclrItem) (s : HeldScopes) → row_scopes (declr_item_form all kind) xs s ≡ init_declrs_scopes kind (init_declrs_from xs) s
+    pub declrs_named : (xs : List DeclrItem) (s : HeldScopes)
+        → row_scopes (declr_item_form all kind) xs s ≡ init_declrs_scopes kind (init_declrs_from xs) s
     declrs_named [] s = refl
     declrs_named (x ∷ xs) s = behind_same (behind (declr_scopes (Some kind) x.declr s) (λ t. some_init_scopes x.init (release kind t))) _ _ (λ t. declrs_named xs t)
 
-    pub declrs_high : (xs : List DeclrItem) → row_height (declr_item_form all kind) xs ≡ init_declrs_height (init_declrs_from xs)
+    pub declrs_high : (xs : List DeclrItem)
+        → row_height (declr_item_form all kind) xs ≡ init_declrs_height (init_declrs_from xs)
     declrs_high [] = refl
     declrs_high (x ∷ xs) = ap (max (max (attrs_height x.before) (max (declr_height x.declr) (max (label_height x.label) (max (attrs_height x.attrs) (some_init_height x.init)))) + 1)) (declrs_high xs)
 
-  pub block_items_are : (xs : List BlockItem) (k : List Lexeme) → row_text (block_item_form all) xs k ≡ block_items_text all (block_items_from xs) k
+  pub block_items_are : (xs : List BlockItem) (k : List Lexeme)
+      → row_text (block_item_form all) xs k ≡ block_items_text all (block_items_from xs) k
   block_items_are [] k = refl
   block_items_are (x ∷ xs) k = ap (block_item_text all x) (block_items_are xs k)
 
-  pub block_items_fit : (xs : List BlockItem) → AllFit (block_item_form all) xs → AreBlockItems all (block_items_from xs)
+  pub block_items_fit : (xs : List BlockItem) → AllFit (block_item_form all) xs
+      → AreBlockItems all (block_items_from xs)
   block_items_fit [] h = tt
   block_items_fit (x ∷ xs) h = (h.0, block_items_fit xs h.1)
 
-  pub block_items_fit_back : (xs : BlockItems) → AreBlockItems all xs → AllFit (block_item_form all) (block_items_items xs)
+  pub block_items_fit_back : (xs : BlockItems) → AreBlockItems all xs
+      → AllFit (block_item_form all) (block_items_items xs)
   block_items_fit_back no_block_items h = tt
   block_items_fit_back (more_block_items x xs) h = (h.0, block_items_fit_back xs h.1)
 
-  pub block_items_named : (xs : List BlockItem) (s : HeldScopes) → row_scopes (block_item_form all) xs s ≡ block_items_scopes (block_items_from xs) s
+  pub block_items_named : (xs : List BlockItem) (s : HeldScopes)
+      → row_scopes (block_item_form all) xs s ≡ block_items_scopes (block_items_from xs) s
   block_items_named [] s = refl
   block_items_named (x ∷ xs) s = behind_same (block_item_scopes x s) _ _ (λ t. block_items_named xs t)
 
   -- of a block with these items, which counts itself
-  pub block_high : (xs : List BlockItem) (room : ℕ) → 1 ≤ room → row_height (block_item_form all) xs ≤ room - 1 → block_height (block_items_from xs) ≤ room
+  pub block_high : (xs : List BlockItem) (room : ℕ) → 1 ≤ room → row_height (block_item_form all) xs ≤ room - 1
+      → block_height (block_items_from xs) ≤ room
   block_high [] room a h = omega (arith, a)
   block_high (x ∷ xs) room a h =
       let rest : block_height (block_items_from xs) ≤ room = block_high xs room a (omega (arith, h)) in
       omega (arith, a, h, rest)
 
-  pub block_high_back : (xs : BlockItems) (room : ℕ) → block_height xs ≤ room → row_height (block_item_form all) (block_items_items xs) ≤ room - 1
+  pub block_high_back : (xs : BlockItems) (room : ℕ) → block_height xs ≤ room
+      → row_height (block_item_form all) (block_items_items xs) ≤ room - 1
   block_high_back no_block_items room h = omega arith
   block_high_back (more_block_items x xs) room h =
       let rest : row_height (block_item_form all) (block_items_items xs) ≤ room - 1 = block_high_back xs room (omega (arith, h)) in

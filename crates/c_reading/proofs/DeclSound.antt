@@ -8,8 +8,8 @@ use Rattle.c_words.specs.declared.kinds.Keyword.TheVariants as keywords
 use Rattle.c_tree.specs.declared.lexeme.Lexeme.{Lexeme}
 use Rattle.c_syntax.specs.declared.parts.Attr.{Attr}
 use Rattle.c_syntax.specs.declared.parts.AsmLabel.{AsmLabel}
-use Rattle.c_tree.specs.Tree.{Expr, SpecWords, no_words, more_words, Declr, some_declr, init_value, SomeInit, no_init, some_init, Declaration, declaration, declr_name, InitDeclrs, no_init_declrs, more_init_declrs}
-use Rattle.c_tree.specs.Text.{sign_text, keyword_text, name_text, expr_text, attrs_text, label_text, declr_text, spec_word_text, spec_words_text, init_declrs_text, extensions_text}
+use Rattle.c_tree.specs.Tree.{Expr, SpecWords, no_words, more_words, Declr, some_declr, init_value, some_init, Declaration, declaration, declr_name, InitDeclrs, no_init_declrs, more_init_declrs}
+use Rattle.c_tree.specs.Text.{sign_text, keyword_text, expr_text, attrs_text, label_text, declr_text, spec_word_text, spec_words_text, init_declrs_text, extensions_text}
 use Rattle.c_tree.specs.Height.{attrs_height, expr_height, label_height, declr_height, some_init_height, specs_height, init_declrs_height}
 use Rattle.c_tree.specs.Specifiers.{IsMix, storage_words}
 use Rattle.c_tree.specs.WellFormed.{AreSpecWords, AreAttrs, IsLabel, IsDeclr, is_named, lists_identifiers, has_auto, IsAutoDeclr, IsAutoWhere, IsInitStart, AreInitDeclrs, IsDeclaration}
@@ -26,7 +26,7 @@ use Rattle.c_specs.specs.Reading.{append_words}
 use Rattle.c_reading.specs.declared.kinds.Role.TheVariants.{Declaring}
 use Rattle.c_units.specs.HeldScopes.{HeldScopes, release}
 use Rattle.c_units.specs.Scoping.{behind, at_name, is_base, has_typedef_word, expr_scopes, auto_declrs_scopes, declared_kind, spec_word_scopes, spec_words_scopes, declr_scopes, init_scopes, some_init_scopes, init_declrs_scopes, declaration_scopes}
-use Rattle.c_reading.specs.Reading.{Found, Read, Reader, and_then, kind_at, Next, one_more, CommaList, IsNumbered, IsTail, listed}
+use Rattle.c_reading.specs.Reading.{Found, Reader, and_then, kind_at, Next, CommaList, IsNumbered, IsTail, listed}
 use Rattle.c_reading.specs.Tokens.{is_semicolon, is_equal, is_asm, is_base_word, spelled_name}
 use Rattle.c_reading.specs.Parts.{Inner, Declared, DeclrItem, init_declrs_from}
 use Rattle.c_reading.specs.Stating.{label_at, some_init_with, declr_behind, init_declr_with, next_init_declr, declrs_with, bare_declaration, auto_declr, auto_name, auto_declarator, auto_behind, declaration_behind, declaration_with, declaration_from}
@@ -42,11 +42,9 @@ use Rattle.c_reading.proofs.DeclLists.{attrs_room, declrs_are, no_end, declrs_fi
 pub no_attrs : (all : List Lexeme) → AreAttrs all []
 no_attrs all = λ k d h. absurd (omega (arith, h))
 
-init_up : (h room : ℕ) → h ≤ room - 1 → h ≤ room - 1
-init_up h room a = a
-
 -- a declarator with what stands before and behind it
-item_low : (a d l b i room : ℕ) → a ≤ room - 1 → d ≤ room - 1 → l ≤ room - 1 → b ≤ room - 1 → i ≤ room - 1 → 1 ≤ d → max a (max d (max l (max b i))) + 1 ≤ room
+item_low : (a d l b i room : ℕ) → a ≤ room - 1 → d ≤ room - 1 → l ≤ room - 1 → b ≤ room - 1 → i ≤ room - 1 → 1 ≤ d
+    → max a (max d (max l (max b i))) + 1 ≤ room
 item_low a d l b i room p q r s t u = omega (arith, p, q, r, s, t, u)
 
 pub declr_high : (d : Declr) → 1 ≤ declr_height d
@@ -57,15 +55,18 @@ append_none : (ws : SpecWords) → append_words ws no_words ≡ ws
 append_none no_words = refl
 append_none (more_words w ws) = ap (more_words w) (append_none ws)
 
-append_text : (all : List Lexeme) (ws more : SpecWords) (k : List Lexeme) → spec_words_text all (append_words ws more) k ≡ spec_words_text all ws (spec_words_text all more k)
+append_text : (all : List Lexeme) (ws more : SpecWords) (k : List Lexeme)
+    → spec_words_text all (append_words ws more) k ≡ spec_words_text all ws (spec_words_text all more k)
 append_text all no_words more k = refl
 append_text all (more_words w ws) more k = ap (spec_word_text all w) (append_text all ws more k)
 
-append_fits : (all : List Lexeme) (ws more : SpecWords) → AreSpecWords all ws → AreSpecWords all more → AreSpecWords all (append_words ws more)
+append_fits : (all : List Lexeme) (ws more : SpecWords) → AreSpecWords all ws → AreSpecWords all more
+    → AreSpecWords all (append_words ws more)
 append_fits all no_words more h m = m
 append_fits all (more_words w ws) more h m = (h.0, append_fits all ws more h.1 m)
 
-append_scopes : (ws more : SpecWords) (s t u : HeldScopes) → spec_words_scopes ws s ≡ Some t → spec_words_scopes more t ≡ Some u → spec_words_scopes (append_words ws more) s ≡ Some u
+append_scopes : (ws more : SpecWords) (s t u : HeldScopes) → spec_words_scopes ws s ≡ Some t
+    → spec_words_scopes more t ≡ Some u → spec_words_scopes (append_words ws more) s ≡ Some u
 append_scopes no_words more s t u h m = subst (λ (t : HeldScopes). spec_words_scopes more t ≡ Some u) (sym cc) m
 append_scopes (more_words w ws) more s t u h m =
     let b = behind_ok (spec_word_scopes w s) (spec_words_scopes ws) t h in
@@ -82,7 +83,8 @@ module _ (all : List Lexeme) (numbered : IsNumbered all) (tokens : TokenLaws all
   some_scopes : (s t : HeldScopes) → Some s ≡ Some t → t ≡ s
   some_scopes s t e = cc
 
-  label_sound : (s : HeldScopes) (ts : List Lexeme) (x : Found (Option AsmLabel)) → IsTail all ts → label_at s ts ≡ done x → TookLabel s ts x
+  label_sound : (s : HeldScopes) (ts : List Lexeme) (x : Found (Option AsmLabel)) → IsTail all ts
+      → label_at s ts ≡ done x → TookLabel s ts x
   unfolding label_at
   label_sound s ts x tail e =
       if_ok (is_asm (kind_at ts)) e (λ is e.
@@ -109,7 +111,9 @@ module _ (all : List Lexeme) (numbered : IsNumbered all) (tokens : TokenLaws all
   label_low (Some l) d room a b = omega (arith, a, b)
 
   -- What stands behind a declarator, whose name is declared there, with the declarator and what stands before it.
-  pub declr_behind_sound : (before : List Attr) (d : Declr) (kind : Kind) (room : ℕ) (s u : HeldScopes) (ts : List Lexeme) (x : Found DeclrItem) → AreAttrs all before → attrs_height before ≤ room - 1 → IsDeclr all d → is_named d ≡ true → lists_identifiers d ≡ false →
+  pub declr_behind_sound : (before : List Attr) (d : Declr) (kind : Kind) (room : ℕ) (s u : HeldScopes) (ts : List Lexeme) (x : Found DeclrItem)
+      → AreAttrs all before → attrs_height before ≤ room - 1 → IsDeclr all d → is_named d ≡ true
+      → lists_identifiers d ≡ false →
       declr_scopes (Some kind) d s ≡ Some u → declr_height d ≤ room - 1 → IsTail all ts → declr_behind inner before d room (release kind u) ts ≡ done x →
       Takes all (declr_item_form all kind) room s (attrs_text all before (declr_text all d ts)) x
   unfolding declr_behind
@@ -128,7 +132,8 @@ module _ (all : List Lexeme) (numbered : IsNumbered all) (tokens : TokenLaws all
         left = j.left;
       })
 
-  pub behind_first : (before : List Attr) (d : Declr) (room : ℕ) (s : HeldScopes) (ts : List Lexeme) (x : Found DeclrItem) → declr_behind inner before d room s ts ≡ done x → x.tree.before ≡ before
+  pub behind_first : (before : List Attr) (d : Declr) (room : ℕ) (s : HeldScopes) (ts : List Lexeme) (x : Found DeclrItem)
+      → declr_behind inner before d room s ts ≡ done x → x.tree.before ≡ before
   unfolding declr_behind
   behind_first before d room s ts x e =
       let a = bind_ok e in
@@ -136,7 +141,9 @@ module _ (all : List Lexeme) (numbered : IsNumbered all) (tokens : TokenLaws all
       let c = bind_ok b.2 in
       ap (λ (x : Found DeclrItem). x.tree.before) (sym (ok_is c.2))
 
-  init_declr_sound : (before : List Attr) (kind : Kind) (room : ℕ) (s : HeldScopes) (ts : List Lexeme) (x : Found DeclrItem) → AreAttrs all before → attrs_height before ≤ room - 1 → IsTail all ts → init_declr_with inner before kind room s ts ≡ done x →
+  init_declr_sound : (before : List Attr) (kind : Kind) (room : ℕ) (s : HeldScopes) (ts : List Lexeme) (x : Found DeclrItem)
+      → AreAttrs all before → attrs_height before ≤ room - 1 → IsTail all ts
+      → init_declr_with inner before kind room s ts ≡ done x →
       Takes all (declr_item_form all kind) room s (attrs_text all before ts) x
   unfolding init_declr_with
   init_declr_sound before kind room s ts x fit low tail e =
@@ -145,7 +152,8 @@ module _ (all : List Lexeme) (numbered : IsNumbered all) (tokens : TokenLaws all
       let is : attrs_text all before ts ≡ attrs_text all before (declr_text all a.0.tree a.0.rest) = ap (attrs_text all before) i.spelled in
       rw is (declr_behind_sound before a.0.tree kind room s a.0.scopes a.0.rest x fit low i.fits.0 i.fits.1 i.fits.2 i.named i.low i.left a.2)
 
-  next_declr_sound : (kind : Kind) (room token : ℕ) (s : HeldScopes) (ts : List Lexeme) (x : Found (Next DeclrItem ⊥)) → IsTail all ts → next_init_declr inner kind room token s ts ≡ done x →
+  next_declr_sound : (kind : Kind) (room token : ℕ) (s : HeldScopes) (ts : List Lexeme) (x : Found (Next DeclrItem ⊥))
+      → IsTail all ts → next_init_declr inner kind room token s ts ≡ done x →
       NextTakes all (declr_item_form all kind) no_ending room token s ts x.tree x.scopes x.rest
   unfolding next_init_declr
   next_declr_sound kind room token s ts x tail e =
@@ -157,7 +165,8 @@ module _ (all : List Lexeme) (numbered : IsNumbered all) (tokens : TokenLaws all
       at_end (λ (x : Found (Next DeclrItem ⊥)). length x.rest < length ts → NextTakes all (declr_item_form all kind) no_ending room token s ts x.tree x.scopes x.rest) b.2
       (λ less. (record { spelled = i.spelled ∙ j.spelled; fits = j.fits; named = subst (λ (t : HeldScopes). (declr_item_form all kind).scopes b.0.tree t ≡ Some b.0.scopes) (some_scopes s a.0.scopes i.named) j.named; low = j.low; left = j.left }, less)) less
     where
-      unfolded : next_init_declr inner kind room token s ts ≡ done x → next_init_declr inner kind room token s ts ≡ done x
+      unfolded : next_init_declr inner kind room token s ts ≡ done x
+          → next_init_declr inner kind room token s ts ≡ done x
       unfolded e = e
 
   words_low : (a b room : ℕ) → 1 ≤ b → a ≤ room - 1 → b ≤ room - 1 → max a b + 1 ≤ room
@@ -168,7 +177,8 @@ module _ (all : List Lexeme) (numbered : IsNumbered all) (tokens : TokenLaws all
   first_bare [] = ⊥
   first_bare (x ∷ xs) = x.before ≡ []
 
-  bare_more : (xs : List DeclrItem) (y : DeclrItem) → first_bare xs → first_bare (Rattle.std.specs.Prelude.◌++◌ xs (y ∷ []))
+  bare_more : (xs : List DeclrItem) (y : DeclrItem) → first_bare xs
+      → first_bare (Rattle.std.specs.Prelude.◌++◌ xs (y ∷ []))
   bare_more [] y h = absurd h
   bare_more (x ∷ xs) y h = h
 
@@ -177,7 +187,8 @@ module _ (all : List Lexeme) (numbered : IsNumbered all) (tokens : TokenLaws all
   starts_of (x ∷ xs) h = h
 
   -- declarators have two levels
-  pub two_levels : (xs : List DeclrItem) (kind : Kind) (room : ℕ) → HasItem (declr_item_form all kind) no_ending xs → init_declrs_height (init_declrs_from xs) ≤ room - 1 → 2 ≤ room - 1
+  pub two_levels : (xs : List DeclrItem) (kind : Kind) (room : ℕ) → HasItem (declr_item_form all kind) no_ending xs
+      → init_declrs_height (init_declrs_from xs) ≤ room - 1 → 2 ≤ room - 1
   two_levels [] kind room h low = absurd h
   two_levels (x ∷ xs) kind room h low = let d : 1 ≤ declr_height x.declr = declr_high x.declr in omega (arith, low, d)
 
@@ -197,7 +208,8 @@ module _ (all : List Lexeme) (numbered : IsNumbered all) (tokens : TokenLaws all
 
   -- The declarators of a declaration and its end, behind a first that was read from some start on.
   pub declrs_sound : (exts : List ℕ) (words : SpecWords) (kind : Kind) (room : ℕ) (first : Reader DeclrItem) (s : HeldScopes) (ts : List Lexeme) (s₁ : HeldScopes) (ts₁ : List Lexeme) (x : Found Declaration) →
-      ((a : Found DeclrItem) → first s₁ ts₁ ≡ done a → Takes all (declr_item_form all kind) (room - 1) s ts a) → ((a : Found DeclrItem) → first s₁ ts₁ ≡ done a → a.tree.before ≡ []) →
+      ((a : Found DeclrItem) → first s₁ ts₁ ≡ done a → Takes all (declr_item_form all kind) (room - 1) s ts a)
+      → ((a : Found DeclrItem) → first s₁ ts₁ ≡ done a → a.tree.before ≡ []) →
       declrs_with inner exts words kind room first s₁ ts₁ ≡ done x → TookDeclrs exts words kind room s ts x
   unfolding declrs_with
   declrs_sound exts words kind room first s ts s₁ ts₁ x sound starts e =
@@ -220,10 +232,13 @@ module _ (all : List Lexeme) (numbered : IsNumbered all) (tokens : TokenLaws all
         left = q.left;
       })
     where
-      first_starts : (l : Found (CommaList DeclrItem ⊥)) → listed first (next_init_declr inner kind (room - 1)) s₁ ts₁ ≡ done l → IsInitStart (init_declrs_from l.tree.items)
+      first_starts : (l : Found (CommaList DeclrItem ⊥))
+          → listed first (next_init_declr inner kind (room - 1)) s₁ ts₁ ≡ done l
+          → IsInitStart (init_declrs_from l.tree.items)
       first_starts l e = starts_of l.tree.items (listed_keeps first (next_init_declr inner kind (room - 1)) first_bare s₁ ts₁ l starts bare_more e)
 
-      some_room : (xs : List DeclrItem) → HasItem (declr_item_form all kind) no_ending xs → init_declrs_height (init_declrs_from xs) ≤ room - 1 → 1 ≤ room - 1
+      some_room : (xs : List DeclrItem) → HasItem (declr_item_form all kind) no_ending xs
+          → init_declrs_height (init_declrs_from xs) ≤ room - 1 → 1 ≤ room - 1
       some_room [] h low = absurd h
       some_room (y ∷ xs) h low = omega (arith, low)
 
@@ -246,10 +261,13 @@ module _ (all : List Lexeme) (numbered : IsNumbered all) (tokens : TokenLaws all
   pub no_auto : (words : SpecWords) (ds : InitDeclrs) → has_auto words ≡ false → IsAutoWhere (has_auto words) words ds
   no_auto words ds is = rw is tt
 
-  pub plain_scopes : (words : SpecWords) (ds : InitDeclrs) (s t : HeldScopes) → has_auto words ≡ false → init_declrs_scopes (declared_kind words) ds s ≡ Some t → words_declrs_scopes words ds s ≡ Some t
+  pub plain_scopes : (words : SpecWords) (ds : InitDeclrs) (s t : HeldScopes) → has_auto words ≡ false
+      → init_declrs_scopes (declared_kind words) ds s ≡ Some t → words_declrs_scopes words ds s ≡ Some t
   plain_scopes words ds s t is named = rw is named
 
-  pub bare_sound : (exts : List ℕ) (words : SpecWords) (room : ℕ) (s : HeldScopes) (ts : List Lexeme) (x : Found Declaration) → has_auto words ≡ false → IsTail all ts → kind_at ts ≡ kinds.Punct puncts.Semicolon → bare_declaration inner exts words room s ts ≡ done x →
+  pub bare_sound : (exts : List ℕ) (words : SpecWords) (room : ℕ) (s : HeldScopes) (ts : List Lexeme) (x : Found Declaration)
+      → has_auto words ≡ false → IsTail all ts → kind_at ts ≡ kinds.Punct puncts.Semicolon
+      → bare_declaration inner exts words room s ts ≡ done x →
       TookBehind exts words room s ts x
   unfolding bare_declaration
   bare_sound exts words room s ts x plain tail is e =
@@ -283,18 +301,23 @@ module _ (all : List Lexeme) (numbered : IsNumbered all) (tokens : TokenLaws all
     fits : IsDeclr all x.tree
     is_name : is_named x.tree ≡ true
     plain : lists_identifiers x.tree ≡ false
-    auto : (attrs : List Attr) (equal : ℕ) (e : Expr) → IsAutoDeclr words (more_init_declrs [] x.tree None attrs (some_init equal (init_value e)) no_init_declrs)
+    auto : (attrs : List Attr) (equal : ℕ) (e : Expr)
+        → IsAutoDeclr words (more_init_declrs [] x.tree None attrs (some_init equal (init_value e)) no_init_declrs)
     named : (if is_base x.tree then Some s else declr_scopes (Some Value) x.tree s) ≡ Some x.scopes
     one : declr_height x.tree ≡ 1
     some : 1 ≤ room
     left : IsTail all x.rest
 
-  auto_name_sound : (words : SpecWords) → has_typedef_word (storage_words words) ≡ false → (o : Option ℕ) (room : ℕ) (s : HeldScopes) (ts : List Lexeme) (x : Found Declr) → spelled_name (kind_at ts) ≡ o → IsTail all ts →
+  auto_name_sound : (words : SpecWords) → has_typedef_word (storage_words words) ≡ false
+      → (o : Option ℕ) (room : ℕ) (s : HeldScopes) (ts : List Lexeme) (x : Found Declr) → spelled_name (kind_at ts) ≡ o
+      → IsTail all ts →
       auto_name inner o room s ts ≡ done x → TookAuto words room s ts x
   auto_name_sound words typed None room s ts x is tail e = absurd cc
   auto_name_sound words typed (Some name) room s ts x is tail e = by_held (at_name (Some Value) name s) refl e
     where
-      by_held : (o : Option HeldScopes) → at_name (Some Value) name s ≡ o → and_then (name_held name room o s ts) (λ d. present d.tree.declr d.scopes d.rest) ≡ done x → TookAuto words room s ts x
+      by_held : (o : Option HeldScopes) → at_name (Some Value) name s ≡ o
+          → and_then (name_held name room o s ts) (λ d. present d.tree.declr d.scopes d.rest) ≡ done x
+          → TookAuto words room s ts x
       by_held None held e = let a = bind_ok e in let b : name_held name room None s ts ≡ done a.0 = a.1 in absurd cc
       by_held (Some t) held e =
           let a = bind_ok e in
@@ -305,7 +328,9 @@ module _ (all : List Lexeme) (numbered : IsNumbered all) (tokens : TokenLaws all
           let last : present (some_declr (declr_name b.0.tree name)) t b.0.rest ≡ done x = subst (λ (d : Found Declared). present d.tree.declr d.scopes d.rest ≡ done x) (sym same) a.2 in
           at_end (TookAuto words room s ts) last (record { spelled = o.spelled; fits = tt; is_name = refl; plain = refl; auto = λ attrs equal e. no_typedef (storage_words words) typed; named = held; one = refl; some = r.0; left = o.left })
 
-  auto_base_sound : (words : SpecWords) → has_typedef_word (storage_words words) ≡ true → (room : ℕ) (s : HeldScopes) (ts : List Lexeme) (x : Found Declr) → IsTail all ts → auto_declarator inner true room s ts ≡ done x → TookAuto words room s ts x
+  auto_base_sound : (words : SpecWords) → has_typedef_word (storage_words words) ≡ true
+      → (room : ℕ) (s : HeldScopes) (ts : List Lexeme) (x : Found Declr) → IsTail all ts
+      → auto_declarator inner true room s ts ≡ done x → TookAuto words room s ts x
   auto_base_sound words typed room s ts x tail e =
       if_ok (is_base_word (kind_at ts)) e (λ is e.
       let r = fits_ok _ _ _ e in
@@ -318,14 +343,18 @@ module _ (all : List Lexeme) (numbered : IsNumbered all) (tokens : TokenLaws all
       base_kind (kinds.Keyword keywords.BaseWord) is = refl
       base_kind kind is = absurd cc
 
-  auto_declarator_sound : (words : SpecWords) (room : ℕ) (s : HeldScopes) (ts : List Lexeme) (x : Found Declr) → IsTail all ts → auto_declarator inner (has_typedef_word (storage_words words)) room s ts ≡ done x → TookAuto words room s ts x
+  auto_declarator_sound : (words : SpecWords) (room : ℕ) (s : HeldScopes) (ts : List Lexeme) (x : Found Declr)
+      → IsTail all ts → auto_declarator inner (has_typedef_word (storage_words words)) room s ts ≡ done x
+      → TookAuto words room s ts x
   auto_declarator_sound words room s ts x tail e = by_typedef (has_typedef_word (storage_words words)) refl e
     where
-      by_typedef : (typed : Bool) → has_typedef_word (storage_words words) ≡ typed → auto_declarator inner typed room s ts ≡ done x → TookAuto words room s ts x
+      by_typedef : (typed : Bool) → has_typedef_word (storage_words words) ≡ typed
+          → auto_declarator inner typed room s ts ≡ done x → TookAuto words room s ts x
       by_typedef true is e = auto_base_sound words is room s ts x tail e
       by_typedef false is e = auto_name_sound words is (spelled_name (kind_at ts)) room s ts x refl tail e
 
-  auto_low : (d a h room : ℕ) → d ≡ 1 → a ≤ room - 1 - 1 → h ≤ room - 1 - 1 → 1 ≤ room - 2 → max (max 0 (max d (max 0 (max a h))) + 1) 0 ≤ room - 1
+  auto_low : (d a h room : ℕ) → d ≡ 1 → a ≤ room - 1 - 1 → h ≤ room - 1 - 1 → 1 ≤ room - 2
+      → max (max 0 (max d (max 0 (max a h))) + 1) 0 ≤ room - 1
   auto_low d a h room one p q r = omega (arith, one, p, q, r)
 
   auto_two : (room : ℕ) → 1 ≤ room - 2 → 2 ≤ room - 1
@@ -334,7 +363,8 @@ module _ (all : List Lexeme) (numbered : IsNumbered all) (tokens : TokenLaws all
   auto_one : (room : ℕ) → 1 ≤ room - 2 → 1 ≤ room
   auto_one room a = omega (arith, a)
 
-  auto_sound : (exts : List ℕ) (words : SpecWords) (room : ℕ) (s : HeldScopes) (ts : List Lexeme) (x : Found Declaration) → has_auto words ≡ true → IsTail all ts → auto_behind inner exts words room s ts ≡ done x →
+  auto_sound : (exts : List ℕ) (words : SpecWords) (room : ℕ) (s : HeldScopes) (ts : List Lexeme) (x : Found Declaration)
+      → has_auto words ≡ true → IsTail all ts → auto_behind inner exts words room s ts ≡ done x →
       TookBehind exts words room s ts x
   unfolding auto_behind auto_declr
   auto_sound exts words room s ts x auto tail e =
@@ -369,7 +399,8 @@ module _ (all : List Lexeme) (numbered : IsNumbered all) (tokens : TokenLaws all
         left = q.left;
       })
 
-  pub behind_sound : (exts : List ℕ) (words : SpecWords) (room : ℕ) (s : HeldScopes) (ts : List Lexeme) (x : Found Declaration) → IsTail all ts → declaration_behind inner exts words room s ts ≡ done x → TookBehind exts words room s ts x
+  pub behind_sound : (exts : List ℕ) (words : SpecWords) (room : ℕ) (s : HeldScopes) (ts : List Lexeme) (x : Found Declaration)
+      → IsTail all ts → declaration_behind inner exts words room s ts ≡ done x → TookBehind exts words room s ts x
   unfolding declaration_behind init_declr_with
   behind_sound exts words room s ts x tail e =
       if_ok (has_auto words) e (λ auto e. auto_sound exts words room s ts x auto tail e) (λ plain e.
@@ -377,12 +408,14 @@ module _ (all : List Lexeme) (numbered : IsNumbered all) (tokens : TokenLaws all
       of_declrs plain (declrs_sound exts words (declared_kind words) room (init_declr_with inner [] (declared_kind words) (room - 1)) s ts s ts x
       (λ a e. init_declr_sound [] (declared_kind words) (room - 1) s ts a (no_attrs all) (omega arith) tail e) (λ a e. bare_first a e) e)))
     where
-      bare_first : (a : Found DeclrItem) → init_declr_with inner [] (declared_kind words) (room - 1) s ts ≡ done a → a.tree.before ≡ []
+      bare_first : (a : Found DeclrItem) → init_declr_with inner [] (declared_kind words) (room - 1) s ts ≡ done a
+          → a.tree.before ≡ []
       bare_first a e =
           let d = bind_ok e in
           behind_first [] d.0.tree (room - 1) (release (declared_kind words) d.0.scopes) d.0.rest a d.2
 
-      of_declrs : has_auto words ≡ false → TookDeclrs exts words (declared_kind words) room s ts x → TookBehind exts words room s ts x
+      of_declrs : has_auto words ≡ false → TookDeclrs exts words (declared_kind words) room s ts x
+          → TookBehind exts words room s ts x
       of_declrs plain t = record { declrs = t.declrs; semi = t.semi; is = t.is; spelled = t.spelled; fits = t.fits; starts = t.starts; named = plain_scopes words t.declrs s x.scopes plain t.named; auto = no_auto words t.declrs plain; low = t.low; words_low = inr t.two; some = one_room room t.some; left = t.left }
         where
           one_room : (room : ℕ) → 1 ≤ room - 1 → 1 ≤ room
@@ -396,8 +429,11 @@ module _ (all : List Lexeme) (numbered : IsNumbered all) (tokens : TokenLaws all
   declaration_low : (a b room : ℕ) → 1 ≤ room → a ≤ room - 1 → b ≤ room - 1 → max a b + 1 ≤ room
   declaration_low a b room o p q = omega (arith, o, p, q)
 
-  pub assembled : (goes : MixesGoOn) (exts : List ℕ) (words : SpecWords) (room : ℕ) (s t : HeldScopes) (ts ts₁ : List Lexeme) (x : Found Declaration) → ts ≡ extensions_text exts (spec_words_text all words ts₁) → IsMix words → AreSpecWords all words →
-      (is_base_word (kind_at ts₁) ≡ true → goes_on words (classes.Spells keywords.BaseWord) ≡ false) → spec_words_scopes words s ≡ Some t → specs_height words ≤ room - 1 → TookBehind exts words room t ts₁ x → Takes all (declaration_form all) room s ts x
+  pub assembled : (goes : MixesGoOn) (exts : List ℕ) (words : SpecWords) (room : ℕ) (s t : HeldScopes) (ts ts₁ : List Lexeme) (x : Found Declaration)
+      → ts ≡ extensions_text exts (spec_words_text all words ts₁) → IsMix words → AreSpecWords all words →
+      (is_base_word (kind_at ts₁) ≡ true → goes_on words (classes.Spells keywords.BaseWord) ≡ false)
+      → spec_words_scopes words s ≡ Some t → specs_height words ≤ room - 1 → TookBehind exts words room t ts₁ x
+      → Takes all (declaration_form all) room s ts x
   assembled goes exts words room s t ts ts₁ x spelled mix fit stops named low b =
       subst (λ (d : Declaration). ts ≡ (declaration_form all).text d x.rest → IsDeclaration all d → declaration_scopes d s ≡ Some x.scopes → (declaration_form all).height d ≤ room → Takes all (declaration_form all) room s ts (found d x.scopes x.rest)) (sym b.is)
       (λ a c d f. record { spelled = a; fits = c; named = d; low = f; left = b.left }) at_tree_text at_tree_fits at_tree_named at_tree_low
@@ -414,7 +450,9 @@ module _ (all : List Lexeme) (numbered : IsNumbered all) (tokens : TokenLaws all
       at_tree_low : (declaration_form all).height x.tree ≤ room
       at_tree_low = rw b.is (declaration_low (specs_height words) (init_declrs_height b.declrs) room b.some low b.low)
 
-  pub declaration_sound : (goes : MixesGoOn) (exts : List ℕ) (room : ℕ) (s : HeldScopes) (ts : List Lexeme) (x : Found Declaration) → IsTail all ts → declaration_with inner exts room s ts ≡ done x → Takes all (declaration_form all) room s (extensions_text exts ts) x
+  pub declaration_sound : (goes : MixesGoOn) (exts : List ℕ) (room : ℕ) (s : HeldScopes) (ts : List Lexeme) (x : Found Declaration)
+      → IsTail all ts → declaration_with inner exts room s ts ≡ done x
+      → Takes all (declaration_form all) room s (extensions_text exts ts) x
   unfolding declaration_with
   declaration_sound goes exts room s ts x tail e =
       let a = bind_ok e in
@@ -425,14 +463,17 @@ module _ (all : List Lexeme) (numbered : IsNumbered all) (tokens : TokenLaws all
       inside h room a = omega (arith, a)
 
   -- the same behind words that were read already, of two levels at most
-  pub declaration_from_sound : (goes : MixesGoOn) (known : SpecWords) (room : ℕ) (s₀ s : HeldScopes) (ts : List Lexeme) (x : Found Declaration) → AreSpecWords all known → spec_words_scopes known s₀ ≡ Some s → specs_height known ≤ 2 → IsTail all ts →
+  pub declaration_from_sound : (goes : MixesGoOn) (known : SpecWords) (room : ℕ) (s₀ s : HeldScopes) (ts : List Lexeme) (x : Found Declaration)
+      → AreSpecWords all known → spec_words_scopes known s₀ ≡ Some s → specs_height known ≤ 2 → IsTail all ts →
       declaration_from inner known room s ts ≡ done x → Takes all (declaration_form all) room s₀ (spec_words_text all known ts) x
   unfolding declaration_from
   declaration_from_sound goes known room s₀ s ts x fit named two tail e =
       let a = bind_ok e in
       of_words a.0 (laws.words.sound Declaring known (room - 1) s ts a.0 tail a.1) a.2
     where
-      of_words : (a : Found SpecWords) → TakesWords all Declaring known (room - 1) s ts a → declaration_behind inner [] a.tree room a.scopes a.rest ≡ done x → Takes all (declaration_form all) room s₀ (spec_words_text all known ts) x
+      of_words : (a : Found SpecWords) → TakesWords all Declaring known (room - 1) s ts a
+          → declaration_behind inner [] a.tree room a.scopes a.rest ≡ done x
+          → Takes all (declaration_form all) room s₀ (spec_words_text all known ts) x
       of_words a w e =
           let b = behind_sound [] a.tree room a.scopes a.rest x w.left e in
           assembled goes [] a.tree room s₀ a.scopes (spec_words_text all known ts) a.rest x
@@ -440,6 +481,7 @@ module _ (all : List Lexeme) (numbered : IsNumbered all) (tokens : TokenLaws all
           w.mix (subst (AreSpecWords all) (sym w.words_are) (append_fits all known w.rest fit w.fits)) w.stops (ap (λ (ws : SpecWords). spec_words_scopes ws s₀) w.words_are ∙ append_scopes known w.rest s₀ s a.scopes named w.named)
           (by_low w.low b.words_low) b
         where
-          by_low : (w.rest ≡ no_words) ⊎ (specs_height a.tree ≤ room - 1) → (specs_height a.tree ≤ room - 1) ⊎ (2 ≤ room - 1) → specs_height a.tree ≤ room - 1
+          by_low : (w.rest ≡ no_words) ⊎ (specs_height a.tree ≤ room - 1)
+              → (specs_height a.tree ≤ room - 1) ⊎ (2 ≤ room - 1) → specs_height a.tree ≤ room - 1
           by_low (inr low) c = low
           by_low (inl none) c = words_two (specs_height a.tree) room c (subst (λ (ws : SpecWords). specs_height ws ≤ 2) (sym (w.words_are ∙ ap (append_words known) none ∙ append_none known)) two)

@@ -75,7 +75,8 @@ abstract_opens mode (kinds.Punct puncts.OpenParen) e = refl
 abstract_opens mode (kinds.Punct puncts.OpenBracket) e = refl
 abstract_opens mode kind e = absurd cc
 
-named_opens : (mode : Mode) (kind : TokenKind) → takes_name mode ≡ true → begins_named kind ≡ true → is_base_word kind ≡ false → opens_declr mode kind ≡ true
+named_opens : (mode : Mode) (kind : TokenKind) → takes_name mode ≡ true → begins_named kind ≡ true
+    → is_base_word kind ≡ false → opens_declr mode kind ≡ true
 named_opens mode (kinds.Punct puncts.Star) takes e base = refl
 named_opens mode (kinds.Punct puncts.OpenParen) takes e base = refl
 named_opens mode (kinds.Name name) takes e base = rw takes refl
@@ -83,7 +84,8 @@ named_opens mode (kinds.Keyword keywords.BaseWord) takes e base = absurd cc
 named_opens mode kind takes e base = absurd cc
 
 -- a base word is a name only where one must come
-names_base_no : (s : HeldScopes) (mode : Mode) (wanted : Option Kind) (kind : TokenKind) → is_base_word kind ≡ false → names_base s mode wanted kind ≡ false
+names_base_no : (s : HeldScopes) (mode : Mode) (wanted : Option Kind) (kind : TokenKind) → is_base_word kind ≡ false
+    → names_base s mode wanted kind ≡ false
 names_base_no s Named (Some Typedef) kind e = rw e (and_false (is_wide s))
 names_base_no s Named (Some Value) kind e = refl
 names_base_no s Named (Some Constant) kind e = refl
@@ -92,10 +94,12 @@ names_base_no s Abstract wanted kind e = refl
 names_base_no s Either wanted kind e = refl
 
 -- what begins specifiers begins no list of identifiers
-specs_no_identifier : (s : HeldScopes) (kind : TokenKind) → begins_specs s kind ≡ true → begins_identifiers s kind ≡ false
+specs_no_identifier : (s : HeldScopes) (kind : TokenKind) → begins_specs s kind ≡ true
+    → begins_identifiers s kind ≡ false
 specs_no_identifier s (kinds.Name name) e = by_type (names_type s name) e
   where
-    by_type : (b : Bool) → is_start (if b && true then starts.Name name else starts.Nothing) ≡ true → (is_wide s && not b) ≡ false
+    by_type : (b : Bool) → is_start (if b && true then starts.Name name else starts.Nothing) ≡ true
+        → (is_wide s && not b) ≡ false
     by_type true e = and_false (is_wide s)
     by_type false e = absurd cc
 specs_no_identifier s (kinds.Keyword keyword) e = and_false (is_wide s)
@@ -131,10 +135,12 @@ own_high (abs_array d opening words size closing) e = absurd cc
 own_high (abs_params d opening ps dots closing) e = absurd cc
 
 -- a scope is closed where parameters are around the name
-closed_high : (wanted : Option Kind) (d : Declr) (s : HeldScopes) (scope : HeldScope) → closed_of wanted (some_declr d) s ≡ Some scope → 2 ≤ declr_height d
+closed_high : (wanted : Option Kind) (d : Declr) (s : HeldScopes) (scope : HeldScope)
+    → closed_of wanted (some_declr d) s ≡ Some scope → 2 ≤ declr_height d
 closed_high wanted d s scope e = by_own (own_params d) refl e
   where
-    by_own : (o : Option OwnParams) → own_params d ≡ o → option_map innermost (own_scope_in wanted o s) ≡ Some scope → 2 ≤ declr_height d
+    by_own : (o : Option OwnParams) → own_params d ≡ o → option_map innermost (own_scope_in wanted o s) ≡ Some scope
+        → 2 ≤ declr_height d
     by_own None is e = absurd cc
     by_own (Some own) is e = own_high d (ap is_some is)
 
@@ -166,16 +172,19 @@ Shows Abstract s d = Unit {0}
 Shows Either s d = shows_no_type s d ≡ true
 
 -- what a mode and a flag leave of the room for what is inside
-pub inner_room : (flag : Bool) (closed : Option HeldScope) (room h w : ℕ) → max w h + 1 ≤ declr_room flag closed room → 1 ≤ room → h ≤ declr_room flag closed (room - 1)
+pub inner_room : (flag : Bool) (closed : Option HeldScope) (room h w : ℕ) → max w h + 1 ≤ declr_room flag closed room
+    → 1 ≤ room → h ≤ declr_room flag closed (room - 1)
 inner_room true (Some scope) room h w low least = omega (arith, low, least)
 inner_room true None room h w low least = omega (arith, low, least)
 inner_room false closed room h w low least = omega (arith, low, least)
 
-pub inner_number : (flag : Bool) (room n : ℕ) → declr_number flag room < suc n → 1 ≤ room → declr_number flag (room - 1) < n
+pub inner_number : (flag : Bool) (room n : ℕ) → declr_number flag room < suc n → 1 ≤ room
+    → declr_number flag (room - 1) < n
 inner_number true room n less least = omega (arith, less, least)
 inner_number false room n less least = omega (arith, less, least)
 
-pub room_most : (flag : Bool) (closed : Option HeldScope) (room n : ℕ) → declr_number flag room < suc n → declr_room flag closed room ≤ n
+pub room_most : (flag : Bool) (closed : Option HeldScope) (room n : ℕ) → declr_number flag room < suc n
+    → declr_room flag closed room ≤ n
 room_most true (Some scope) room n less = omega (arith, less)
 room_most true None room n less = omega (arith, less)
 room_most false closed room n less = omega (arith, less)
@@ -185,13 +194,15 @@ room_fits true room n less = omega (arith, less)
 room_fits false room n less = omega (arith, less)
 
 -- room at least, where a scope that is closed makes a declarator two higher
-pub least_room : (flag : Bool) (closed : Option HeldScope) (room h m : ℕ) → ((scope : HeldScope) → closed ≡ Some scope → suc m ≤ h) → m ≤ h → h ≤ declr_room flag closed room → m ≤ room
+pub least_room : (flag : Bool) (closed : Option HeldScope) (room h m : ℕ)
+    → ((scope : HeldScope) → closed ≡ Some scope → suc m ≤ h) → m ≤ h → h ≤ declr_room flag closed room → m ≤ room
 least_room true (Some scope) room h m some none low = let more : suc m ≤ h = some scope refl in omega (arith, more, low)
 least_room true None room h m some none low = omega (arith, none, low)
 least_room false closed room h m some none low = omega (arith, none, low)
 
 -- with less, whatever was closed
-fewer_room : (flag : Bool) (closed closed' : Option HeldScope) (room h m : ℕ) → suc h ≤ m → m ≤ declr_room flag closed room → h ≤ declr_room flag closed' room
+fewer_room : (flag : Bool) (closed closed' : Option HeldScope) (room h m : ℕ) → suc h ≤ m
+    → m ≤ declr_room flag closed room → h ≤ declr_room flag closed' room
 fewer_room true (Some scope) (Some scope') room h m less low = omega (arith, less, low)
 fewer_room true (Some scope) None room h m less low = omega (arith, less, low)
 fewer_room true None (Some scope') room h m less low = omega (arith, less, low)
@@ -207,26 +218,32 @@ close_ends mode d = by_star (ends_starred d)
     star Abstract = refl
     star Either = refl
 
-    by_star : (b : Bool) → (if b then ends_star mode (kinds.Punct puncts.CloseParen) else ends_suffix (kinds.Punct puncts.CloseParen)) ≡ true
+    by_star : (b : Bool)
+        → (if b then ends_star mode (kinds.Punct puncts.CloseParen) else ends_suffix (kinds.Punct puncts.CloseParen)) ≡ true
     by_star true = star mode
     by_star false = refl
 
 -- what a mode shows of a declarator, it shows of its part
-shows_same : (mode : Mode) (s : HeldScopes) (d e : Declr) → (shows_no_type s d ≡ true → shows_no_type s e ≡ true) → Shows mode s d → Shows mode s e
+shows_same : (mode : Mode) (s : HeldScopes) (d e : Declr) → (shows_no_type s d ≡ true → shows_no_type s e ≡ true)
+    → Shows mode s d → Shows mode s e
 shows_same Named s d e h shows = tt
 shows_same Abstract s d e h shows = tt
 shows_same Either s d e h shows = h shows
 
 -- in parentheses, where a name may come but need not, it is no typedef name
-shows_free : (mode : Mode) (s : HeldScopes) (opening : ℕ) (attrs : List Attr) (d : Declr) (closing : ℕ) → Shows mode s (declr_paren opening attrs d closing) → takes_name mode ≡ true → begins_with_type s (first_name d) ≡ false ⊎ (mode ≡ Named)
+shows_free : (mode : Mode) (s : HeldScopes) (opening : ℕ) (attrs : List Attr) (d : Declr) (closing : ℕ)
+    → Shows mode s (declr_paren opening attrs d closing) → takes_name mode ≡ true
+    → begins_with_type s (first_name d) ≡ false ⊎ (mode ≡ Named)
 shows_free Named s opening attrs d closing shows takes = inr refl
 shows_free Abstract s opening attrs d closing shows takes = absurd cc
 shows_free Either s opening attrs d closing shows takes = inl (not_true (both_left (not (begins_with_type s (first_name d))) (shows_no_type s d) shows))
 
-closed_none : (wanted : Option Kind) (d : Declr) (s : HeldScopes) → is_named d ≡ false → closed_of wanted (some_declr d) s ≡ None
+closed_none : (wanted : Option Kind) (d : Declr) (s : HeldScopes) → is_named d ≡ false
+    → closed_of wanted (some_declr d) s ≡ None
 closed_none wanted d s is = ap (λ (o : Option OwnParams). option_map innermost (own_scope_in wanted o s)) (own_none d is)
 
-pub some_closed_high : (wanted : Option Kind) (d : SomeDeclr) (s : HeldScopes) (scope : HeldScope) → closed_of wanted d s ≡ Some scope → 2 ≤ some_declr_height d
+pub some_closed_high : (wanted : Option Kind) (d : SomeDeclr) (s : HeldScopes) (scope : HeldScope)
+    → closed_of wanted d s ≡ Some scope → 2 ≤ some_declr_height d
 some_closed_high wanted no_declr s scope e = absurd cc
 some_closed_high wanted (some_declr d) s scope e = closed_high wanted d s scope e
 
@@ -257,14 +274,16 @@ named_takes Either suits = refl
 
 module _ (all : List Lexeme) where
   -- a declarator fits a mode
-  pub fits_mode : (mode : Mode) (d : Declr) (s : HeldScopes) (b : Bool) → is_named d ≡ b → IsDeclr all d → Suits mode b → Shows mode s d → FitsMode all mode (some_declr d) s
+  pub fits_mode : (mode : Mode) (d : Declr) (s : HeldScopes) (b : Bool) → is_named d ≡ b → IsDeclr all d → Suits mode b
+      → Shows mode s d → FitsMode all mode (some_declr d) s
   fits_mode Named d s true is fits suits shows = (fits, is)
   fits_mode Named d s false is fits suits shows = absurd suits
   fits_mode Abstract d s true is fits suits shows = absurd suits
   fits_mode Abstract d s false is fits suits shows = (fits, is)
   fits_mode Either d s b is fits suits shows = (fits, shows)
 
-  pub mode_fits : (mode : Mode) (d : Declr) (s : HeldScopes) → FitsMode all mode (some_declr d) s → IsDeclr all d × Suits mode (is_named d) × Shows mode s d
+  pub mode_fits : (mode : Mode) (d : Declr) (s : HeldScopes) → FitsMode all mode (some_declr d) s
+      → IsDeclr all d × Suits mode (is_named d) × Shows mode s d
   mode_fits Named d s h = (h.0, rw h.1 tt, tt)
   mode_fits Abstract d s h = (h.0, rw h.1 tt, tt)
   mode_fits Either d s h = (h.0, tt, h.1)
@@ -310,7 +329,9 @@ module _ (all : List Lexeme) where
   bare_back (abs_params d opening ps dots closing) e = absurd cc
 
   -- the first token of a declarator with a name that is no typedef name begins no specifiers
-  first_no_specs : (d : Declr) (s : HeldScopes) (k : List Lexeme) → IsDeclr all d → is_named d ≡ true → begins_base d ≡ false → begins_with_type s (first_name d) ≡ false → begins_specs s (kind_at (declr_text all d k)) ≡ false
+  first_no_specs : (d : Declr) (s : HeldScopes) (k : List Lexeme) → IsDeclr all d → is_named d ≡ true
+      → begins_base d ≡ false → begins_with_type s (first_name d) ≡ false
+      → begins_specs s (kind_at (declr_text all d k)) ≡ false
   first_no_specs (pointer star words d) s k fits is base free = refl
   first_no_specs (declr_name token name) s k fits is base free = name_begins_not s name free
   first_no_specs (declr_paren opening attrs d closing) s k fits is base free = refl
@@ -328,7 +349,8 @@ module _ (all : List Lexeme) (numbered : IsNumbered all) (tokens : TokenLaws all
   firsts = first_laws goes all numbered
 
   -- brackets behind a declarator, or none
-  array_on : (wanted : Option Kind) (flag : Bool) (room : ℕ) → declr_number flag room < suc n → (d : SomeDeclr) (opening : ℕ) (words : List ArrayWord) (size : SomeSize) (closing : ℕ) (s s1 s2 : HeldScopes) (k : List Lexeme) →
+  array_on : (wanted : Option Kind) (flag : Bool) (room : ℕ) → declr_number flag room < suc n
+      → (d : SomeDeclr) (opening : ℕ) (words : List ArrayWord) (size : SomeSize) (closing : ℕ) (s s1 s2 : HeldScopes) (k : List Lexeme) →
       All (IsArrayWord all) words → IsSize all size → some_size_scopes size s1 ≡ Some s2 → max (some_declr_height d) (some_size_height size) + 1 ≤ declr_room flag (closed_of wanted d s) room →
       run (suffix_turn inner flag room) (declared_as wanted d s) s1 (sign_text puncts.OpenBracket opening (array_words_text all words (some_size_text all size (sign_text puncts.CloseBracket closing k)))) ≡
       run (suffix_turn inner flag room) (declared_as wanted (some_declr (with_array d opening words size closing)) s) s2 k
@@ -347,12 +369,14 @@ module _ (all : List Lexeme) (numbered : IsNumbered all) (tokens : TokenLaws all
       most : r ≤ n
       most = room_most flag (closed_of wanted d s) room n less
 
-      words_end : (size : SomeSize) (s1 s2 : HeldScopes) → IsSize all size → some_size_scopes size s1 ≡ Some s2 → not (is_made (array_word_of (kind_at (some_size_text all size (sign_text puncts.CloseBracket closing k))))) ≡ true
+      words_end : (size : SomeSize) (s1 s2 : HeldScopes) → IsSize all size → some_size_scopes size s1 ≡ Some s2
+          → not (is_made (array_word_of (kind_at (some_size_text all size (sign_text puncts.CloseBracket closing k))))) ≡ true
       words_end no_size s1 s2 fits named = refl
       words_end (some_size (size_star token)) s1 s2 fits named = refl
       words_end (some_size (size_value e)) s1 s2 fits named = expr_no_array_word s1 (kind_at (expr_text all e (sign_text puncts.CloseBracket closing k))) (firsts.expr_begins e s1 s2 (sign_text puncts.CloseBracket closing k) fits.0 named)
         where
-          expr_no_array_word : (s : HeldScopes) (kind : TokenKind) → begins_expr s kind ≡ true → not (is_made (array_word_of kind)) ≡ true
+          expr_no_array_word : (s : HeldScopes) (kind : TokenKind) → begins_expr s kind ≡ true
+              → not (is_made (array_word_of kind)) ≡ true
           expr_no_array_word s (kinds.Keyword keywords.Const) e = absurd cc
           expr_no_array_word s (kinds.Keyword keywords.Volatile) e = absurd cc
           expr_no_array_word s (kinds.Keyword keywords.Restrict) e = absurd cc
@@ -378,7 +402,9 @@ module _ (all : List Lexeme) (numbered : IsNumbered all) (tokens : TokenLaws all
   prototype_is d opening lead ps dots room s u closing k ts read =
       bind_is _ read (bind_is _ refl (ap (λ (qs : Params). done (found (record { declr = some_declr (with_params d.declr opening qs dots closing); closed = closed_by d.declr (innermost u) d.closed }) (leave u) k)) (params_back ps)))
 
-  list_read : (ps : Params) (dots : Option Dots) (room : ℕ) → room ≤ n → (s u : HeldScopes) (closing : ℕ) (k : List Lexeme) → AreParams all ps → IsEllipsis all ps dots → params_scopes ps s ≡ Some u → params_height ps ≤ room →
+  list_read : (ps : Params) (dots : Option Dots) (room : ℕ) → room ≤ n
+      → (s u : HeldScopes) (closing : ℕ) (k : List Lexeme) → AreParams all ps → IsEllipsis all ps dots
+      → params_scopes ps s ≡ Some u → params_height ps ≤ room →
       params_with inner [] room s (params_text all ps (dots_text all dots (sign_text puncts.CloseParen closing k))) ≡ done (found (record { items = params_items ps; ending = dots }) u (sign_text puncts.CloseParen closing k))
   list_read no_params None room less s u closing k fits ended named low =
       no_params_complete all numbered tokens goes n inner laws room s closing k ∙ ap (λ (o : Option HeldScopes). done (found (record { items = []; ending = None }) (from o) (sign_text puncts.CloseParen closing k))) named
@@ -391,7 +417,8 @@ module _ (all : List Lexeme) (numbered : IsNumbered all) (tokens : TokenLaws all
       params_complete all numbered tokens goes n inner laws [] ws ws d attrs ps dots room less (whole_split all ws) s u closing k fits ended named low
 
   -- parameters behind a declarator
-  params_on : (wanted : Option Kind) (flag : Bool) (room : ℕ) → declr_number flag room < suc n → (d : SomeDeclr) (opening : ℕ) (ps : Params) (dots : Option Dots) (closing : ℕ) (s s1 u : HeldScopes) (k : List Lexeme) →
+  params_on : (wanted : Option Kind) (flag : Bool) (room : ℕ) → declr_number flag room < suc n
+      → (d : SomeDeclr) (opening : ℕ) (ps : Params) (dots : Option Dots) (closing : ℕ) (s s1 u : HeldScopes) (k : List Lexeme) →
       AreParams all ps → IsEllipsis all ps dots → some_declr_scopes wanted d s ≡ Some s1 → params_scopes ps (enter s1) ≡ Some u →
       max (some_declr_height d) (params_height ps) + 1 ≤ declr_room flag (closed_of wanted (some_declr (with_params d opening ps dots closing)) s) room →
       run (suffix_turn inner flag room) (declared_as wanted d s) s1 (sign_text puncts.OpenParen opening (params_text all ps (dots_text all dots (sign_text puncts.CloseParen closing k)))) ≡
@@ -419,7 +446,8 @@ module _ (all : List Lexeme) (numbered : IsNumbered all) (tokens : TokenLaws all
       room_is = params_room all numbered tokens n inner laws flag room (declared_as wanted d s) (kinds.Punct puncts.OpenParen) (innermost u) refl ∙ ap (λ (c : Option HeldScope). declr_room flag c room) closed_is
 
       -- no list of identifiers begins there
-      no_names : (ps : Params) (dots : Option Dots) → AreParams all ps → IsEllipsis all ps dots → params_scopes ps (enter s1) ≡ Some u →
+      no_names : (ps : Params) (dots : Option Dots) → AreParams all ps → IsEllipsis all ps dots
+          → params_scopes ps (enter s1) ≡ Some u →
           begins_identifiers s1 (kind_at (params_text all ps (dots_text all dots (sign_text puncts.CloseParen closing k)))) ≡ false
       no_names no_params None fits ended inside = and_false (is_wide s1)
       no_names no_params (Some dots) fits ended inside = absurd ended
@@ -430,7 +458,8 @@ module _ (all : List Lexeme) (numbered : IsNumbered all) (tokens : TokenLaws all
           let more = some_declr_text all d (attrs_text all attrs (other_params_text all ps (dots_text all dots (sign_text puncts.CloseParen closing k)))) in
           specs_no_identifier s1 (kind_at (spec_words_text all ws more)) (firsts.words_begin ws (enter s1) c.0 more fits.0 fits.1 c.1)
 
-      as_list : (flag b : Bool) → list_behind inner (flag && b && begins_identifiers s1 (kind_at (params_text all ps (dots_text all dots (sign_text puncts.CloseParen closing k))))) (declared_as wanted d s) opening r s1
+      as_list : (flag b : Bool)
+          → list_behind inner (flag && b && begins_identifiers s1 (kind_at (params_text all ps (dots_text all dots (sign_text puncts.CloseParen closing k))))) (declared_as wanted d s) opening r s1
           (params_text all ps (dots_text all dots (sign_text puncts.CloseParen closing k))) ≡
           prototype_with inner (declared_as wanted d s) opening [] r s1 (params_text all ps (dots_text all dots (sign_text puncts.CloseParen closing k)))
       as_list true true = rw (no_names ps dots fits ended inside) refl
@@ -444,10 +473,12 @@ module _ (all : List Lexeme) (numbered : IsNumbered all) (tokens : TokenLaws all
           bind_is _ refl (as_list flag (is_bare d) ∙ p ∙ ap (λ (c : Option HeldScope). done (found (record { declr = some_declr (with_params d opening ps dots closing); closed = c }) (leave u) k)) closed_is)
 
   -- a name that is no typedef name is read
-  identifier_complete : (x : Identifier) (s t : HeldScopes) (k : List Lexeme) → identifier_scopes x s ≡ Some t → identifier_at s (identifier_text x k) ≡ done (found x t k)
+  identifier_complete : (x : Identifier) (s t : HeldScopes) (k : List Lexeme) → identifier_scopes x s ≡ Some t
+      → identifier_at s (identifier_text x k) ≡ done (found x t k)
   identifier_complete x s t k named = by_type (names_type s x.name) refl named
     where
-      by_type : (b : Bool) → names_type s x.name ≡ b → where_true (not b) s ≡ Some t → identifier_at s (identifier_text x k) ≡ done (found x t k)
+      by_type : (b : Bool) → names_type s x.name ≡ b → where_true (not b) s ≡ Some t
+          → identifier_at s (identifier_text x k) ≡ done (found x t k)
       by_type true is named = absurd cc
       by_type false is named =
           let same : s ≡ t = cc in
@@ -483,7 +514,8 @@ module _ (all : List Lexeme) (numbered : IsNumbered all) (tokens : TokenLaws all
       room_is = params_room all numbered tokens n inner laws true room (declared_as wanted (some_declr d) s) (kinds.Punct puncts.OpenParen) (new_scope (is_wide s1)) refl
           ∙ ap (λ (c : Option HeldScope). declr_room true c room) (rw bare closed_is)
 
-      begins : (names : List Identifier) → names ≢ [] → identifiers_scopes names s1 ≡ Some s2 → begins_identifiers s1 (kind_at (names_text names tail)) ≡ true
+      begins : (names : List Identifier) → names ≢ [] → identifiers_scopes names s1 ≡ Some s2
+          → begins_identifiers s1 (kind_at (names_text names tail)) ≡ true
       begins [] some inside = absurd (some refl)
       begins (x ∷ names) some inside =
           let a = behind_ok (where_true (not (names_type s1 x.name)) s1) (identifiers_scopes names) s2 inside in
@@ -501,7 +533,10 @@ module _ (all : List Lexeme) (numbered : IsNumbered all) (tokens : TokenLaws all
           bind_is _ l (bind_is _ refl (ap (λ (c : Option HeldScope). done (found (record { declr = some_declr (identifiers d opening names closing); closed = c }) s2 k)) closed_is))
 
   -- a declarator in parentheses, behind the parenthesis and its attributes
-  inside_paren : (mode : Mode) (wanted : Option Kind) (flag : Bool) (opening : ℕ) (attrs : List Attr) (room : ℕ) → declr_number flag (room - 1) < n → MayName all mode wanted → (d : Declr) (s s' : HeldScopes) (closing : ℕ) (k : List Lexeme) → FitsMode all mode (some_declr d) s → (flag ≡ true) ⊎ (lists_identifiers d ≡ false) →
+  inside_paren : (mode : Mode) (wanted : Option Kind) (flag : Bool) (opening : ℕ) (attrs : List Attr) (room : ℕ)
+      → declr_number flag (room - 1) < n → MayName all mode wanted
+      → (d : Declr) (s s' : HeldScopes) (closing : ℕ) (k : List Lexeme) → FitsMode all mode (some_declr d) s
+      → (flag ≡ true) ⊎ (lists_identifiers d ≡ false) →
       declr_scopes wanted d s ≡ Some s' → declr_height d ≤ declr_room flag (closed_of wanted (some_declr d) s) (room - 1) →
       paren_with inner mode wanted flag opening attrs room s (declr_text all d (sign_text puncts.CloseParen closing k)) ≡ done (found (declared_as wanted (some_declr (with_paren opening attrs d closing)) s) s' k)
   unfolding paren_with
@@ -516,7 +551,9 @@ module _ (all : List Lexeme) (numbered : IsNumbered all) (tokens : TokenLaws all
     number : declr_number flag (room - 1) < n
     low : h ≤ declr_room flag closed (room - 1)
 
-  paren_room : (wanted : Option Kind) (flag : Bool) (attrs : List Attr) (room : ℕ) → declr_number flag room < suc n → (d : Declr) (s : HeldScopes) → max (attrs_height attrs) (declr_height d) + 1 ≤ declr_room flag (closed_of wanted (some_declr d) s) room →
+  paren_room : (wanted : Option Kind) (flag : Bool) (attrs : List Attr) (room : ℕ) → declr_number flag room < suc n
+      → (d : Declr) (s : HeldScopes)
+      → max (attrs_height attrs) (declr_height d) + 1 ≤ declr_room flag (closed_of wanted (some_declr d) s) room →
       ParenRoom flag attrs room 2 (closed_of wanted (some_declr d) s) (declr_height d)
   paren_room wanted flag attrs room less d s low =
       let high : 1 ≤ declr_height d = declr_high d in
@@ -538,7 +575,9 @@ module _ (all : List Lexeme) (numbered : IsNumbered all) (tokens : TokenLaws all
     opens_no_params : opens_params attrs s kind ≡ false
     opens : opens_declr mode kind ≡ true
 
-  inside_is : (mode : Mode) (attrs : List Attr) (s : HeldScopes) (d : Declr) (k : List Lexeme) (b : Bool) → is_named d ≡ b → IsDeclr all d → Suits mode b → (b ≡ true → begins_base d ≡ false) → (b ≡ true → begins_with_type s (first_name d) ≡ false) → Inside mode attrs s (kind_at (declr_text all d k))
+  inside_is : (mode : Mode) (attrs : List Attr) (s : HeldScopes) (d : Declr) (k : List Lexeme) (b : Bool)
+      → is_named d ≡ b → IsDeclr all d → Suits mode b → (b ≡ true → begins_base d ≡ false)
+      → (b ≡ true → begins_with_type s (first_name d) ≡ false) → Inside mode attrs s (kind_at (declr_text all d k))
   inside_is mode attrs s d k true is fits suits base free =
       let begun = firsts.named_begins d k fits is in
       record {
@@ -558,7 +597,10 @@ module _ (all : List Lexeme) (numbered : IsNumbered all) (tokens : TokenLaws all
   paren_text : ℕ → List Attr → Declr → ℕ → List Lexeme → List Lexeme
   paren_text opening attrs d closing k = sign_text puncts.OpenParen opening (attrs_text all attrs (declr_text all d (sign_text puncts.CloseParen closing k)))
 
-  opened_complete : (mode : Mode) (wanted : Option Kind) (flag : Bool) (room : ℕ) → declr_number flag room < suc n → MayName all mode wanted → (opening : ℕ) (attrs : List Attr) (d : Declr) (closing : ℕ) (s s' : HeldScopes) (k : List Lexeme) → AreAttrs all attrs →
+  opened_complete : (mode : Mode) (wanted : Option Kind) (flag : Bool) (room : ℕ) → declr_number flag room < suc n
+      → MayName all mode wanted
+      → (opening : ℕ) (attrs : List Attr) (d : Declr) (closing : ℕ) (s s' : HeldScopes) (k : List Lexeme)
+      → AreAttrs all attrs →
       FitsMode all mode (some_declr d) s → (flag ≡ true) ⊎ (lists_identifiers d ≡ false) → declr_scopes wanted d s ≡ Some s' → max (attrs_height attrs) (declr_height d) + 1 ≤ declr_room flag (closed_of wanted (some_declr d) s) room →
       Inside mode attrs s (kind_at (declr_text all d (sign_text puncts.CloseParen closing k))) →
       opened_with inner mode wanted flag room s (paren_text opening attrs d closing k) ≡ done (found (declared_as wanted (some_declr (with_paren opening attrs d closing)) s) s' k)
@@ -569,7 +611,9 @@ module _ (all : List Lexeme) (numbered : IsNumbered all) (tokens : TokenLaws all
       fits_is 1 room (paren_text opening attrs d closing k) _ (omega (arith, r.enough)) ∙ bind_is _ refl (bind_is _ a (rw (first.opens_no_params, first.opens)
       (inside_paren mode wanted flag opening attrs room r.number may d s s' closing k fits plain named r.low)))
 
-  named_complete : (wanted : Option Kind) (flag : Bool) (room : ℕ) → declr_number flag room < suc n → (opening : ℕ) (attrs : List Attr) (d : Declr) (closing : ℕ) (s s' : HeldScopes) (k : List Lexeme) → AreAttrs all attrs →
+  named_complete : (wanted : Option Kind) (flag : Bool) (room : ℕ) → declr_number flag room < suc n
+      → (opening : ℕ) (attrs : List Attr) (d : Declr) (closing : ℕ) (s s' : HeldScopes) (k : List Lexeme)
+      → AreAttrs all attrs →
       FitsMode all Named (some_declr d) s → (flag ≡ true) ⊎ (lists_identifiers d ≡ false) → declr_scopes wanted d s ≡ Some s' → max (attrs_height attrs) (declr_height d) + 1 ≤ declr_room flag (closed_of wanted (some_declr d) s) room →
       named_paren inner wanted flag room s (paren_text opening attrs d closing k) ≡ done (found (declared_as wanted (some_declr (with_paren opening attrs d closing)) s) s' k)
   unfolding named_paren paren_text
@@ -579,7 +623,10 @@ module _ (all : List Lexeme) (numbered : IsNumbered all) (tokens : TokenLaws all
       let a = tokens.attrs_complete room attrs s s (declr_text all d (sign_text puncts.CloseParen closing k)) attrs_fit refl r.lead (not_false (named_no_attribute (kind_at (declr_text all d (sign_text puncts.CloseParen closing k))) begun)) in
       fits_is 2 room (paren_text opening attrs d closing k) _ r.enough ∙ bind_is _ refl (bind_is _ a (inside_paren Named wanted flag opening attrs room r.number tt d s s' closing k fits plain named r.low))
 
-  paren_core : (mode : Mode) (wanted : Option Kind) (flag : Bool) (room : ℕ) → declr_number flag room < suc n → MayName all mode wanted → (opening : ℕ) (attrs : List Attr) (d : Declr) (closing : ℕ) (s s' : HeldScopes) (k : List Lexeme) → AreAttrs all attrs → IsDeclr all d →
+  paren_core : (mode : Mode) (wanted : Option Kind) (flag : Bool) (room : ℕ) → declr_number flag room < suc n
+      → MayName all mode wanted
+      → (opening : ℕ) (attrs : List Attr) (d : Declr) (closing : ℕ) (s s' : HeldScopes) (k : List Lexeme)
+      → AreAttrs all attrs → IsDeclr all d →
       Suits mode (is_named d) → Shows mode s d → (takes_name mode ≡ true → is_named d ≡ true → begins_with_type s (first_name d) ≡ false ⊎ (mode ≡ Named)) → (flag ≡ true) ⊎ (lists_identifiers d ≡ false) → declr_scopes wanted d s ≡ Some s' →
       max (attrs_height attrs) (declr_height d) + 1 ≤ declr_room flag (closed_of wanted (some_declr d) s) room →
       core_with inner mode wanted flag room s (paren_text opening attrs d closing k) ≡ done (found (declared_as wanted (some_declr (with_paren opening attrs d closing)) s) s' k)
@@ -605,7 +652,9 @@ module _ (all : List Lexeme) (numbered : IsNumbered all) (tokens : TokenLaws all
   alone_declared : Declared
   alone_declared = record { declr = no_declr; closed = None }
 
-  alone_core : (mode : Mode) (wanted : Option Kind) (flag : Bool) (room : ℕ) → declr_number flag room < suc n → (opening : ℕ) (ps : Params) (dots : Option Dots) (closing : ℕ) (s u : HeldScopes) (k : List Lexeme) → AreParams all ps → IsEllipsis all ps dots →
+  alone_core : (mode : Mode) (wanted : Option Kind) (flag : Bool) (room : ℕ) → declr_number flag room < suc n
+      → (opening : ℕ) (ps : Params) (dots : Option Dots) (closing : ℕ) (s u : HeldScopes) (k : List Lexeme)
+      → AreParams all ps → IsEllipsis all ps dots →
       params_scopes ps (enter s) ≡ Some u → params_height ps + 1 ≤ room →
       opened_with inner mode wanted flag room s (sign_text puncts.OpenParen opening (params_text all ps (dots_text all dots (sign_text puncts.CloseParen closing k)))) ≡
       done (found (record { declr = some_declr (abs_params no_declr opening ps dots closing); closed = None }) (leave u) k)
@@ -656,7 +705,8 @@ module _ (all : List Lexeme) (numbered : IsNumbered all) (tokens : TokenLaws all
 
   -- a direct declarator before any tokens leaves the loop of brackets and parameters with it
 
-  name_core : (mode : Mode) (wanted : Option Kind) (flag : Bool) (room token name : ℕ) (s s' : HeldScopes) (k : List Lexeme) → Suits mode true → at_name wanted name s ≡ Some s' → 1 ≤ declr_room flag None room →
+  name_core : (mode : Mode) (wanted : Option Kind) (flag : Bool) (room token name : ℕ) (s s' : HeldScopes) (k : List Lexeme)
+      → Suits mode true → at_name wanted name s ≡ Some s' → 1 ≤ declr_room flag None room →
       core_with inner mode wanted flag room s (declr_text all (declr_name token name) k) ≡ done (found (declared_as wanted (some_declr (declr_name token name)) s) s' k)
   unfolding core_with
   name_core mode wanted flag room token name s s' k suits named low =
@@ -667,7 +717,9 @@ module _ (all : List Lexeme) (numbered : IsNumbered all) (tokens : TokenLaws all
       low_room false h = h
 
   -- a base word that names a typedef
-  base_core : (mode : Mode) (wanted : Option Kind) (flag : Bool) (room token : ℕ) → MayName all mode wanted → (s s' : HeldScopes) (k : List Lexeme) → declr_scopes wanted (base_name token) s ≡ Some s' → 1 ≤ declr_room flag None room →
+  base_core : (mode : Mode) (wanted : Option Kind) (flag : Bool) (room token : ℕ) → MayName all mode wanted
+      → (s s' : HeldScopes) (k : List Lexeme) → declr_scopes wanted (base_name token) s ≡ Some s'
+      → 1 ≤ declr_room flag None room →
       core_with inner mode wanted flag room s (declr_text all (base_name token) k) ≡ done (found (declared_as wanted (some_declr (base_name token)) s) s' k)
   unfolding core_with
   base_core mode wanted flag room token may s s' k named low = by_kind mode wanted may named
@@ -684,7 +736,8 @@ module _ (all : List Lexeme) (numbered : IsNumbered all) (tokens : TokenLaws all
       wide_is true e = (refl, cc)
       wide_is false e = absurd cc
 
-      by_kind : (mode : Mode) (wanted : Option Kind) → MayName all mode wanted → declr_scopes wanted (base_name token) s ≡ Some s' →
+      by_kind : (mode : Mode) (wanted : Option Kind) → MayName all mode wanted
+          → declr_scopes wanted (base_name token) s ≡ Some s' →
           core_with inner mode wanted flag room s (declr_text all (base_name token) k) ≡ done (found (declared_as wanted (some_declr (base_name token)) s) s' k)
       by_kind Named (Some Typedef) may named =
           let w = wide_is (is_wide s) named in
@@ -701,14 +754,17 @@ module _ (all : List Lexeme) (numbered : IsNumbered all) (tokens : TokenLaws all
       by_kind Either (Some Constant) may named = absurd (no_wide (is_wide s) named)
       by_kind Either None may named = absurd (no_wide (is_wide s) named)
 
-  bracket_core : (mode : Mode) (wanted : Option Kind) (flag : Bool) (room opening : ℕ) (s : HeldScopes) (k : List Lexeme) → Suits mode false →
+  bracket_core : (mode : Mode) (wanted : Option Kind) (flag : Bool) (room opening : ℕ) (s : HeldScopes) (k : List Lexeme)
+      → Suits mode false →
       core_with inner mode wanted flag room s (sign_text puncts.OpenBracket opening k) ≡ done (found (declared_as wanted no_declr s) s (sign_text puncts.OpenBracket opening k))
   unfolding core_with
   bracket_core Named wanted flag room opening s k suits = absurd suits
   bracket_core Abstract wanted flag room opening s k suits = refl
   bracket_core Either wanted flag room opening s k suits = refl
 
-  alone_paren : (mode : Mode) (wanted : Option Kind) (flag : Bool) (room : ℕ) → declr_number flag room < suc n → (opening : ℕ) (ps : Params) (dots : Option Dots) (closing : ℕ) (s u : HeldScopes) (k : List Lexeme) → Suits mode false → AreParams all ps → IsEllipsis all ps dots →
+  alone_paren : (mode : Mode) (wanted : Option Kind) (flag : Bool) (room : ℕ) → declr_number flag room < suc n
+      → (opening : ℕ) (ps : Params) (dots : Option Dots) (closing : ℕ) (s u : HeldScopes) (k : List Lexeme)
+      → Suits mode false → AreParams all ps → IsEllipsis all ps dots →
       params_scopes ps (enter s) ≡ Some u → params_height ps + 1 ≤ declr_room flag None room →
       core_with inner mode wanted flag room s (declr_text all (abs_params no_declr opening ps dots closing) k) ≡ done (found (declared_as wanted (some_declr (abs_params no_declr opening ps dots closing)) s) (leave u) k)
   unfolding core_with
@@ -728,7 +784,8 @@ module _ (all : List Lexeme) (numbered : IsNumbered all) (tokens : TokenLaws all
   where_is true t u e = (refl, cc)
   where_is false t u e = absurd cc
 
-  in_own : (ps : Params) (s s' : HeldScopes) → in_own_scope (params_scopes ps) s ≡ Some s' → (u : HeldScopes) × (params_scopes ps (enter s) ≡ Some u) × (leave u ≡ s')
+  in_own : (ps : Params) (s s' : HeldScopes) → in_own_scope (params_scopes ps) s ≡ Some s'
+      → (u : HeldScopes) × (params_scopes ps (enter s) ≡ Some u) × (leave u ≡ s')
   in_own ps s s' e =
       let a = behind_ok (params_scopes ps (enter s)) (λ inner. Some (leave inner)) s' e in
       let same : leave a.0 ≡ s' = some_same a.2 in
@@ -740,7 +797,9 @@ module _ (all : List Lexeme) (numbered : IsNumbered all) (tokens : TokenLaws all
   abbrev pub LoopOf : Mode → Option Kind → Bool → ℕ → Declr → HeldScopes → HeldScopes → List Lexeme → Type 0
   LoopOf mode wanted flag room d s s' k = direct_with inner mode wanted flag room s (declr_text all d k) ≡ run (suffix_turn inner flag room) (declared_as wanted (some_declr d) s) s' k
 
-  pub direct_on : (mode : Mode) (wanted : Option Kind) (flag : Bool) (room : ℕ) → declr_number flag room < suc n → MayName all mode wanted → (d : Declr) (s s' : HeldScopes) (k : List Lexeme) → IsDeclr all d → is_direct d ≡ true → Suits mode (is_named d) → Shows mode s d → (flag ≡ true) ⊎ (lists_identifiers d ≡ false) →
+  pub direct_on : (mode : Mode) (wanted : Option Kind) (flag : Bool) (room : ℕ) → declr_number flag room < suc n
+      → MayName all mode wanted → (d : Declr) (s s' : HeldScopes) (k : List Lexeme) → IsDeclr all d → is_direct d ≡ true
+      → Suits mode (is_named d) → Shows mode s d → (flag ≡ true) ⊎ (lists_identifiers d ≡ false) →
       declr_scopes wanted d s ≡ Some s' → declr_height d ≤ declr_room flag (closed_of wanted (some_declr d) s) room → LoopOf mode wanted flag room d s s' k
   unfolding direct_with paren_text
   direct_on mode wanted flag room less may (pointer star words d) s s' k fits direct suits shows plain named low = absurd cc

@@ -79,11 +79,13 @@ former_no_qual : (keyword : Keyword) → is_qual_start (former_start keyword) �
 former_no_qual keywords.AtomicType = refl
 former_no_qual keyword = refl
 
-no_attribute : (kind : TokenKind) (s : HeldScopes) → is_attribute_start (start_at s false kind) ≡ false → is_attribute kind ≡ false
+no_attribute : (kind : TokenKind) (s : HeldScopes) → is_attribute_start (start_at s false kind) ≡ false
+    → is_attribute kind ≡ false
 no_attribute (kinds.Keyword keywords.Attribute) s e = absurd cc
 no_attribute kind s e = refl
 
-no_qual : (kind : TokenKind) (s : HeldScopes) → is_qual_start (start_at s false kind) ≡ false → is_made (word_qual_of kind) ≡ false
+no_qual : (kind : TokenKind) (s : HeldScopes) → is_qual_start (start_at s false kind) ≡ false
+    → is_made (word_qual_of kind) ≡ false
 no_qual (kinds.Keyword keywords.Const) s e = absurd cc
 no_qual (kinds.Keyword keywords.Atomic) s e = absurd cc
 no_qual (kinds.Keyword keywords.Seg) s e = absurd cc
@@ -105,7 +107,8 @@ module _ (all : List Lexeme) where
   pub whole_split : (ws : SpecWords) → Split all no_words ws ws
   whole_split ws = record { are = refl; mix = λ h. h; fits = λ h. h; plain = λ h. h; named = λ s. refl }
 
-  attr_more : (a : Attr) (ws known rest : SpecWords) → Split all known rest ws → Split all (more_words (attribute a) known) rest (more_words (attribute a) ws)
+  attr_more : (a : Attr) (ws known rest : SpecWords) → Split all known rest ws
+      → Split all (more_words (attribute a) known) rest (more_words (attribute a) ws)
   attr_more a ws known rest h = record { are = ap (more_words (attribute a)) h.are; mix = λ m. h.mix m; fits = λ f. h.fits f.1; plain = λ p. h.plain p; named = λ s. h.named s }
 
   pub attrs_split : (ws : SpecWords) → Split all (words_of_attrs (lead_attrs ws)) (behind_attrs ws) ws
@@ -113,7 +116,8 @@ module _ (all : List Lexeme) where
   attrs_split (more_words (attribute a) ws) = attr_more a ws (words_of_attrs (lead_attrs ws)) (behind_attrs ws) (attrs_split ws)
   attrs_split (more_words w ws) = whole_split (more_words w ws)
 
-  qual_more : (q : Qual) (ws known rest : SpecWords) → Split all known rest ws → Split all (more_words (qualifier q) known) rest (more_words (qualifier q) ws)
+  qual_more : (q : Qual) (ws known rest : SpecWords) → Split all known rest ws
+      → Split all (more_words (qualifier q) known) rest (more_words (qualifier q) ws)
   qual_more q ws known rest h = record { are = ap (more_words (qualifier q)) h.are; mix = λ m. h.mix m; fits = λ f. h.fits f.1; plain = λ p. h.plain p; named = λ s. h.named s }
 
   pub quals_split : (ws : SpecWords) → Split all (words_of_quals (lead_quals ws)) (behind_quals ws) ws
@@ -131,24 +135,28 @@ module _ (all : List Lexeme) where
   lead_quals_fit (more_words (qualifier q) ws) h = All-cons (IsWordQual all) q (lead_quals ws) h.0 (lead_quals_fit ws h.1)
   lead_quals_fit (more_words w ws) h = All-nil (IsWordQual all)
 
-  pub lead_attrs_spelled : (ws : SpecWords) (k : List Lexeme) → spec_words_text all ws k ≡ attrs_text all (lead_attrs ws) (spec_words_text all (behind_attrs ws) k)
+  pub lead_attrs_spelled : (ws : SpecWords) (k : List Lexeme)
+      → spec_words_text all ws k ≡ attrs_text all (lead_attrs ws) (spec_words_text all (behind_attrs ws) k)
   lead_attrs_spelled no_words k = refl
   lead_attrs_spelled (more_words (attribute a) ws) k = ap (attr_text all a) (lead_attrs_spelled ws k)
   lead_attrs_spelled (more_words w ws) k = refl
 
-  lead_quals_spelled : (ws : SpecWords) (k : List Lexeme) → spec_words_text all ws k ≡ quals_text all (lead_quals ws) (spec_words_text all (behind_quals ws) k)
+  lead_quals_spelled : (ws : SpecWords) (k : List Lexeme)
+      → spec_words_text all ws k ≡ quals_text all (lead_quals ws) (spec_words_text all (behind_quals ws) k)
   lead_quals_spelled no_words k = refl
   lead_quals_spelled (more_words (qualifier q) ws) k = ap (qual_text all q) (lead_quals_spelled ws k)
   lead_quals_spelled (more_words w ws) k = refl
 
   module _ (numbered : IsNumbered all) (goes : MixesGoOn) where
-    first_start : (w : SpecWord) (ws : SpecWords) (s s' : HeldScopes) (k : List Lexeme) → IsMix (more_words w ws) → AreSpecWords all (more_words w ws) → spec_words_scopes (more_words w ws) s ≡ Some s' →
+    first_start : (w : SpecWord) (ws : SpecWords) (s s' : HeldScopes) (k : List Lexeme) → IsMix (more_words w ws)
+        → AreSpecWords all (more_words w ws) → spec_words_scopes (more_words w ws) s ≡ Some s' →
         start_at s false (kind_at (spec_words_text all (more_words w ws) k)) ≡ start_of w
     first_start w ws s s' k mix fits named =
         let step = behind_ok (spec_word_scopes w s) (spec_words_scopes ws) s' named in
         word_starts all numbered goes s step.0 false no_words w (spec_words_text all ws k) fits.0 step.1 (goes no_words w ws mix) (λ is. refl)
 
-    pub lead_attrs_end : (ws : SpecWords) (s s' : HeldScopes) (k : List Lexeme) → IsMix ws → AreSpecWords all ws → spec_words_scopes ws s ≡ Some s' → is_attribute (kind_at (spec_words_text all (behind_attrs ws) k)) ≡ false
+    pub lead_attrs_end : (ws : SpecWords) (s s' : HeldScopes) (k : List Lexeme) → IsMix ws → AreSpecWords all ws
+        → spec_words_scopes ws s ≡ Some s' → is_attribute (kind_at (spec_words_text all (behind_attrs ws) k)) ≡ false
     lead_attrs_end no_words s s' k mix fits named = absurd (no_mix_of_none no_words refl mix)
     lead_attrs_end (more_words (attribute a) ws) s s' k mix fits named = lead_attrs_end ws s s' k mix fits.1 named
     lead_attrs_end (more_words (qualifier (quals.Word w)) ws) s s' k mix fits named = no_attribute (kind_at (spec_words_text all (more_words (qualifier (quals.Word w)) ws) k)) s (ap is_attribute_start (first_start (qualifier (quals.Word w)) ws s s' k mix fits named))
@@ -159,7 +167,9 @@ module _ (all : List Lexeme) where
         (ap is_attribute_start (first_start (typeof_type w opening us d closing) ws s s' k mix fits named) ∙ former_no_attribute w.keyword)
     lead_attrs_end (more_words w ws) s s' k mix fits named = no_attribute (kind_at (spec_words_text all (more_words w ws) k)) s (ap is_attribute_start (first_start w ws s s' k mix fits named))
 
-    lead_quals_end : (ws : SpecWords) (s s' : HeldScopes) (k : List Lexeme) → IsMix ws → AreSpecWords all ws → spec_words_scopes ws s ≡ Some s' → is_made (word_qual_of (kind_at (spec_words_text all (behind_quals ws) k))) ≡ false
+    lead_quals_end : (ws : SpecWords) (s s' : HeldScopes) (k : List Lexeme) → IsMix ws → AreSpecWords all ws
+        → spec_words_scopes ws s ≡ Some s'
+        → is_made (word_qual_of (kind_at (spec_words_text all (behind_quals ws) k))) ≡ false
     lead_quals_end no_words s s' k mix fits named = absurd (no_mix_of_none no_words refl mix)
     lead_quals_end (more_words (qualifier q) ws) s s' k mix fits named = lead_quals_end ws s s' k mix fits.1 named
     lead_quals_end (more_words (typeof_type w opening us d closing) ws) s s' k mix fits named =
@@ -171,7 +181,9 @@ module _ (all : List Lexeme) (numbered : IsNumbered all) (tokens : TokenLaws all
   firsts : FirstLaws all
   firsts = first_laws goes all numbered
 
-  words_complete : (known rest : SpecWords) (room : ℕ) → room ≤ n → (s s' : HeldScopes) (k : List Lexeme) → IsMix (append_words known rest) → IsMix rest → AreSpecWords all rest → has_auto rest ≡ false → spec_words_scopes rest s ≡ Some s' →
+  words_complete : (known rest : SpecWords) (room : ℕ) → room ≤ n → (s s' : HeldScopes) (k : List Lexeme)
+      → IsMix (append_words known rest) → IsMix rest → AreSpecWords all rest → has_auto rest ≡ false
+      → spec_words_scopes rest s ≡ Some s' →
       specs_height (append_words known rest) + 1 ≤ room → ends_specs (kind_at k) ≡ true → param_words inner known room s (spec_words_text all rest k) ≡ done (found (append_words known rest) s' k)
   words_complete no_words rest room less s s' k whole mix fits plain named low ended = specs_here_complete all n inner laws firsts Typed room less rest s s' k (mix, (fits, plain)) named low ended
   words_complete (more_words w ws) rest room less s s' k whole mix fits plain named low ended =
@@ -202,7 +214,8 @@ module _ (all : List Lexeme) (numbered : IsNumbered all) (tokens : TokenLaws all
       by_kind false e = refl
 
   -- behind the specifiers of a parameter
-  specs_end : (d : SomeDeclr) (attrs : List Attr) (s t : HeldScopes) (k : List Lexeme) → IsSomeDeclr all d → IsParamEnd d attrs → some_declr_scopes (Some Value) d s ≡ Some t → ends_param (kind_at k) ≡ true →
+  specs_end : (d : SomeDeclr) (attrs : List Attr) (s t : HeldScopes) (k : List Lexeme) → IsSomeDeclr all d
+      → IsParamEnd d attrs → some_declr_scopes (Some Value) d s ≡ Some t → ends_param (kind_at k) ≡ true →
       ends_specs (kind_at (some_declr_text all d (attrs_text all attrs k))) ≡ true
   specs_end no_declr [] s t k fits there named ended = stops_specs (kind_at k) ended
   specs_end no_declr (a ∷ attrs) s t k fits there named ended = absurd there
@@ -214,7 +227,8 @@ module _ (all : List Lexeme) (numbered : IsNumbered all) (tokens : TokenLaws all
       by_name false is = abstract_ends_specs (kind_at (declr_text all d (attrs_text all attrs k))) (firsts.abstract_begins d (attrs_text all attrs k) fits is)
 
   -- behind the declarator of a parameter
-  declr_end : (d : SomeDeclr) (attrs : List Attr) (k : List Lexeme) → IsParamEnd d attrs → ends_param (kind_at k) ≡ true → ends_declr Either d (kind_at (attrs_text all attrs k)) ≡ true
+  declr_end : (d : SomeDeclr) (attrs : List Attr) (k : List Lexeme) → IsParamEnd d attrs → ends_param (kind_at k) ≡ true
+      → ends_declr Either d (kind_at (attrs_text all attrs k)) ≡ true
   declr_end no_declr [] k there ended = stops_none (kind_at k) ended
   declr_end no_declr (a ∷ attrs) k there ended = absurd there
   declr_end (some_declr d) [] k there ended = by_star (ends_starred d)
@@ -228,7 +242,8 @@ module _ (all : List Lexeme) (numbered : IsNumbered all) (tokens : TokenLaws all
   low_lead [] room h low high = omega arith
   low_lead (a ∷ attrs) room h low high = omega (arith, low, high)
 
-  attrs_complete : (d : SomeDeclr) (attrs : List Attr) (room : ℕ) (s : HeldScopes) (k : List Lexeme) → AreAttrs all attrs → IsParamEnd d attrs → least_with attrs ≤ room → ends_param (kind_at k) ≡ true →
+  attrs_complete : (d : SomeDeclr) (attrs : List Attr) (room : ℕ) (s : HeldScopes) (k : List Lexeme)
+      → AreAttrs all attrs → IsParamEnd d attrs → least_with attrs ≤ room → ends_param (kind_at k) ≡ true →
       param_attrs inner d room s (attrs_text all attrs k) ≡ done (found attrs s k)
   attrs_complete no_declr [] room s k fits there low ended = refl
   attrs_complete no_declr (a ∷ attrs) room s k fits there low ended = absurd there
@@ -238,7 +253,8 @@ module _ (all : List Lexeme) (numbered : IsNumbered all) (tokens : TokenLaws all
       none [] is there = refl
       none (a ∷ attrs) is there = let wrong : true ≡ false = sym is ∙ there in absurd cc
 
-      by_star : (b : Bool) → ends_starred d ≡ b → (if not b then attrs_at room s (attrs_text all attrs k) else ends [] s (attrs_text all attrs k)) ≡ done (found attrs s k)
+      by_star : (b : Bool) → ends_starred d ≡ b
+          → (if not b then attrs_at room s (attrs_text all attrs k) else ends [] s (attrs_text all attrs k)) ≡ done (found attrs s k)
       by_star true is = rw (none attrs is there) refl
       by_star false is = tokens.attrs_complete room attrs s s k fits refl low (not_false (stops_attribute (kind_at k) ended))
 
@@ -250,8 +266,11 @@ module _ (all : List Lexeme) (numbered : IsNumbered all) (tokens : TokenLaws all
   is_shown false t u e = absurd cc
 
   -- a parameter, behind words that were read already
-  param_complete : (known rest ws : SpecWords) (d : SomeDeclr) (attrs : List Attr) (room : ℕ) → room ≤ n → Split all known rest ws → (s s' : HeldScopes) (k : List Lexeme) →
-      (param_form all).Fits (record { words = ws; declr = d; attrs = attrs }) → param_scopes ws d s ≡ Some s' → (param_form all).height (record { words = ws; declr = d; attrs = attrs }) ≤ room → ends_param (kind_at k) ≡ true →
+  param_complete : (known rest ws : SpecWords) (d : SomeDeclr) (attrs : List Attr) (room : ℕ) → room ≤ n
+      → Split all known rest ws → (s s' : HeldScopes) (k : List Lexeme) →
+      (param_form all).Fits (record { words = ws; declr = d; attrs = attrs }) → param_scopes ws d s ≡ Some s'
+      → (param_form all).height (record { words = ws; declr = d; attrs = attrs }) ≤ room
+      → ends_param (kind_at k) ≡ true →
       param_with inner known room s (spec_words_text all rest (some_declr_text all d (attrs_text all attrs k))) ≡ done (found (record { words = ws; declr = d; attrs = attrs }) s' k)
   unfolding param_with
   param_complete known rest ws d attrs room less split s s' k fits named low ended =
@@ -271,7 +290,9 @@ module _ (all : List Lexeme) (numbered : IsNumbered all) (tokens : TokenLaws all
       ∙ ap (λ (u : HeldScopes). done (found (record { words = ws; declr = d; attrs = attrs }) u k)) (sym same))))
 
   -- what stands behind a comma: a parameter that may begin with qualifiers
-  next_complete : (room : ℕ) → room ≤ n → (comma : ℕ) (x : ParamItem) (s t : HeldScopes) (k : List Lexeme) → (param_form all).Fits x → (param_form all).scopes x s ≡ Some t → (param_form all).height x ≤ room → ends_param (kind_at k) ≡ true →
+  next_complete : (room : ℕ) → room ≤ n → (comma : ℕ) (x : ParamItem) (s t : HeldScopes) (k : List Lexeme)
+      → (param_form all).Fits x → (param_form all).scopes x s ≡ Some t → (param_form all).height x ≤ room
+      → ends_param (kind_at k) ≡ true →
       next_param inner room comma s ((param_form all).text x k) ≡ done (found (one_more x) t k)
   unfolding next_param
   next_complete room less comma x s t k fits named low ended =
@@ -287,12 +308,15 @@ module _ (all : List Lexeme) (numbered : IsNumbered all) (tokens : TokenLaws all
       rw (lead_quals_spelled all x.words more) (bind_is _ quals (rw (specs_no_dots s (kind_at (spec_words_text all rest more)) begun)
       (bind_is _ (param_complete (words_of_quals (lead_quals x.words)) rest x.words x.declr x.attrs room less split s t k fits named low ended) refl)))
 
-  first_complete : (room : ℕ) → room ≤ n → (x : ParamItem) (s t : HeldScopes) (k : List Lexeme) → (param_form all).Fits x → (param_form all).scopes x s ≡ Some t → (param_form all).height x ≤ room → ends_param (kind_at k) ≡ true →
+  first_complete : (room : ℕ) → room ≤ n → (x : ParamItem) (s t : HeldScopes) (k : List Lexeme)
+      → (param_form all).Fits x → (param_form all).scopes x s ≡ Some t → (param_form all).height x ≤ room
+      → ends_param (kind_at k) ≡ true →
       param_with inner no_words room s ((param_form all).text x k) ≡ done (found x t k)
   first_complete room less x s t k fits named low ended = param_complete no_words x.words x.words x.declr x.attrs room less (whole_split all x.words) s t k fits named low ended
 
   -- the end of parameters before a parenthesis
-  list_ends : (room : ℕ) (less : room ≤ n) (ps : Params) (dots : Option Dots) (s : HeldScopes) (closing : ℕ) (k : List Lexeme) → IsEllipsis all ps dots →
+  list_ends : (room : ℕ) (less : room ≤ n) (ps : Params) (dots : Option Dots) (s : HeldScopes) (closing : ℕ) (k : List Lexeme)
+      → IsEllipsis all ps dots →
       IsListEnd (param_with inner no_words room) (next_param inner room) (param_form all) (dots_ending all) (λ x. ends_param) room (next_param_falls all tokens n inner laws room) (first_complete room less) (next_complete room less) (λ x. refl)
       dots s (sign_text puncts.CloseParen closing k)
   unfolding next_param and_then
@@ -301,7 +325,8 @@ module _ (all : List Lexeme) (numbered : IsNumbered all) (tokens : TokenLaws all
       let quals = tokens.quals_complete room dots.quals s s (sign_text puncts.Ellipsis dots.dots (sign_text puncts.CloseParen closing k)) (ending_back all ps (Some dots) fits) refl (omega arith) refl in
       (dots.comma, quals_text all dots.quals (sign_text puncts.Ellipsis dots.dots (sign_text puncts.CloseParen closing k)), refl, bind_is _ quals refl)
 
-  other_params_back : (ps : Params) (k : List Lexeme) → other_params_text all ps k ≡ others_text (param_form all) (dots_ending all) (params_items ps) k
+  other_params_back : (ps : Params) (k : List Lexeme)
+      → other_params_text all ps k ≡ others_text (param_form all) (dots_ending all) (params_items ps) k
   other_params_back no_params k = refl
   other_params_back (more_params ws d attrs ps) k = ap (λ (k : List Lexeme). separated (spec_words_text all ws (some_declr_text all d (attrs_text all attrs k)))) (other_params_back ps k)
 
@@ -311,8 +336,10 @@ module _ (all : List Lexeme) (numbered : IsNumbered all) (tokens : TokenLaws all
   no_params_complete room s closing k = refl
 
   -- parameters, the first behind attributes that were read already
-  pub params_complete : (lead : List Attr) (rest ws : SpecWords) (d : SomeDeclr) (attrs : List Attr) (ps : Params) (dots : Option Dots) (room : ℕ) → room ≤ n → Split all (words_of_attrs lead) rest ws →
-      (s t : HeldScopes) (closing : ℕ) (k : List Lexeme) → AreParams all (more_params ws d attrs ps) → IsEllipsis all (more_params ws d attrs ps) dots → params_scopes (more_params ws d attrs ps) s ≡ Some t →
+  pub params_complete : (lead : List Attr) (rest ws : SpecWords) (d : SomeDeclr) (attrs : List Attr) (ps : Params) (dots : Option Dots) (room : ℕ)
+      → room ≤ n → Split all (words_of_attrs lead) rest ws →
+      (s t : HeldScopes) (closing : ℕ) (k : List Lexeme) → AreParams all (more_params ws d attrs ps)
+      → IsEllipsis all (more_params ws d attrs ps) dots → params_scopes (more_params ws d attrs ps) s ≡ Some t →
       params_height (more_params ws d attrs ps) ≤ room →
       params_with inner lead room s (spec_words_text all rest (some_declr_text all d (attrs_text all attrs (other_params_text all ps (dots_text all dots (sign_text puncts.CloseParen closing k)))))) ≡
       done (found (record { items = params_items (more_params ws d attrs ps); ending = dots }) t (sign_text puncts.CloseParen closing k))

@@ -28,13 +28,15 @@ star_punct : (p : Punct) → is_star (kinds.Punct p) ≡ true → p ≡ puncts.S
 star_punct puncts.Star e = refl
 star_punct p e = absurd cc
 
-texts_no_star : (all : List Lexeme) (texts : List ℕ) (k : List Lexeme) → (texts ≡ [] → ⊥) → is_star (kind_at (expr_text all (text_use texts) k)) ≡ false
+texts_no_star : (all : List Lexeme) (texts : List ℕ) (k : List Lexeme) → (texts ≡ [] → ⊥)
+    → is_star (kind_at (expr_text all (text_use texts) k)) ≡ false
 texts_no_star all [] k h = absurd (h refl)
 texts_no_star all (x ∷ xs) k h = refl
 
 module _ (all : List Lexeme) where
   -- what holds together as tightly as a postfix form begins with no star
-  high_no_star : (e : Expr) (k : List Lexeme) → IsExpr all e → 15 ≤ expr_level e → is_star (kind_at (expr_text all e k)) ≡ false
+  high_no_star : (e : Expr) (k : List Lexeme) → IsExpr all e → 15 ≤ expr_level e
+      → is_star (kind_at (expr_text all e k)) ≡ false
   high_no_star (operation e op token e2) k fits high = let most = operator_most op in absurd (omega (arith, most, high))
   high_no_star (cast opening ws d closing e) k fits high = refl
   high_no_star (prefix token p e) k fits high = absurd (omega (arith, high))
@@ -68,12 +70,15 @@ module _ (all : List Lexeme) where
     pub token : ℕ
     pub begun : star_begins token e
     pub spelled : expr_text all e k ≡ sign_text puncts.Star token (behind_star all e k)
-    pub more : FirstLaws all → (s s' : HeldScopes) → expr_scopes e s ≡ Some s' → begins_expr s (kind_at (behind_star all e k)) ≡ true
+    pub more : FirstLaws all → (s s' : HeldScopes) → expr_scopes e s ≡ Some s'
+        → begins_expr s (kind_at (behind_star all e k)) ≡ true
 
-  no_star : {e : Expr} {k : List Lexeme} → is_star (kind_at (expr_text all e k)) ≡ false → is_star (kind_at (expr_text all e k)) ≡ true → Starred e k
+  no_star : {e : Expr} {k : List Lexeme} → is_star (kind_at (expr_text all e k)) ≡ false
+      → is_star (kind_at (expr_text all e k)) ≡ true → Starred e k
   no_star none is = let wrong : true ≡ false = sym is ∙ none in absurd cc
 
-  pub star_first : (e : Expr) (k : List Lexeme) → IsExpr all e → is_star (kind_at (expr_text all e k)) ≡ true → Starred e k
+  pub star_first : (e : Expr) (k : List Lexeme) → IsExpr all e → is_star (kind_at (expr_text all e k)) ≡ true
+      → Starred e k
   star_first (operation e op token e2) k fits is =
       let h = star_first e (operator_text all op token (expr_text all e2 k)) fits.0 is in
       record {
@@ -102,7 +107,9 @@ module _ (all : List Lexeme) where
   star_first e k fits is = absurd cc
 
   module _ (firsts : FirstLaws all) (n : ℕ) (inner : Inner) (laws : Laws all n inner) where
-    star_complete : (e : Expr) (room : ℕ) → room - 1 < n → (s s' : HeldScopes) (k : List Lexeme) (h : Starred e k) → is_close_bracket (kind_at k) ≡ true → ends_expr Assigned (kind_at k) ≡ true → IsSize all (some_size (size_value e)) →
+    star_complete : (e : Expr) (room : ℕ) → room - 1 < n → (s s' : HeldScopes) (k : List Lexeme) (h : Starred e k)
+        → is_close_bracket (kind_at k) ≡ true → ends_expr Assigned (kind_at k) ≡ true
+        → IsSize all (some_size (size_value e)) →
         some_size_scopes (some_size (size_value e)) s ≡ Some s' → some_size_height (some_size (size_value e)) ≤ room - 1 →
         star_size inner room s (sign_text puncts.Star h.token (behind_star all e k)) ≡ done (found (some_size (size_value e)) s' k)
     unfolding star_size and_then
@@ -111,7 +118,9 @@ module _ (all : List Lexeme) where
         rw (expr_no_close_bracket s (kind_at (behind_star all e k)) begun)
         (bind_is _ (laws.exprs.begun_complete Assigned (begun_star h.token) (room - 1) refl less e s s' k fits.0 fits.1 h.begun named low ended) refl)
 
-    pub size_complete : (size : SomeSize) (room : ℕ) → room ≤ n → 1 ≤ room → (s s' : HeldScopes) (closing : ℕ) (k : List Lexeme) → IsSize all size → some_size_scopes size s ≡ Some s' → some_size_height size ≤ room - 1 →
+    pub size_complete : (size : SomeSize) (room : ℕ) → room ≤ n → 1 ≤ room
+        → (s s' : HeldScopes) (closing : ℕ) (k : List Lexeme) → IsSize all size → some_size_scopes size s ≡ Some s'
+        → some_size_height size ≤ room - 1 →
         size_with inner room s (some_size_text all size (sign_text puncts.CloseBracket closing k)) ≡ done (found size s' (sign_text puncts.CloseBracket closing k))
     unfolding size_with star_size and_then
     size_complete no_size room less least s s' closing k fits named low = ap (λ (u : Option HeldScopes). done (found no_size (from u) (sign_text puncts.CloseBracket closing k))) named
@@ -132,7 +141,8 @@ module _ (all : List Lexeme) where
         few : room - 1 < n
         few = omega (arith, less, least)
 
-        by_star : (b : Bool) → is_star (kind_at (expr_text all e last)) ≡ b → size_with inner room s (expr_text all e last) ≡ done (found (some_size (size_value e)) s' last)
+        by_star : (b : Bool) → is_star (kind_at (expr_text all e last)) ≡ b
+            → size_with inner room s (expr_text all e last) ≡ done (found (some_size (size_value e)) s' last)
         by_star true is =
             let h = star_first e last fits.0 is in
             rw h.spelled (star_complete e room few s s' last h refl refl fits named low)

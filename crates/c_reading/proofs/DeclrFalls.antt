@@ -90,7 +90,8 @@ module _ (all : List Lexeme) (tokens : TokenLaws all) (n : ℕ) (inner : Inner) 
       (λ is e. let b = bind_ok e in omega (arith, tokens.quals_falls _ _ _ a.1, take_falls _ _ _ b.1, end_is b.2))
       (λ is e. let b = bind_ok e in omega (arith, tokens.quals_falls _ _ _ a.1, param_falls (words_of_quals a.0.tree) room _ _ _ b.1, end_is b.2))
 
-  listed_falls : {T E : Type 0} (first : Reader T) (next : ℕ → Reader (Next T E)) → Falls first → ((comma : ℕ) → Falls (next comma)) → Falls (listed first next)
+  listed_falls : {T E : Type 0} (first : Reader T) (next : ℕ → Reader (Next T E)) → Falls first
+      → ((comma : ℕ) → Falls (next comma)) → Falls (listed first next)
   unfolding listed
   listed_falls {T} {E} first next first_falls next_falls s ts x e =
       let a = bind_ok e in
@@ -106,7 +107,8 @@ module _ (all : List Lexeme) (tokens : TokenLaws all) (n : ℕ) (inner : Inner) 
       (λ is e. omega (arith, end_is e))
       (λ is e. listed_falls (param_with inner (words_of_attrs lead) room) (next_param inner room) (param_falls (words_of_attrs lead) room) (next_param_falls room) s ts x e)
 
-  pub prototype_shrinks : (d : Declared) (opening : ℕ) (lead : List Attr) (room : ℕ) → Shrinks (prototype_with inner d opening lead room)
+  pub prototype_shrinks : (d : Declared) (opening : ℕ) (lead : List Attr) (room : ℕ)
+      → Shrinks (prototype_with inner d opening lead room)
   unfolding prototype_with
   prototype_shrinks d opening lead room s ts x e =
       let a = bind_ok e in
@@ -130,10 +132,13 @@ module _ (all : List Lexeme) (tokens : TokenLaws all) (n : ℕ) (inner : Inner) 
       omega (arith, names_shrink _ _ _ a.1, token_falls is_close_paren _ _ _ b.1, end_is b.2)
 
   -- identifiers or parameters
-  list_shrinks : (identified : Bool) (d : Declared) (opening room : ℕ) → Shrinks (list_behind inner identified d opening room)
+  list_shrinks : (identified : Bool) (d : Declared) (opening room : ℕ)
+      → Shrinks (list_behind inner identified d opening room)
   list_shrinks true d opening room s ts x e = by_declr d.declr e
     where
-      by_declr : (inside : SomeDeclr) → identifiers_of inside (λ inside. identifiers_with inner inside opening s ts) (prototype_with inner d opening [] room s ts) ≡ done x → length x.rest < length ts
+      by_declr : (inside : SomeDeclr)
+          → identifiers_of inside (λ inside. identifiers_with inner inside opening s ts) (prototype_with inner d opening [] room s ts) ≡ done x
+          → length x.rest < length ts
       by_declr no_declr e = prototype_shrinks d opening [] room s ts x e
       by_declr (some_declr inside) e = identifiers_shrink inside opening s ts x e
   list_shrinks false d opening room s ts x e = prototype_shrinks d opening [] room s ts x e
@@ -145,21 +150,25 @@ module _ (all : List Lexeme) (tokens : TokenLaws all) (n : ℕ) (inner : Inner) 
       some_is : {A : Type 0} {x y : A} → Some x ≡ Some y → x ≡ y
       some_is e = cc
 
-      by_paren : (b : Bool) → (if b then Some (fits (suc (some_declr_height d.declr)) (room_at flag room d (kind_at ts)) ts (params_behind inner flag d (room_at flag room d (kind_at ts)) s ts)) else None) ≡ Some (done x) → length x.rest < length ts
+      by_paren : (b : Bool)
+          → (if b then Some (fits (suc (some_declr_height d.declr)) (room_at flag room d (kind_at ts)) ts (params_behind inner flag d (room_at flag room d (kind_at ts)) s ts)) else None) ≡ Some (done x)
+          → length x.rest < length ts
       by_paren true e =
           let r = fits_ok (suc (some_declr_height d.declr)) (room_at flag room d (kind_at ts)) ts (some_is e) in
           let a = bind_ok r.1 in
           omega (arith, take_falls _ _ _ a.1, list_shrinks (flag && is_bare d.declr && begins_identifiers a.0.scopes (kind_at a.0.rest)) d a.0.tree (room_at flag room d (kind_at ts)) _ _ _ a.2)
       by_paren false e = absurd cc
 
-      by_bracket : (b : Bool) → (if b then Some (fits (suc (some_declr_height d.declr)) (room_at flag room d (kind_at ts)) ts (array_with inner d (room_at flag room d (kind_at ts)) s ts))
+      by_bracket : (b : Bool)
+          → (if b then Some (fits (suc (some_declr_height d.declr)) (room_at flag room d (kind_at ts)) ts (array_with inner d (room_at flag room d (kind_at ts)) s ts))
           else if is_open_paren (kind_at ts) then Some (fits (suc (some_declr_height d.declr)) (room_at flag room d (kind_at ts)) ts (params_behind inner flag d (room_at flag room d (kind_at ts)) s ts)) else None) ≡ Some (done x) → length x.rest < length ts
       by_bracket true e =
           let r = fits_ok (suc (some_declr_height d.declr)) (room_at flag room d (kind_at ts)) ts (some_is e) in
           array_shrinks d (room_at flag room d (kind_at ts)) s ts x r.1
       by_bracket false e = by_paren (is_open_paren (kind_at ts)) e
 
-  pub paren_shrinks : (mode : Mode) (wanted : Option Kind) (flag : Bool) (opening : ℕ) (attrs : List Attr) (room : ℕ) → Shrinks (paren_with inner mode wanted flag opening attrs room)
+  pub paren_shrinks : (mode : Mode) (wanted : Option Kind) (flag : Bool) (opening : ℕ) (attrs : List Attr) (room : ℕ)
+      → Shrinks (paren_with inner mode wanted flag opening attrs room)
   unfolding paren_with
   paren_shrinks mode wanted flag opening attrs room s ts x e =
       let a = bind_ok e in
@@ -176,7 +185,8 @@ module _ (all : List Lexeme) (tokens : TokenLaws all) (n : ℕ) (inner : Inner) 
       let b = bind_ok a.2 in
       omega (arith, take_falls _ _ _ a.1, tokens.attrs_falls room _ _ _ b.1, paren_shrinks Named wanted flag a.0.tree b.0.tree room _ _ _ b.2)
 
-  opened_by_shrinks : (mode : Mode) (wanted : Option Kind) (flag : Bool) (opening : ℕ) (attrs : List Attr) (room : ℕ) → Shrinks (opened_by inner mode wanted flag opening attrs room)
+  opened_by_shrinks : (mode : Mode) (wanted : Option Kind) (flag : Bool) (opening : ℕ) (attrs : List Attr) (room : ℕ)
+      → Shrinks (opened_by inner mode wanted flag opening attrs room)
   unfolding opened_by
   opened_by_shrinks mode wanted flag opening attrs room s ts x e =
       if_ok (opens_params attrs s (kind_at ts)) e
@@ -185,7 +195,8 @@ module _ (all : List Lexeme) (tokens : TokenLaws all) (n : ℕ) (inner : Inner) 
       (λ is e. paren_shrinks mode wanted flag opening attrs room s ts x e)
       (λ is e. absurd cc))
 
-  opened_shrinks : (mode : Mode) (wanted : Option Kind) (flag : Bool) (room : ℕ) → Shrinks (opened_with inner mode wanted flag room)
+  opened_shrinks : (mode : Mode) (wanted : Option Kind) (flag : Bool) (room : ℕ)
+      → Shrinks (opened_with inner mode wanted flag room)
   unfolding opened_with
   opened_shrinks mode wanted flag room s ts x e =
       let r = fits_ok 1 room ts e in
@@ -193,12 +204,14 @@ module _ (all : List Lexeme) (tokens : TokenLaws all) (n : ℕ) (inner : Inner) 
       let b = bind_ok a.2 in
       omega (arith, take_falls _ _ _ a.1, tokens.attrs_falls room _ _ _ b.1, opened_by_shrinks mode wanted flag a.0.tree b.0.tree room _ _ _ b.2)
 
-  some_paren_shrinks : (mode : Mode) (wanted : Option Kind) (flag : Bool) (room : ℕ) → Shrinks (some_paren inner mode wanted flag room)
+  some_paren_shrinks : (mode : Mode) (wanted : Option Kind) (flag : Bool) (room : ℕ)
+      → Shrinks (some_paren inner mode wanted flag room)
   some_paren_shrinks Named wanted flag room s ts x e = named_paren_shrinks wanted flag room s ts x e
   some_paren_shrinks Abstract wanted flag room s ts x e = opened_shrinks Abstract wanted flag room s ts x e
   some_paren_shrinks Either wanted flag room s ts x e = opened_shrinks Either wanted flag room s ts x e
 
-  pub name_held_shrinks : (name room : ℕ) (held : Option HeldScopes) (s : HeldScopes) (ts : List Lexeme) (x : Found Declared) → name_held name room held s ts ≡ done x → length x.rest < length ts
+  pub name_held_shrinks : (name room : ℕ) (held : Option HeldScopes) (s : HeldScopes) (ts : List Lexeme) (x : Found Declared)
+      → name_held name room held s ts ≡ done x → length x.rest < length ts
   name_held_shrinks name room None s ts x e = absurd cc
   name_held_shrinks name room (Some held) s ts x e =
       let r = fits_ok 1 room ts e in
@@ -210,7 +223,8 @@ module _ (all : List Lexeme) (tokens : TokenLaws all) (n : ℕ) (inner : Inner) 
   absent_falls Abstract s ts x e = omega (arith, end_is e)
   absent_falls Either s ts x e = omega (arith, end_is e)
 
-  name_falls_by : (mode : Mode) (wanted : Option Kind) (o : Option ℕ) (room : ℕ) → Falls (name_or_none inner mode wanted o room)
+  name_falls_by : (mode : Mode) (wanted : Option Kind) (o : Option ℕ) (room : ℕ)
+      → Falls (name_or_none inner mode wanted o room)
   name_falls_by mode wanted None room s ts x e = absent_falls mode s ts x e
   name_falls_by mode wanted (Some name) room s ts x e =
       if_ok (takes_name mode) e
@@ -223,7 +237,8 @@ module _ (all : List Lexeme) (tokens : TokenLaws all) (n : ℕ) (inner : Inner) 
       let a = bind_ok r.1 in
       omega (arith, take_falls _ _ _ a.1, end_is a.2)
 
-  core_falls : (mode : Mode) (wanted : Option Kind) (flag : Bool) (room : ℕ) → Falls (core_with inner mode wanted flag room)
+  core_falls : (mode : Mode) (wanted : Option Kind) (flag : Bool) (room : ℕ)
+      → Falls (core_with inner mode wanted flag room)
   unfolding core_with
   core_falls mode wanted flag room s ts x e =
       if_ok (is_open_paren (kind_at ts)) e
@@ -251,7 +266,8 @@ module _ (all : List Lexeme) (tokens : TokenLaws all) (n : ℕ) (inner : Inner) 
       run-keep (suffix_turn inner flag room) (λ d s k. length k ≤ length ts)
       (λ d s k x h e. let less : length x.rest < length k = suffix_shrinks flag room d s k x e in omega arith) d s ts x (omega arith) e
 
-  pointer_shrinks : (mode : Mode) (wanted : Option Kind) (flag : Bool) (room : ℕ) → Shrinks (pointer_with inner mode wanted flag room)
+  pointer_shrinks : (mode : Mode) (wanted : Option Kind) (flag : Bool) (room : ℕ)
+      → Shrinks (pointer_with inner mode wanted flag room)
   unfolding pointer_with
   pointer_shrinks mode wanted flag room s ts x e =
       let r = fits_ok _ room ts e in
@@ -260,7 +276,8 @@ module _ (all : List Lexeme) (tokens : TokenLaws all) (n : ℕ) (inner : Inner) 
       let c = bind_ok b.2 in
       omega (arith, take_falls _ _ _ a.1, tokens.pointer_words_falls room _ _ _ b.1, laws.declrs.falls _ _ _ _ _ _ _ c.1, end_is c.2)
 
-  pub declr_falls : (mode : Mode) (wanted : Option Kind) (flag : Bool) (room : ℕ) → Falls (declr_with inner mode wanted flag room)
+  pub declr_falls : (mode : Mode) (wanted : Option Kind) (flag : Bool) (room : ℕ)
+      → Falls (declr_with inner mode wanted flag room)
   unfolding declr_with direct_with
   declr_falls mode wanted flag room s ts x e =
       if_ok (is_star (kind_at ts)) e
@@ -268,7 +285,8 @@ module _ (all : List Lexeme) (tokens : TokenLaws all) (n : ℕ) (inner : Inner) 
       (λ is e. let a = bind_ok e in
       omega (arith, core_falls mode wanted flag room _ _ _ a.1, suffixes_fall flag room _ _ _ _ a.2))
 
-  pub declr_shrinks : (wanted : Option Kind) (flag : Bool) (room : ℕ) → Shrinks (declr_with inner Named wanted flag room)
+  pub declr_shrinks : (wanted : Option Kind) (flag : Bool) (room : ℕ)
+      → Shrinks (declr_with inner Named wanted flag room)
   unfolding declr_with direct_with
   declr_shrinks wanted flag room s ts x e =
       if_ok (is_star (kind_at ts)) e

@@ -29,11 +29,13 @@ module _ (all : List Lexeme) where
   abbrev pub dots_ending : Ending Dots
   dots_ending = record { text = λ d k. dots_text all (Some d) k; Fits = λ d. All (IsWordQual all) d.quals }
 
-  other_params_are : (xs : List ParamItem) (k : List Lexeme) → others_text (param_form all) dots_ending xs k ≡ other_params_text all (params_from xs) k
+  other_params_are : (xs : List ParamItem) (k : List Lexeme)
+      → others_text (param_form all) dots_ending xs k ≡ other_params_text all (params_from xs) k
   other_params_are [] k = refl
   other_params_are (x ∷ xs) k = ap (λ (k : List Lexeme). separated (spec_words_text all x.words (some_declr_text all x.declr (attrs_text all x.attrs k)))) (other_params_are xs k)
 
-  pub params_are : (xs : List ParamItem) (k : List Lexeme) → commas_text (param_form all) dots_ending xs k ≡ params_text all (params_from xs) k
+  pub params_are : (xs : List ParamItem) (k : List Lexeme)
+      → commas_text (param_form all) dots_ending xs k ≡ params_text all (params_from xs) k
   params_are [] k = refl
   params_are (x ∷ xs) k = ap (λ (k : List Lexeme). spec_words_text all x.words (some_declr_text all x.declr (attrs_text all x.attrs k))) (other_params_are xs k)
 
@@ -49,7 +51,8 @@ module _ (all : List Lexeme) where
   params_fit_back no_params h = tt
   params_fit_back (more_params ws d attrs ps) h = ((h.0, h.1, h.2, h.3, h.4, h.5, h.7), params_fit_back ps h.6)
 
-  pub ellipsis_fits : (xs : List ParamItem) (o : Option Dots) → HasItem (param_form all) dots_ending xs → EndingFits (param_form all) dots_ending o → IsEllipsis all (params_from xs) o
+  pub ellipsis_fits : (xs : List ParamItem) (o : Option Dots) → HasItem (param_form all) dots_ending xs
+      → EndingFits (param_form all) dots_ending o → IsEllipsis all (params_from xs) o
   ellipsis_fits xs None some h = tt
   ellipsis_fits [] (Some d) some h = absurd some
   ellipsis_fits (x ∷ xs) (Some d) some h = h
@@ -59,11 +62,13 @@ module _ (all : List Lexeme) where
   ending_back no_params (Some d) h = absurd h
   ending_back (more_params ws d attrs ps) (Some dots) h = h
 
-  step_same : (r : Option HeldScopes) (f : HeldScopes → HeldScopes) (g : HeldScopes → Option HeldScopes) → behind (behind r (λ t. Some (f t))) g ≡ behind r (λ t. g (f t))
+  step_same : (r : Option HeldScopes) (f : HeldScopes → HeldScopes) (g : HeldScopes → Option HeldScopes)
+      → behind (behind r (λ t. Some (f t))) g ≡ behind r (λ t. g (f t))
   step_same None f g = refl
   step_same (Some t) f g = refl
 
-  pub params_named : (xs : List ParamItem) (s : HeldScopes) → row_scopes (param_form all) xs s ≡ params_scopes (params_from xs) s
+  pub params_named : (xs : List ParamItem) (s : HeldScopes)
+      → row_scopes (param_form all) xs s ≡ params_scopes (params_from xs) s
   params_named [] s = refl
   params_named (x ∷ xs) s =
       step_same (behind (behind (spec_words_scopes x.words s) (λ t. where_true (some_shows_no_type t x.declr) t)) (some_declr_scopes (Some Value) x.declr)) (release Value) (row_scopes (param_form all) xs) ∙

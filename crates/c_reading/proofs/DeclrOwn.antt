@@ -45,26 +45,32 @@ bare_none (abs_params d opening ps dots closing) e = refl
 
 -- what stands in a pointer, parentheses, brackets has the parameters around its name
 
-pub own_pointer : (token : ℕ) (words : List PointerWord) (d : SomeDeclr) → own_params (with_pointer token words d) ≡ some_own_params d
+pub own_pointer : (token : ℕ) (words : List PointerWord) (d : SomeDeclr)
+    → own_params (with_pointer token words d) ≡ some_own_params d
 own_pointer token words no_declr = refl
 own_pointer token words (some_declr d) = either (is_named d) refl
   where
-    either : (b : Bool) → is_named d ≡ b → own_params (if b then pointer token words d else abs_pointer token words (some_declr d)) ≡ own_params d
+    either : (b : Bool) → is_named d ≡ b
+        → own_params (if b then pointer token words d else abs_pointer token words (some_declr d)) ≡ own_params d
     either true is = refl
     either false is = sym (own_none d is)
 
-pub own_paren : (opening : ℕ) (attrs : List Attr) (d : Declr) (closing : ℕ) → own_params (with_paren opening attrs d closing) ≡ own_params d
+pub own_paren : (opening : ℕ) (attrs : List Attr) (d : Declr) (closing : ℕ)
+    → own_params (with_paren opening attrs d closing) ≡ own_params d
 own_paren opening attrs d closing = either (is_named d) refl
   where
-    either : (b : Bool) → is_named d ≡ b → own_params (if b then declr_paren opening attrs d closing else abs_paren opening attrs d closing) ≡ own_params d
+    either : (b : Bool) → is_named d ≡ b
+        → own_params (if b then declr_paren opening attrs d closing else abs_paren opening attrs d closing) ≡ own_params d
     either true is = refl
     either false is = sym (own_none d is)
 
-pub own_array : (d : SomeDeclr) (opening : ℕ) (words : List ArrayWord) (size : SomeSize) (closing : ℕ) → own_params (with_array d opening words size closing) ≡ some_own_params d
+pub own_array : (d : SomeDeclr) (opening : ℕ) (words : List ArrayWord) (size : SomeSize) (closing : ℕ)
+    → own_params (with_array d opening words size closing) ≡ some_own_params d
 own_array no_declr opening words size closing = refl
 own_array (some_declr d) opening words size closing = either (is_named d) refl
   where
-    either : (b : Bool) → is_named d ≡ b → own_params (if b then array d opening words size closing else abs_array (some_declr d) opening words size closing) ≡ own_params d
+    either : (b : Bool) → is_named d ≡ b
+        → own_params (if b then array d opening words size closing else abs_array (some_declr d) opening words size closing) ≡ own_params d
     either true is = refl
     either false is = sym (own_none d is)
 
@@ -73,16 +79,19 @@ abbrev pub some_bare : SomeDeclr → Option ℕ
 some_bare no_declr = None
 some_bare (some_declr d) = bare_name d
 
-pub own_with_params : (d : SomeDeclr) (opening : ℕ) (ps : Params) (dots : Option Dots) (closing : ℕ) → own_params (with_params d opening ps dots closing) ≡ or_those_of (some_bare d) ps (some_own_params d)
+pub own_with_params : (d : SomeDeclr) (opening : ℕ) (ps : Params) (dots : Option Dots) (closing : ℕ)
+    → own_params (with_params d opening ps dots closing) ≡ or_those_of (some_bare d) ps (some_own_params d)
 own_with_params no_declr opening ps dots closing = refl
 own_with_params (some_declr d) opening ps dots closing = either (is_named d) refl
   where
-    either : (b : Bool) → is_named d ≡ b → own_params (if b then params d opening ps dots closing else abs_params (some_declr d) opening ps dots closing) ≡ or_those_of (bare_name d) ps (own_params d)
+    either : (b : Bool) → is_named d ≡ b
+        → own_params (if b then params d opening ps dots closing else abs_params (some_declr d) opening ps dots closing) ≡ or_those_of (bare_name d) ps (own_params d)
     either true is = refl
     either false is = rw (bare_none d is, own_none d is) refl
 
 -- a bare declarator changes scopes as its name does
-pub bare_scopes : (wanted : Option Kind) (d : Declr) (name : ℕ) (s : HeldScopes) → bare_name d ≡ Some name → declr_scopes wanted d s ≡ at_name wanted name s
+pub bare_scopes : (wanted : Option Kind) (d : Declr) (name : ℕ) (s : HeldScopes) → bare_name d ≡ Some name
+    → declr_scopes wanted d s ≡ at_name wanted name s
 bare_scopes wanted (pointer sign words d) name s e = absurd cc
 bare_scopes wanted (declr_name token n) name s e = ap (λ (m : ℕ). at_name wanted m s) (some_is n name e)
   where
@@ -99,7 +108,8 @@ bare_scopes wanted (abs_array d opening words size closing) name s e = absurd cc
 bare_scopes wanted (abs_params d opening ps dots closing) name s e = absurd cc
 
 -- the scope that the parameters directly around the name close
-pub closed_with_params : (wanted : Option Kind) (d : SomeDeclr) (opening : ℕ) (ps : Params) (dots : Option Dots) (closing : ℕ) (s t u : HeldScopes) → some_declr_scopes wanted d s ≡ Some t → params_scopes ps (enter t) ≡ Some u →
+pub closed_with_params : (wanted : Option Kind) (d : SomeDeclr) (opening : ℕ) (ps : Params) (dots : Option Dots) (closing : ℕ) (s t u : HeldScopes)
+    → some_declr_scopes wanted d s ≡ Some t → params_scopes ps (enter t) ≡ Some u →
     closed_by d (innermost u) (closed_of wanted d s) ≡ closed_of wanted (some_declr (with_params d opening ps dots closing)) s
 closed_with_params wanted d opening ps dots closing s t u named inside =
     by_bare d named ∙ ap (λ (o : Option OwnParams). option_map innermost (own_scope_in wanted o s)) (sym (own_with_params d opening ps dots closing))
@@ -117,11 +127,13 @@ closed_with_params wanted d opening ps dots closing s t u named inside =
     by_bare (some_declr d) named = by_name d (bare_name d) refl named
 
 -- behind a list of identifiers, the scope of the declarations has no names yet
-pub closed_with_identifiers : (wanted : Option Kind) (d : Declr) (opening : ℕ) (names : List Identifier) (closing : ℕ) (s t : HeldScopes) → is_some (bare_name d) ≡ true → declr_scopes wanted d s ≡ Some t →
+pub closed_with_identifiers : (wanted : Option Kind) (d : Declr) (opening : ℕ) (names : List Identifier) (closing : ℕ) (s t : HeldScopes)
+    → is_some (bare_name d) ≡ true → declr_scopes wanted d s ≡ Some t →
     Some (new_scope (is_wide t)) ≡ closed_of wanted (some_declr (identifiers d opening names closing)) s
 closed_with_identifiers wanted d opening names closing s t bare named = by_name (bare_name d) refl bare
   where
-    by_name : (o : Option ℕ) → bare_name d ≡ o → is_some o ≡ true → Some (new_scope (is_wide t)) ≡ option_map innermost (own_scope_in wanted (or_those_of o no_params (own_params d)) s)
+    by_name : (o : Option ℕ) → bare_name d ≡ o → is_some o ≡ true
+        → Some (new_scope (is_wide t)) ≡ option_map innermost (own_scope_in wanted (or_those_of o no_params (own_params d)) s)
     by_name None is bare = absurd cc
     by_name (Some name) is bare =
         let at : at_name wanted name s ≡ Some t = sym (bare_scopes wanted d name s is) ∙ named in

@@ -40,26 +40,31 @@ module _ (all : List Lexeme) (numbered : IsNumbered all) (tokens : TokenLaws all
   firsts = first_laws goes all numbered
 
   -- the loop of brackets and parameters ends
-  loop_ends : (flag : Bool) (room : ℕ) (d : Declared) (s : HeldScopes) (k : List Lexeme) → ends_suffix (kind_at k) ≡ true → run (suffix_turn inner flag room) d s k ≡ done (found d s k)
+  loop_ends : (flag : Bool) (room : ℕ) (d : Declared) (s : HeldScopes) (k : List Lexeme)
+      → ends_suffix (kind_at k) ≡ true → run (suffix_turn inner flag room) d s k ≡ done (found d s k)
   loop_ends flag room d s k ended =
       run_ends (suffix_turn inner flag room) (suffix_shrinks all tokens n inner laws flag room) d s k
       (rw (not_true (both_right (not (is_open_paren (kind_at k))) (not (is_open_bracket (kind_at k))) ended), not_true (both_left (not (is_open_paren (kind_at k))) (not (is_open_bracket (kind_at k))) ended)) refl)
 
   -- nothing stands there
 
-  no_core : (mode : Mode) (wanted : Option Kind) (room : ℕ) (s : HeldScopes) (k : List Lexeme) (o : Option ℕ) → FitsMode all mode no_declr s → (takes_name mode && is_some o) ≡ false → name_or_none inner mode wanted o room s k ≡ done (found (declared_as wanted no_declr s) s k)
+  no_core : (mode : Mode) (wanted : Option Kind) (room : ℕ) (s : HeldScopes) (k : List Lexeme) (o : Option ℕ)
+      → FitsMode all mode no_declr s → (takes_name mode && is_some o) ≡ false
+      → name_or_none inner mode wanted o room s k ≡ done (found (declared_as wanted no_declr s) s k)
   no_core Named wanted room s k o fits no_name = absurd fits
   no_core Abstract wanted room s k None fits no_name = refl
   no_core Abstract wanted room s k (Some name) fits no_name = refl
   no_core Either wanted room s k None fits no_name = refl
   no_core Either wanted room s k (Some name) fits no_name = absurd cc
 
-  no_base_there : (mode : Mode) (wanted : Option Kind) (s : HeldScopes) (kind : TokenKind) → FitsMode all mode no_declr s → names_base s mode wanted kind ≡ false
+  no_base_there : (mode : Mode) (wanted : Option Kind) (s : HeldScopes) (kind : TokenKind)
+      → FitsMode all mode no_declr s → names_base s mode wanted kind ≡ false
   no_base_there Named wanted s kind fits = absurd fits
   no_base_there Abstract wanted s kind fits = refl
   no_base_there Either wanted s kind fits = refl
 
-  none_complete : (mode : Mode) (wanted : Option Kind) (flag : Bool) (room : ℕ) (s : HeldScopes) (k : List Lexeme) → FitsMode all mode no_declr s → ends_none mode (kind_at k) ≡ true →
+  none_complete : (mode : Mode) (wanted : Option Kind) (flag : Bool) (room : ℕ) (s : HeldScopes) (k : List Lexeme)
+      → FitsMode all mode no_declr s → ends_none mode (kind_at k) ≡ true →
       declr_with inner mode wanted flag room s k ≡ done (found (declared_as wanted no_declr s) s k)
   unfolding declr_with direct_with core_with
   none_complete mode wanted flag room s k fits ended =
@@ -69,7 +74,8 @@ module _ (all : List Lexeme) (numbered : IsNumbered all) (tokens : TokenLaws all
 
   -- a pointer
 
-  pointer_high : (mode : Mode) (d : SomeDeclr) (s : HeldScopes) → FitsMode all mode d s → least_pointer mode ≤ some_declr_height d + 1
+  pointer_high : (mode : Mode) (d : SomeDeclr) (s : HeldScopes) → FitsMode all mode d s
+      → least_pointer mode ≤ some_declr_height d + 1
   pointer_high Named no_declr s fits = absurd fits
   pointer_high Named (some_declr d) s fits = let high : 1 ≤ declr_height d = declr_high d in omega (arith, high)
   pointer_high Abstract d s fits = omega arith
@@ -80,7 +86,10 @@ module _ (all : List Lexeme) (numbered : IsNumbered all) (tokens : TokenLaws all
   pointer_two Abstract = omega arith
   pointer_two Either = omega arith
 
-  pointer_complete : (mode : Mode) (wanted : Option Kind) (flag : Bool) (room : ℕ) → declr_number flag room < suc n → MayName all mode wanted → (token : ℕ) (words : List PointerWord) (d : SomeDeclr) (s s' : HeldScopes) (k : List Lexeme) → All (IsPointerWord all) words → FitsMode all mode d s → (flag ≡ true) ⊎ (some_lists_identifiers d ≡ false) →
+  pointer_complete : (mode : Mode) (wanted : Option Kind) (flag : Bool) (room : ℕ) → declr_number flag room < suc n
+      → MayName all mode wanted
+      → (token : ℕ) (words : List PointerWord) (d : SomeDeclr) (s s' : HeldScopes) (k : List Lexeme)
+      → All (IsPointerWord all) words → FitsMode all mode d s → (flag ≡ true) ⊎ (some_lists_identifiers d ≡ false) →
       some_declr_scopes wanted d s ≡ Some s' → max (pointer_words_height words) (some_declr_height d) + 1 ≤ declr_room flag (closed_of wanted d s) room → begins_pointer_word (kind_at (some_declr_text all d k)) ≡ false → ends_declr mode d (kind_at k) ≡ true →
       pointer_with inner mode wanted flag room s (sign_text puncts.Star token (pointer_words_text all words (some_declr_text all d k))) ≡ done (found (declared_as wanted (some_declr (with_pointer token words d)) s) s' k)
   unfolding pointer_with
@@ -115,7 +124,8 @@ module _ (all : List Lexeme) (numbered : IsNumbered all) (tokens : TokenLaws all
       inside = laws.declrs.complete mode wanted flag (room - 1) (inner_number flag room n less least) may d s s' k fits plain named (inner_room flag (closed_of wanted d s) room (some_declr_height d) (pointer_words_height words) low least) ended
 
   -- the first token of a direct declarator is no star
-  direct_no_star : (d : Declr) (k : List Lexeme) → IsDeclr all d → is_direct d ≡ true → is_star (kind_at (declr_text all d k)) ≡ false
+  direct_no_star : (d : Declr) (k : List Lexeme) → IsDeclr all d → is_direct d ≡ true
+      → is_star (kind_at (declr_text all d k)) ≡ false
   direct_no_star (pointer star words d) k fits direct = absurd cc
   direct_no_star (declr_name token name) k fits direct = refl
   direct_no_star (declr_paren opening attrs d closing) k fits direct = refl
@@ -130,7 +140,10 @@ module _ (all : List Lexeme) (numbered : IsNumbered all) (tokens : TokenLaws all
   direct_no_star (abs_params no_declr opening ps dots closing) k fits direct = refl
   direct_no_star (abs_params (some_declr d) opening ps dots closing) k fits direct = direct_no_star d _ fits.0.0 fits.0.2
 
-  direct_complete : (mode : Mode) (wanted : Option Kind) (flag : Bool) (room : ℕ) → declr_number flag room < suc n → MayName all mode wanted → (d : Declr) (s s' : HeldScopes) (k : List Lexeme) → is_direct d ≡ true → FitsMode all mode (some_declr d) s → (flag ≡ true) ⊎ (lists_identifiers d ≡ false) → declr_scopes wanted d s ≡ Some s' →
+  direct_complete : (mode : Mode) (wanted : Option Kind) (flag : Bool) (room : ℕ) → declr_number flag room < suc n
+      → MayName all mode wanted → (d : Declr) (s s' : HeldScopes) (k : List Lexeme) → is_direct d ≡ true
+      → FitsMode all mode (some_declr d) s → (flag ≡ true) ⊎ (lists_identifiers d ≡ false)
+      → declr_scopes wanted d s ≡ Some s' →
       declr_height d ≤ declr_room flag (closed_of wanted (some_declr d) s) room → ends_declr mode (some_declr d) (kind_at k) ≡ true → declr_with inner mode wanted flag room s (declr_text all d k) ≡ done (found (declared_as wanted (some_declr d) s) s' k)
   unfolding declr_with
   direct_complete mode wanted flag room less may d s s' k direct fits plain named low ended =
@@ -139,21 +152,28 @@ module _ (all : List Lexeme) (numbered : IsNumbered all) (tokens : TokenLaws all
       rw (direct_no_star d k f.0 direct) (direct_on all numbered tokens goes n inner laws mode wanted flag room less may d s s' k f.0 direct f.1 f.2 plain named low ∙ loop_ends flag room (declared_as wanted (some_declr d) s) s' k suffix)
 
   -- the part of a pointer fits its mode
-  named_part : (mode : Mode) (token : ℕ) (words : List PointerWord) (d : Declr) (s : HeldScopes) → FitsMode all mode (some_declr (pointer token words d)) s → All (IsPointerWord all) words × FitsMode all mode (some_declr d) s × (is_named d ≡ true)
+  named_part : (mode : Mode) (token : ℕ) (words : List PointerWord) (d : Declr) (s : HeldScopes)
+      → FitsMode all mode (some_declr (pointer token words d)) s
+      → All (IsPointerWord all) words × FitsMode all mode (some_declr d) s × (is_named d ≡ true)
   named_part Named token words d s h = (h.0.0, (h.0.1, h.0.2), h.0.2)
   named_part Abstract token words d s h = absurd cc
   named_part Either token words d s h = (h.0.0, (h.0.1, h.1), h.0.2)
 
-  abstract_part : (mode : Mode) (token : ℕ) (words : List PointerWord) (d : SomeDeclr) (s : HeldScopes) → FitsMode all mode (some_declr (abs_pointer token words d)) s → All (IsPointerWord all) words × FitsMode all mode d s × IsSomeAbstract all d
+  abstract_part : (mode : Mode) (token : ℕ) (words : List PointerWord) (d : SomeDeclr) (s : HeldScopes)
+      → FitsMode all mode (some_declr (abs_pointer token words d)) s
+      → All (IsPointerWord all) words × FitsMode all mode d s × IsSomeAbstract all d
   abstract_part Named token words d s h = absurd cc
   abstract_part Abstract token words d s h = (h.0.0, h.0.1, h.0.1)
   abstract_part Either token words no_declr s h = (h.0.0, (tt, refl), tt)
   abstract_part Either token words (some_declr d) s h = (h.0.0, (h.0.1.0, h.1), h.0.1)
 
-  star_none : (mode : Mode) (kind : TokenKind) → ends_star mode kind ≡ true → (ends_none mode kind ≡ true) × (begins_pointer_word kind ≡ false)
+  star_none : (mode : Mode) (kind : TokenKind) → ends_star mode kind ≡ true
+      → (ends_none mode kind ≡ true) × (begins_pointer_word kind ≡ false)
   star_none mode kind e = (both_left (ends_none mode kind) (not (begins_pointer_word kind)) e, not_true (both_right (ends_none mode kind) (not (begins_pointer_word kind)) e))
 
-  declr_complete : (mode : Mode) (wanted : Option Kind) (flag : Bool) (room : ℕ) → declr_number flag room < suc n → MayName all mode wanted → (d : SomeDeclr) (s s' : HeldScopes) (k : List Lexeme) → FitsMode all mode d s → (flag ≡ true) ⊎ (some_lists_identifiers d ≡ false) → some_declr_scopes wanted d s ≡ Some s' →
+  declr_complete : (mode : Mode) (wanted : Option Kind) (flag : Bool) (room : ℕ) → declr_number flag room < suc n
+      → MayName all mode wanted → (d : SomeDeclr) (s s' : HeldScopes) (k : List Lexeme) → FitsMode all mode d s
+      → (flag ≡ true) ⊎ (some_lists_identifiers d ≡ false) → some_declr_scopes wanted d s ≡ Some s' →
       some_declr_height d ≤ declr_room flag (closed_of wanted d s) room → ends_declr mode d (kind_at k) ≡ true → declr_with inner mode wanted flag room s (some_declr_text all d k) ≡ done (found (declared_as wanted d s) s' k)
   unfolding declr_with
   declr_complete mode wanted flag room less may no_declr s s' k fits plain named low ended =
@@ -222,15 +242,18 @@ module _ (all : List Lexeme) (numbered : IsNumbered all) (tokens : TokenLaws all
         left = d.left;
       })
     where
-      by_low : (a : Found SpecWords) (w : TakesWords all Naming no_words (room - 1) s ts a) → (w.rest ≡ no_words) ⊎ (specs_height a.tree ≤ room - 1) → specs_height a.tree ≤ room - 1
+      by_low : (a : Found SpecWords) (w : TakesWords all Naming no_words (room - 1) s ts a)
+          → (w.rest ≡ no_words) ⊎ (specs_height a.tree ≤ room - 1) → specs_height a.tree ≤ room - 1
       by_low a w (inl none) = absurd (no_mix_of_none a.tree (w.words_are ∙ none) w.mix)
       by_low a w (inr low) = low
 
-  words_end : (d : SomeDeclr) (k : List Lexeme) → IsSomeAbstract all d → ends_type_name (kind_at k) ≡ true → ends_specs (kind_at (some_declr_text all d k)) ≡ true
+  words_end : (d : SomeDeclr) (k : List Lexeme) → IsSomeAbstract all d → ends_type_name (kind_at k) ≡ true
+      → ends_specs (kind_at (some_declr_text all d k)) ≡ true
   words_end no_declr k fits ended = both_left (ends_specs (kind_at k)) (ends_none Abstract (kind_at k)) ended
   words_end (some_declr d) k fits ended = abstract_ends_specs (kind_at (declr_text all d k)) (firsts.abstract_begins d k fits.0 fits.1)
 
-  abstract_end : (d : SomeDeclr) (k : List Lexeme) → ends_type_name (kind_at k) ≡ true → ends_declr Abstract d (kind_at k) ≡ true
+  abstract_end : (d : SomeDeclr) (k : List Lexeme) → ends_type_name (kind_at k) ≡ true
+      → ends_declr Abstract d (kind_at k) ≡ true
   abstract_end no_declr k ended = both_right (ends_specs (kind_at k)) (ends_none Abstract (kind_at k)) ended
   abstract_end (some_declr d) k ended = by_star (ends_starred d)
     where
@@ -245,7 +268,8 @@ module _ (all : List Lexeme) (numbered : IsNumbered all) (tokens : TokenLaws all
   abstract_plain no_declr fits = refl
   abstract_plain (some_declr d) fits = unnamed_plain d fits.1
 
-  type_name_complete : (room : ℕ) → room < suc n → IsComplete (type_name_form all) (λ t. ends_type_name) room (type_name_with inner room)
+  type_name_complete : (room : ℕ) → room < suc n
+      → IsComplete (type_name_form all) (λ t. ends_type_name) room (type_name_with inner room)
   unfolding type_name_with
   type_name_complete room less t s s' k fits named low ended =
       let a = behind_ok (spec_words_scopes t.words s) (some_declr_scopes None t.declr) s' named in

@@ -55,7 +55,8 @@ low_attrs [] = omega arith
 low_attrs (a ∷ attrs) = omega arith
 
 -- a declarator one higher has one level more of room
-more_room : (flag : Bool) (closed : Option HeldScope) (room h w : ℕ) → h ≤ declr_room flag closed (room - 1) → w + 1 ≤ room → max w h + 1 ≤ declr_room flag closed room
+more_room : (flag : Bool) (closed : Option HeldScope) (room h w : ℕ) → h ≤ declr_room flag closed (room - 1)
+    → w + 1 ≤ room → max w h + 1 ≤ declr_room flag closed room
 more_room true (Some scope) room h w low least = omega (arith, low, least)
 more_room true None room h w low least = omega (arith, low, least)
 more_room false closed room h w low least = omega (arith, low, least)
@@ -94,83 +95,100 @@ module _ (all : List Lexeme) where
     pub shows : (s : HeldScopes) → some_shows_no_type s d ≡ true → shows_no_type s made ≡ true
     pub lists : lists_identifiers made ≡ some_lists_identifiers d
 
-  pointer_whole : (token : ℕ) (words : List PointerWord) (d : SomeDeclr) → All (IsPointerWord all) words → IsSomeDeclr all d →
+  pointer_whole : (token : ℕ) (words : List PointerWord) (d : SomeDeclr) → All (IsPointerWord all) words
+      → IsSomeDeclr all d →
       Whole d (with_pointer token words d) (λ k. sign_text puncts.Star token (pointer_words_text all words (some_declr_text all d k))) (λ wanted. some_declr_scopes wanted d)
       (max (pointer_words_height words) (some_declr_height d) + 1)
   pointer_whole token words no_declr w h = record { spelled = λ k. refl; fits = (w, tt); name = refl; named = λ wanted s. refl; low = refl; shows = λ s e. refl; lists = refl }
   pointer_whole token words (some_declr d) w h = either (is_named d) refl
     where
-      either : (b : Bool) → is_named d ≡ b → Whole (some_declr d) (if b then pointer token words d else abs_pointer token words (some_declr d))
+      either : (b : Bool) → is_named d ≡ b
+          → Whole (some_declr d) (if b then pointer token words d else abs_pointer token words (some_declr d))
           (λ k. sign_text puncts.Star token (pointer_words_text all words (declr_text all d k))) (λ wanted. declr_scopes wanted d) (max (pointer_words_height words) (declr_height d) + 1)
       either true is = record { spelled = λ k. refl; fits = (w, h, is); name = sym is; named = λ wanted s. refl; low = refl; shows = λ s e. e; lists = refl }
       either false is = record { spelled = λ k. refl; fits = (w, (h, is)); name = sym is; named = λ wanted s. refl; low = refl; shows = λ s e. e; lists = sym (unnamed_plain d is) }
 
-  array_whole : (d : SomeDeclr) (opening : ℕ) (words : List ArrayWord) (size : SomeSize) (closing : ℕ) → IsDirectSome d → All (IsArrayWord all) words → IsSize all size →
+  array_whole : (d : SomeDeclr) (opening : ℕ) (words : List ArrayWord) (size : SomeSize) (closing : ℕ) → IsDirectSome d
+      → All (IsArrayWord all) words → IsSize all size →
       Whole d (with_array d opening words size closing)
       (λ k. some_declr_text all d (sign_text puncts.OpenBracket opening (array_words_text all words (some_size_text all size (sign_text puncts.CloseBracket closing k)))))
       (λ wanted s. behind (some_declr_scopes wanted d s) (some_size_scopes size)) (max (some_declr_height d) (some_size_height size) + 1)
   array_whole no_declr opening words size closing h w z = record { spelled = λ k. refl; fits = (tt, w, z); name = refl; named = λ wanted s. refl; low = refl; shows = λ s e. refl; lists = refl }
   array_whole (some_declr d) opening words size closing h w z = either (is_named d) refl
     where
-      either : (b : Bool) → is_named d ≡ b → Whole (some_declr d) (if b then array d opening words size closing else abs_array (some_declr d) opening words size closing)
+      either : (b : Bool) → is_named d ≡ b
+          → Whole (some_declr d) (if b then array d opening words size closing else abs_array (some_declr d) opening words size closing)
           (λ k. declr_text all d (sign_text puncts.OpenBracket opening (array_words_text all words (some_size_text all size (sign_text puncts.CloseBracket closing k)))))
           (λ wanted s. behind (declr_scopes wanted d s) (some_size_scopes size)) (max (declr_height d) (some_size_height size) + 1)
       either true is = record { spelled = λ k. refl; fits = (h.0, is, h.1, w, z); name = sym is; named = λ wanted s. refl; low = refl; shows = λ s e. e; lists = refl }
       either false is = record { spelled = λ k. refl; fits = ((h.0, is, h.1), w, z); name = sym is; named = λ wanted s. refl; low = refl; shows = λ s e. e; lists = sym (unnamed_plain d is) }
 
-  params_whole : (d : SomeDeclr) (opening : ℕ) (ps : Params) (dots : Option Dots) (closing : ℕ) → IsDirectSome d → AreParams all ps → IsEllipsis all ps dots →
+  params_whole : (d : SomeDeclr) (opening : ℕ) (ps : Params) (dots : Option Dots) (closing : ℕ) → IsDirectSome d
+      → AreParams all ps → IsEllipsis all ps dots →
       Whole d (with_params d opening ps dots closing)
       (λ k. some_declr_text all d (sign_text puncts.OpenParen opening (params_text all ps (dots_text all dots (sign_text puncts.CloseParen closing k)))))
       (λ wanted s. behind (some_declr_scopes wanted d s) (in_own_scope (params_scopes ps))) (max (some_declr_height d) (params_height ps) + 1)
   params_whole no_declr opening ps dots closing h p e = record { spelled = λ k. refl; fits = (tt, p, e); name = refl; named = λ wanted s. refl; low = refl; shows = λ s e. refl; lists = refl }
   params_whole (some_declr d) opening ps dots closing h p e = either (is_named d) refl
     where
-      either : (b : Bool) → is_named d ≡ b → Whole (some_declr d) (if b then params d opening ps dots closing else abs_params (some_declr d) opening ps dots closing)
+      either : (b : Bool) → is_named d ≡ b
+          → Whole (some_declr d) (if b then params d opening ps dots closing else abs_params (some_declr d) opening ps dots closing)
           (λ k. declr_text all d (sign_text puncts.OpenParen opening (params_text all ps (dots_text all dots (sign_text puncts.CloseParen closing k)))))
           (λ wanted s. behind (declr_scopes wanted d s) (in_own_scope (params_scopes ps))) (max (declr_height d) (params_height ps) + 1)
       either true is = record { spelled = λ k. refl; fits = (h.0, is, h.1, p, e); name = sym is; named = λ wanted s. refl; low = refl; shows = λ s e. e; lists = refl }
       either false is = record { spelled = λ k. refl; fits = ((h.0, is, h.1), p, e); name = sym is; named = λ wanted s. refl; low = refl; shows = λ s e. e; lists = sym (unnamed_plain d is) }
 
-  direct_made : (d : SomeDeclr) (opening : ℕ) (words : List ArrayWord) (size : SomeSize) (closing : ℕ) → is_direct (with_array d opening words size closing) ≡ true
+  direct_made : (d : SomeDeclr) (opening : ℕ) (words : List ArrayWord) (size : SomeSize) (closing : ℕ)
+      → is_direct (with_array d opening words size closing) ≡ true
   direct_made no_declr opening words size closing = refl
   direct_made (some_declr d) opening words size closing = either (is_named d)
     where
-      either : (b : Bool) → is_direct (if b then array d opening words size closing else abs_array (some_declr d) opening words size closing) ≡ true
+      either : (b : Bool)
+          → is_direct (if b then array d opening words size closing else abs_array (some_declr d) opening words size closing) ≡ true
       either true = refl
       either false = refl
 
-  direct_params : (d : SomeDeclr) (opening : ℕ) (ps : Params) (dots : Option Dots) (closing : ℕ) → is_direct (with_params d opening ps dots closing) ≡ true
+  direct_params : (d : SomeDeclr) (opening : ℕ) (ps : Params) (dots : Option Dots) (closing : ℕ)
+      → is_direct (with_params d opening ps dots closing) ≡ true
   direct_params no_declr opening ps dots closing = refl
   direct_params (some_declr d) opening ps dots closing = either (is_named d)
     where
-      either : (b : Bool) → is_direct (if b then params d opening ps dots closing else abs_params (some_declr d) opening ps dots closing) ≡ true
+      either : (b : Bool)
+          → is_direct (if b then params d opening ps dots closing else abs_params (some_declr d) opening ps dots closing) ≡ true
       either true = refl
       either false = refl
 
-  direct_paren : (opening : ℕ) (attrs : List Attr) (d : Declr) (closing : ℕ) → is_direct (with_paren opening attrs d closing) ≡ true
+  direct_paren : (opening : ℕ) (attrs : List Attr) (d : Declr) (closing : ℕ)
+      → is_direct (with_paren opening attrs d closing) ≡ true
   direct_paren opening attrs d closing = either (is_named d)
     where
-      either : (b : Bool) → is_direct (if b then declr_paren opening attrs d closing else abs_paren opening attrs d closing) ≡ true
+      either : (b : Bool)
+          → is_direct (if b then declr_paren opening attrs d closing else abs_paren opening attrs d closing) ≡ true
       either true = refl
       either false = refl
 
   -- in parentheses no typedef name may be first where a parameter's declarator stands
-  paren_shows : (opening : ℕ) (attrs : List Attr) (d : Declr) (closing : ℕ) (s : HeldScopes) → shows_no_type s d ≡ true → begins_with_type s (first_name d) ≡ false → shows_no_type s (with_paren opening attrs d closing) ≡ true
+  paren_shows : (opening : ℕ) (attrs : List Attr) (d : Declr) (closing : ℕ) (s : HeldScopes) → shows_no_type s d ≡ true
+      → begins_with_type s (first_name d) ≡ false → shows_no_type s (with_paren opening attrs d closing) ≡ true
   paren_shows opening attrs d closing s h none = either (is_named d)
     where
-      either : (b : Bool) → shows_no_type s (if b then declr_paren opening attrs d closing else abs_paren opening attrs d closing) ≡ true
+      either : (b : Bool)
+          → shows_no_type s (if b then declr_paren opening attrs d closing else abs_paren opening attrs d closing) ≡ true
       either true = rw (none, h) refl
       either false = h
 
   pub record WholeParen (opening : ℕ) (attrs : List Attr) (d : Declr) (closing : ℕ) : Type 0 where
-    pub spelled : (k : List Lexeme) → declr_text all (with_paren opening attrs d closing) k ≡ sign_text puncts.OpenParen opening (attrs_text all attrs (declr_text all d (sign_text puncts.CloseParen closing k)))
+    pub spelled : (k : List Lexeme)
+        → declr_text all (with_paren opening attrs d closing) k ≡ sign_text puncts.OpenParen opening (attrs_text all attrs (declr_text all d (sign_text puncts.CloseParen closing k)))
     pub fits : IsDeclr all (with_paren opening attrs d closing)
     pub name : is_named (with_paren opening attrs d closing) ≡ is_named d
-    pub named : (wanted : Option Kind) (s : HeldScopes) → declr_scopes wanted (with_paren opening attrs d closing) s ≡ declr_scopes wanted d s
+    pub named : (wanted : Option Kind) (s : HeldScopes)
+        → declr_scopes wanted (with_paren opening attrs d closing) s ≡ declr_scopes wanted d s
     pub low : declr_height (with_paren opening attrs d closing) ≡ max (attrs_height attrs) (declr_height d) + 1
     pub lists : lists_identifiers (with_paren opening attrs d closing) ≡ lists_identifiers d
 
-  paren_whole : (opening : ℕ) (attrs : List Attr) (d : Declr) (closing : ℕ) → AreAttrs all attrs → IsDeclr all d → WholeParen opening attrs d closing
+  paren_whole : (opening : ℕ) (attrs : List Attr) (d : Declr) (closing : ℕ) → AreAttrs all attrs → IsDeclr all d
+      → WholeParen opening attrs d closing
   paren_whole opening attrs d closing a h = either (is_named d) refl
     where
       either : (b : Bool) → is_named d ≡ b → WholeParen opening attrs d closing
@@ -192,7 +210,8 @@ module _ (all : List Lexeme) where
       }
 
   -- the first name of a declarator is its first token
-  first_name_is : (d : Declr) (name : ℕ) (k : List Lexeme) → first_name d ≡ Some name → kind_at (declr_text all d k) ≡ kinds.Name name
+  first_name_is : (d : Declr) (name : ℕ) (k : List Lexeme) → first_name d ≡ Some name
+      → kind_at (declr_text all d k) ≡ kinds.Name name
   first_name_is (pointer sign words d) name k e = absurd cc
   first_name_is (declr_name token m) name k e = ap (λ (m : ℕ). kinds.Name m) (some_same m name e)
     where
@@ -209,7 +228,8 @@ module _ (all : List Lexeme) where
   first_name_is (abs_params d opening ps dots closing) name k e = absurd cc
 
   -- what does not begin specifiers begins no typedef name
-  no_type_first : (d : Declr) (s : HeldScopes) (k : List Lexeme) → begins_specs s (kind_at (declr_text all d k)) ≡ false → begins_with_type s (first_name d) ≡ false
+  no_type_first : (d : Declr) (s : HeldScopes) (k : List Lexeme) → begins_specs s (kind_at (declr_text all d k)) ≡ false
+      → begins_with_type s (first_name d) ≡ false
   no_type_first d s k e = by_name (first_name d) refl
     where
       name_begins : (s : HeldScopes) (name : ℕ) → begins_specs s (kinds.Name name) ≡ false → names_type s name ≡ false
@@ -227,12 +247,14 @@ module _ (all : List Lexeme) where
 abbrev pub identifier_scopes : Identifier → HeldScopes → Option HeldScopes
 identifier_scopes it s = where_true (not (names_type s it.name)) s
 
-pub identifiers_are : (names : List Identifier) (s : HeldScopes) → row_scopes (name_form identifier_scopes) names s ≡ identifiers_scopes names s
+pub identifiers_are : (names : List Identifier) (s : HeldScopes)
+    → row_scopes (name_form identifier_scopes) names s ≡ identifiers_scopes names s
 identifiers_are [] s = refl
 identifiers_are (it ∷ names) s = behind_same (identifier_scopes it s) _ _ (λ t. identifiers_are names t)
 
 -- where wider C is read, a list of identifiers asks of the scopes what its names ask
-pub wide_names : (names : List Identifier) (s : HeldScopes) (r : Option HeldScopes) → is_wide s ≡ true → identifiers_scopes names s ≡ r →
+pub wide_names : (names : List Identifier) (s : HeldScopes) (r : Option HeldScopes) → is_wide s ≡ true
+    → identifiers_scopes names s ≡ r →
     behind (where_true (is_wide s) s) (identifiers_scopes names) ≡ r
 wide_names names s r wide e = rw wide e
 
@@ -252,7 +274,8 @@ module _ (all : List Lexeme) (numbered : IsNumbered all) (tokens : TokenLaws all
     low : some_size_height x.tree ≤ room - 1
     left : IsTail all x.rest
 
-  star_size_sound : (room : ℕ) (s : HeldScopes) (ts : List Lexeme) (x : Found SomeSize) → IsTail all ts → is_star (kind_at ts) ≡ true → star_size inner room s ts ≡ done x → TookSize room s ts x
+  star_size_sound : (room : ℕ) (s : HeldScopes) (ts : List Lexeme) (x : Found SomeSize) → IsTail all ts
+      → is_star (kind_at ts) ≡ true → star_size inner room s ts ≡ done x → TookSize room s ts x
   unfolding star_size
   star_size_sound room s ts x tail is e =
       let a = bind_ok e in
@@ -263,7 +286,8 @@ module _ (all : List Lexeme) (numbered : IsNumbered all) (tokens : TokenLaws all
       let i = laws.exprs.begun_sound Assigned (begun_star a.0.tree) (room - 1) refl a.0.scopes a.0.rest b.0 t.left b.1 in
       at_end (TookSize room s ts) b.2 (record { spelled = t.spelled ∙ i.spelled; fits = i.fits; named = ap (λ (u : HeldScopes). some_size_scopes (some_size (size_value b.0.tree)) u) (sym t.same) ∙ i.named; low = i.low; left = i.left }))
 
-  size_sound : (room : ℕ) (s : HeldScopes) (ts : List Lexeme) (x : Found SomeSize) → IsTail all ts → size_with inner room s ts ≡ done x → TookSize room s ts x
+  size_sound : (room : ℕ) (s : HeldScopes) (ts : List Lexeme) (x : Found SomeSize) → IsTail all ts
+      → size_with inner room s ts ≡ done x → TookSize room s ts x
   unfolding size_with
   size_sound room s ts x tail e =
       if_ok (is_close_bracket (kind_at ts)) e
@@ -297,7 +321,8 @@ module _ (all : List Lexeme) (numbered : IsNumbered all) (tokens : TokenLaws all
     lists : some_lists_identifiers x.tree.declr ≡ some_lists_identifiers d.declr
     left : IsTail all x.rest
 
-  array_sound : (d : Declared) (r : ℕ) (wanted : Option Kind) (s0 s : HeldScopes) (ts0 ts : List Lexeme) (x : Found Declared) → IsTail all ts → is_open_bracket (kind_at ts) ≡ true → suc (some_declr_height d.declr) ≤ r →
+  array_sound : (d : Declared) (r : ℕ) (wanted : Option Kind) (s0 s : HeldScopes) (ts0 ts : List Lexeme) (x : Found Declared)
+      → IsTail all ts → is_open_bracket (kind_at ts) ≡ true → suc (some_declr_height d.declr) ≤ r →
       ts0 ≡ some_declr_text all d.declr ts → IsDirectSome all d.declr → some_declr_scopes wanted d.declr s0 ≡ Some s → array_with inner d r s ts ≡ done x → TookArray d r wanted s0 ts0 x
   unfolding array_with
   array_sound d r wanted s0 s ts0 ts x tail is least spelled fits named e =
@@ -344,7 +369,8 @@ module _ (all : List Lexeme) (numbered : IsNumbered all) (tokens : TokenLaws all
     low : params_height ps ≤ r - 1
     left : IsTail all x.rest
 
-  prototype_sound : (d : Declared) (opening : ℕ) (lead : List Attr) (r : ℕ) (wanted : Option Kind) (s0 s : HeldScopes) (ts : List Lexeme) (x : Found Declared) → IsTail all ts → AreAttrs all lead → IsDirectSome all d.declr →
+  prototype_sound : (d : Declared) (opening : ℕ) (lead : List Attr) (r : ℕ) (wanted : Option Kind) (s0 s : HeldScopes) (ts : List Lexeme) (x : Found Declared)
+      → IsTail all ts → AreAttrs all lead → IsDirectSome all d.declr →
       some_declr_scopes wanted d.declr s0 ≡ Some s → d.closed ≡ closed_of wanted d.declr s0 → prototype_with inner d opening lead r s ts ≡ done x → TookParens d lead opening r wanted s0 ts x
   unfolding prototype_with
   prototype_sound d opening lead r wanted s0 s ts x tail leads fits named closed e =
@@ -374,25 +400,31 @@ module _ (all : List Lexeme) (numbered : IsNumbered all) (tokens : TokenLaws all
 
   -- the room of brackets and parameters
 
-  pub array_room : (flag : Bool) (room : ℕ) (d : Declared) (kind : TokenKind) → is_open_paren kind ≡ false → room_at flag room d kind ≡ declr_room flag d.closed room
+  pub array_room : (flag : Bool) (room : ℕ) (d : Declared) (kind : TokenKind) → is_open_paren kind ≡ false
+      → room_at flag room d kind ≡ declr_room flag d.closed room
   array_room true room d kind is_no = by_closed d.closed refl
     where
-      by_closed : (o : Option HeldScope) → d.closed ≡ o → (if is_some o || (is_open_paren kind && is_bare d.declr) then suc room else room) ≡ declr_room true o room
+      by_closed : (o : Option HeldScope) → d.closed ≡ o
+          → (if is_some o || (is_open_paren kind && is_bare d.declr) then suc room else room) ≡ declr_room true o room
       by_closed (Some scope) is = refl
       by_closed None is = rw is_no refl
   array_room false room d kind is_no = refl
 
-  pub params_room : (flag : Bool) (room : ℕ) (d : Declared) (kind : TokenKind) (scope : HeldScope) → is_open_paren kind ≡ true → room_at flag room d kind ≡ declr_room flag (closed_by d.declr scope d.closed) room
+  pub params_room : (flag : Bool) (room : ℕ) (d : Declared) (kind : TokenKind) (scope : HeldScope)
+      → is_open_paren kind ≡ true → room_at flag room d kind ≡ declr_room flag (closed_by d.declr scope d.closed) room
   params_room true room d kind scope is_yes = by_bare (is_bare d.declr) refl
     where
-      by_closed : (o : Option HeldScope) → (if is_some o || (is_open_paren kind && false) then suc room else room) ≡ declr_room true o room
+      by_closed : (o : Option HeldScope)
+          → (if is_some o || (is_open_paren kind && false) then suc room else room) ≡ declr_room true o room
       by_closed (Some scope) = refl
       by_closed None = rw is_yes refl
 
-      by_bare : (b : Bool) → is_bare d.declr ≡ b → (if is_some d.closed || (is_open_paren kind && b) then suc room else room) ≡ declr_room true (if b then Some scope else d.closed) room
+      by_bare : (b : Bool) → is_bare d.declr ≡ b
+          → (if is_some d.closed || (is_open_paren kind && b) then suc room else room) ≡ declr_room true (if b then Some scope else d.closed) room
       by_bare true is = always_true d.closed
         where
-          always_true : (o : Option HeldScope) → (if is_some o || (is_open_paren kind && true) then suc room else room) ≡ suc room
+          always_true : (o : Option HeldScope)
+              → (if is_some o || (is_open_paren kind && true) then suc room else room) ≡ suc room
           always_true (Some scope) = refl
           always_true None = rw is_yes refl
       by_bare false is = by_closed d.closed
@@ -411,7 +443,8 @@ module _ (all : List Lexeme) (numbered : IsNumbered all) (tokens : TokenLaws all
     pub state : State wanted flag room s ts x
     pub keeps : Keeps s core x.tree.declr
 
-  one_bracket : (wanted : Option Kind) (flag : Bool) (room : ℕ) (s0 : HeldScopes) (ts0 : List Lexeme) (core : SomeDeclr) (d : Declared) (s : HeldScopes) (ts : List Lexeme) (x : Found Declared) → Going wanted flag room s0 ts0 core (found d s ts) →
+  one_bracket : (wanted : Option Kind) (flag : Bool) (room : ℕ) (s0 : HeldScopes) (ts0 : List Lexeme) (core : SomeDeclr) (d : Declared) (s : HeldScopes) (ts : List Lexeme) (x : Found Declared)
+      → Going wanted flag room s0 ts0 core (found d s ts) →
       is_open_bracket (kind_at ts) ≡ true → fits (suc (some_declr_height d.declr)) (room_at flag room d (kind_at ts)) ts (array_with inner d (room_at flag room d (kind_at ts)) s ts) ≡ done x → Going wanted flag room s0 ts0 core x
   one_bracket wanted flag room s0 ts0 core d s ts x h is e =
       let r = fits_ok (suc (some_declr_height d.declr)) (room_at flag room d (kind_at ts)) ts e in
@@ -472,7 +505,8 @@ module _ (all : List Lexeme) (numbered : IsNumbered all) (tokens : TokenLaws all
       record { spelled = t.spelled; fits = tt; named = free (spelled_name (kind_at ts)) refl is t; low = omega arith; left = t.left })
       (λ is e. absurd cc)
     where
-      free : (o : Option ℕ) → spelled_name (kind_at ts) ≡ o → is_identifier s o ≡ true → TookName all s ts x → identifier_scopes x.tree s ≡ Some x.scopes
+      free : (o : Option ℕ) → spelled_name (kind_at ts) ≡ o → is_identifier s o ≡ true → TookName all s ts x
+          → identifier_scopes x.tree s ≡ Some x.scopes
       free None spelled is t = absurd cc
       free (Some name) spelled is t =
           let same : Some name ≡ Some x.tree.name = sym spelled ∙ ap (λ (ts : List Lexeme). spelled_name (kind_at ts)) t.spelled in
@@ -509,7 +543,8 @@ module _ (all : List Lexeme) (numbered : IsNumbered all) (tokens : TokenLaws all
         };
       })
 
-  one_list : (wanted : Option Kind) (flag : Bool) (room : ℕ) (s0 : HeldScopes) (ts0 : List Lexeme) (core : SomeDeclr) (d : Declared) (s : HeldScopes) (ts : List Lexeme) (x : Found Declared) → Going wanted flag room s0 ts0 core (found d s ts) →
+  one_list : (wanted : Option Kind) (flag : Bool) (room : ℕ) (s0 : HeldScopes) (ts0 : List Lexeme) (core : SomeDeclr) (d : Declared) (s : HeldScopes) (ts : List Lexeme) (x : Found Declared)
+      → Going wanted flag room s0 ts0 core (found d s ts) →
       is_open_paren (kind_at ts) ≡ true → fits (suc (some_declr_height d.declr)) (room_at flag room d (kind_at ts)) ts (params_behind inner flag d (room_at flag room d (kind_at ts)) s ts) ≡ done x → Going wanted flag room s0 ts0 core x
   one_list wanted flag room s0 ts0 core d s ts x h is e =
       let r = fits_ok (suc (some_declr_height d.declr)) (room_at flag room d (kind_at ts)) ts e in
@@ -517,39 +552,47 @@ module _ (all : List Lexeme) (numbered : IsNumbered all) (tokens : TokenLaws all
       let o = took all (kinds.Punct puncts.OpenParen) s ts a.0 h.state.left (open_paren_kind (kind_at ts) is) a.1 in
       by_list flag (is_bare d.declr) (begins_identifiers a.0.scopes (kind_at a.0.rest)) refl h a.0 refl r.0 o a.2
     where
-      by_declr : (inside : SomeDeclr) → d.declr ≡ inside → is_bare inside ≡ true → Going wanted true room s0 ts0 core (found d s ts) → (a : Found ℕ) → is_wide a.scopes ≡ true → suc (some_declr_height d.declr) ≤ room_at true room d (kind_at ts) →
+      by_declr : (inside : SomeDeclr) → d.declr ≡ inside → is_bare inside ≡ true
+          → Going wanted true room s0 ts0 core (found d s ts) → (a : Found ℕ) → is_wide a.scopes ≡ true
+          → suc (some_declr_height d.declr) ≤ room_at true room d (kind_at ts) →
           Took all (kinds.Punct puncts.OpenParen) s ts a →
           identifiers_of inside (λ inside. identifiers_with inner inside a.tree a.scopes a.rest) (prototype_with inner d a.tree [] (room_at true room d (kind_at ts)) a.scopes a.rest) ≡ done x →
           Going wanted true room s0 ts0 core x
       by_declr no_declr same bare h a wide least o e = absurd cc
       by_declr (some_declr inside) same bare h a wide least o e = one_identifiers wanted room s0 ts0 core d inside s ts x a h same bare wide least o e
 
-      by_list : (flag b c : Bool) → is_bare d.declr ≡ b → Going wanted flag room s0 ts0 core (found d s ts) → (a : Found ℕ) → begins_identifiers a.scopes (kind_at a.rest) ≡ c → suc (some_declr_height d.declr) ≤ room_at flag room d (kind_at ts) →
+      by_list : (flag b c : Bool) → is_bare d.declr ≡ b → Going wanted flag room s0 ts0 core (found d s ts)
+          → (a : Found ℕ) → begins_identifiers a.scopes (kind_at a.rest) ≡ c
+          → suc (some_declr_height d.declr) ≤ room_at flag room d (kind_at ts) →
           Took all (kinds.Punct puncts.OpenParen) s ts a → list_behind inner (flag && b && c) d a.tree (room_at flag room d (kind_at ts)) a.scopes a.rest ≡ done x → Going wanted flag room s0 ts0 core x
       by_list true true true bare h a begins least o e = by_declr d.declr refl bare h a (both_left (is_wide a.scopes) (is_identifier a.scopes (spelled_name (kind_at a.rest))) begins) least o e
       by_list true true false bare h a begins least o e = one_prototype wanted true room s0 ts0 core d s ts x a h is least o e
       by_list true false c bare h a begins least o e = one_prototype wanted true room s0 ts0 core d s ts x a h is least o e
       by_list false b c bare h a begins least o e = one_prototype wanted false room s0 ts0 core d s ts x a h is least o e
 
-  suffix_sound : (wanted : Option Kind) (flag : Bool) (room : ℕ) (s0 : HeldScopes) (ts0 : List Lexeme) (core : SomeDeclr) (d : Declared) (s : HeldScopes) (ts : List Lexeme) (x : Found Declared) → Going wanted flag room s0 ts0 core (found d s ts) →
+  suffix_sound : (wanted : Option Kind) (flag : Bool) (room : ℕ) (s0 : HeldScopes) (ts0 : List Lexeme) (core : SomeDeclr) (d : Declared) (s : HeldScopes) (ts : List Lexeme) (x : Found Declared)
+      → Going wanted flag room s0 ts0 core (found d s ts) →
       suffix_turn inner flag room d s ts ≡ Some (done x) → Going wanted flag room s0 ts0 core x
   suffix_sound wanted flag room s0 ts0 core d s ts x h e = by_bracket (is_open_bracket (kind_at ts)) refl e
     where
       some_done : {A : Type 0} {a b : A} → Some a ≡ Some b → a ≡ b
       some_done e = cc
 
-      by_paren : (b : Bool) → is_open_paren (kind_at ts) ≡ b → (if b then Some (fits (suc (some_declr_height d.declr)) (room_at flag room d (kind_at ts)) ts (params_behind inner flag d (room_at flag room d (kind_at ts)) s ts)) else None) ≡ Some (done x) →
+      by_paren : (b : Bool) → is_open_paren (kind_at ts) ≡ b
+          → (if b then Some (fits (suc (some_declr_height d.declr)) (room_at flag room d (kind_at ts)) ts (params_behind inner flag d (room_at flag room d (kind_at ts)) s ts)) else None) ≡ Some (done x) →
           Going wanted flag room s0 ts0 core x
       by_paren true is e = one_list wanted flag room s0 ts0 core d s ts x h is (some_done e)
       by_paren false is e = absurd cc
 
-      by_bracket : (b : Bool) → is_open_bracket (kind_at ts) ≡ b → (if b then Some (fits (suc (some_declr_height d.declr)) (room_at flag room d (kind_at ts)) ts (array_with inner d (room_at flag room d (kind_at ts)) s ts))
+      by_bracket : (b : Bool) → is_open_bracket (kind_at ts) ≡ b
+          → (if b then Some (fits (suc (some_declr_height d.declr)) (room_at flag room d (kind_at ts)) ts (array_with inner d (room_at flag room d (kind_at ts)) s ts))
           else if is_open_paren (kind_at ts) then Some (fits (suc (some_declr_height d.declr)) (room_at flag room d (kind_at ts)) ts (params_behind inner flag d (room_at flag room d (kind_at ts)) s ts)) else None) ≡ Some (done x) →
           Going wanted flag room s0 ts0 core x
       by_bracket true is e = one_bracket wanted flag room s0 ts0 core d s ts x h is (some_done e)
       by_bracket false is e = by_paren (is_open_paren (kind_at ts)) refl e
 
-  suffixes_sound : (wanted : Option Kind) (flag : Bool) (room : ℕ) (s0 : HeldScopes) (ts0 : List Lexeme) (core : Found Declared) (x : Found Declared) → State wanted flag room s0 ts0 core →
+  suffixes_sound : (wanted : Option Kind) (flag : Bool) (room : ℕ) (s0 : HeldScopes) (ts0 : List Lexeme) (core : Found Declared) (x : Found Declared)
+      → State wanted flag room s0 ts0 core →
       run (suffix_turn inner flag room) core.tree core.scopes core.rest ≡ done x → Going wanted flag room s0 ts0 core.tree.declr x
   suffixes_sound wanted flag room s0 ts0 core x h e =
       run-keep (suffix_turn inner flag room) (λ d s k. Going wanted flag room s0 ts0 core.tree.declr (found d s k))
@@ -563,7 +606,8 @@ module _ (all : List Lexeme) (numbered : IsNumbered all) (tokens : TokenLaws all
   takes_none Either = Unit {0}
 
   -- a declarator without a name stands where none need come
-  fits_alone : (mode : Mode) (made : Declr) (s : HeldScopes) → takes_none mode → IsDeclr all made → is_named made ≡ false → shows_no_type s made ≡ true → FitsMode all mode (some_declr made) s
+  fits_alone : (mode : Mode) (made : Declr) (s : HeldScopes) → takes_none mode → IsDeclr all made
+      → is_named made ≡ false → shows_no_type s made ≡ true → FitsMode all mode (some_declr made) s
   fits_alone Named made s none fits name shows = absurd none
   fits_alone Abstract made s none fits name shows = (fits, name)
   fits_alone Either made s none fits name shows = (fits, shows)
@@ -583,7 +627,8 @@ module _ (all : List Lexeme) (numbered : IsNumbered all) (tokens : TokenLaws all
   fits_some Either d s h = h.0
 
   -- a declarator made of another fits the mode that this fits
-  fits_made : (mode : Mode) (d made : SomeDeclr) (s : HeldScopes) → FitsMode all mode d s → IsSomeDeclr all made → (some_named made ≡ some_named d) → (some_shows_no_type s d ≡ true → some_shows_no_type s made ≡ true) →
+  fits_made : (mode : Mode) (d made : SomeDeclr) (s : HeldScopes) → FitsMode all mode d s → IsSomeDeclr all made
+      → (some_named made ≡ some_named d) → (some_shows_no_type s d ≡ true → some_shows_no_type s made ≡ true) →
       FitsMode all mode made s
   fits_made Named no_declr made s h fits name shows = absurd h
   fits_made Named (some_declr d) no_declr s h fits name shows = let wrong : false ≡ true = name ∙ h.1 in absurd cc
@@ -605,8 +650,11 @@ module _ (all : List Lexeme) (numbered : IsNumbered all) (tokens : TokenLaws all
     plain : flag ≡ false → some_lists_identifiers x.tree.declr ≡ false
     left : IsTail all x.rest
 
-  paren_sound : (mode : Mode) (wanted : Option Kind) (flag : Bool) (opening : ℕ) (attrs : List Attr) (room : ℕ) (s : HeldScopes) (ts : List Lexeme) (x : Found Declared) → IsTail all ts → AreAttrs all attrs → max 1 (least_with attrs) ≤ room →
-      (mode ≡ Named) ⊎ (begins_specs s (kind_at ts) ≡ false) → paren_with inner mode wanted flag opening attrs room s ts ≡ done x → TookParen mode wanted flag room opening attrs s ts x
+  paren_sound : (mode : Mode) (wanted : Option Kind) (flag : Bool) (opening : ℕ) (attrs : List Attr) (room : ℕ) (s : HeldScopes) (ts : List Lexeme) (x : Found Declared)
+      → IsTail all ts → AreAttrs all attrs → max 1 (least_with attrs) ≤ room →
+      (mode ≡ Named) ⊎ (begins_specs s (kind_at ts) ≡ false)
+      → paren_with inner mode wanted flag opening attrs room s ts ≡ done x
+      → TookParen mode wanted flag room opening attrs s ts x
   unfolding paren_with
   paren_sound mode wanted flag opening attrs room s ts x tail a_fits least choice e =
       let a = bind_ok e in
@@ -616,7 +664,9 @@ module _ (all : List Lexeme) (numbered : IsNumbered all) (tokens : TokenLaws all
       let p = present_ok a.0.tree.declr a.0.scopes a.0.rest b.0 b.1 in
       by_declr a.0 b.0 c.0 d p.0 p.1 c.1 c.2
     where
-      by_declr : (a : Found Declared) (b : Found Declr) (c : Found ℕ) → TakesDeclr all mode wanted flag (room - 1) s ts a → a.tree.declr ≡ some_declr b.tree → found b.tree a.scopes a.rest ≡ b →
+      by_declr : (a : Found Declared) (b : Found Declr) (c : Found ℕ)
+          → TakesDeclr all mode wanted flag (room - 1) s ts a → a.tree.declr ≡ some_declr b.tree
+          → found b.tree a.scopes a.rest ≡ b →
           token_at is_close_paren b.scopes b.rest ≡ done c → done (found (record { declr = some_declr (with_paren opening attrs b.tree c.tree); closed = a.tree.closed }) c.scopes c.rest) ≡ done x →
           TookParen mode wanted flag room opening attrs s ts x
       by_declr a b c d is same closes end =
@@ -639,7 +689,9 @@ module _ (all : List Lexeme) (numbered : IsNumbered all) (tokens : TokenLaws all
             left = g.left;
           })
         where
-          fits_by : (mode ≡ Named) ⊎ (begins_specs s (kind_at ts) ≡ false) → (e : Declr) → FitsMode all mode (some_declr e) s → IsDeclr all (with_paren opening attrs e c.tree) → is_named (with_paren opening attrs e c.tree) ≡ is_named e →
+          fits_by : (mode ≡ Named) ⊎ (begins_specs s (kind_at ts) ≡ false) → (e : Declr)
+              → FitsMode all mode (some_declr e) s → IsDeclr all (with_paren opening attrs e c.tree)
+              → is_named (with_paren opening attrs e c.tree) ≡ is_named e →
               kind_at ts ≡ kind_at (declr_text all e b.rest) → FitsMode all mode (some_declr (with_paren opening attrs e c.tree)) s
           fits_by (inl is) e fits whole name kind =
               let f : FitsMode all Named (some_declr e) s = subst (λ (m : Mode). FitsMode all m (some_declr e) s) is fits in
@@ -650,17 +702,20 @@ module _ (all : List Lexeme) (numbered : IsNumbered all) (tokens : TokenLaws all
 
   -- a parenthesis, attributes, and what stands behind them
 
-  attrs_least : (attrs : List Attr) (least room : ℕ) → least ≤ room → 1 ≤ least → least_with attrs ≤ room → max 1 (least_with attrs) ≤ room
+  attrs_least : (attrs : List Attr) (least room : ℕ) → least ≤ room → 1 ≤ least → least_with attrs ≤ room
+      → max 1 (least_with attrs) ≤ room
   attrs_least attrs least room h one low = omega (arith, h, one, low)
 
-  from_paren : (mode : Mode) (wanted : Option Kind) (flag : Bool) (room opening : ℕ) (attrs : List Attr) (s : HeldScopes) (ts0 ts : List Lexeme) (x : Found Declared) → ts0 ≡ sign_text puncts.OpenParen opening (attrs_text all attrs ts) →
+  from_paren : (mode : Mode) (wanted : Option Kind) (flag : Bool) (room opening : ℕ) (attrs : List Attr) (s : HeldScopes) (ts0 ts : List Lexeme) (x : Found Declared)
+      → ts0 ≡ sign_text puncts.OpenParen opening (attrs_text all attrs ts) →
       TookParen mode wanted flag room opening attrs s ts x → Core mode wanted flag room s ts0 x
   from_paren mode wanted flag room opening attrs s ts0 ts x is t = record {
     state = record { spelled = is ∙ t.spelled; fits = t.direct; named = t.named; closed = t.closed; low = t.low; plain = t.plain; left = t.left };
     fits = t.fits;
   }
 
-  named_paren_sound : (wanted : Option Kind) (flag : Bool) (room : ℕ) (s : HeldScopes) (ts : List Lexeme) (x : Found Declared) → IsTail all ts → is_open_paren (kind_at ts) ≡ true → named_paren inner wanted flag room s ts ≡ done x →
+  named_paren_sound : (wanted : Option Kind) (flag : Bool) (room : ℕ) (s : HeldScopes) (ts : List Lexeme) (x : Found Declared)
+      → IsTail all ts → is_open_paren (kind_at ts) ≡ true → named_paren inner wanted flag room s ts ≡ done x →
       Core Named wanted flag room s ts x
   unfolding named_paren
   named_paren_sound wanted flag room s ts x tail is e =
@@ -676,7 +731,8 @@ module _ (all : List Lexeme) (numbered : IsNumbered all) (tokens : TokenLaws all
       subst (λ (u : HeldScopes). Core Named wanted flag room u ts x) same core
 
   -- parameters without a declarator before them
-  alone_sound : (mode : Mode) (wanted : Option Kind) (flag : Bool) (room opening : ℕ) (attrs : List Attr) (s : HeldScopes) (ts : List Lexeme) (x : Found Declared) → takes_none mode → IsTail all ts → AreAttrs all attrs → 1 ≤ room →
+  alone_sound : (mode : Mode) (wanted : Option Kind) (flag : Bool) (room opening : ℕ) (attrs : List Attr) (s : HeldScopes) (ts : List Lexeme) (x : Found Declared)
+      → takes_none mode → IsTail all ts → AreAttrs all attrs → 1 ≤ room →
       prototype_with inner (record { declr = no_declr; closed = None }) opening attrs room s ts ≡ done x → TookParen mode wanted flag room opening attrs s ts x
   alone_sound mode wanted flag room opening attrs s ts x none tail fits least e =
       let p = prototype_sound (record { declr = no_declr; closed = None }) opening attrs room wanted s s ts x tail fits tt refl refl e in
@@ -699,7 +755,8 @@ module _ (all : List Lexeme) (numbered : IsNumbered all) (tokens : TokenLaws all
       no_closed true = refl
       no_closed false = refl
 
-  opened_by_sound : (mode : Mode) (wanted : Option Kind) (flag : Bool) (room opening : ℕ) (attrs : List Attr) (s : HeldScopes) (ts : List Lexeme) (x : Found Declared) → takes_none mode → IsTail all ts → AreAttrs all attrs → max 1 (least_with attrs) ≤ room →
+  opened_by_sound : (mode : Mode) (wanted : Option Kind) (flag : Bool) (room opening : ℕ) (attrs : List Attr) (s : HeldScopes) (ts : List Lexeme) (x : Found Declared)
+      → takes_none mode → IsTail all ts → AreAttrs all attrs → max 1 (least_with attrs) ≤ room →
       opened_by inner mode wanted flag opening attrs room s ts ≡ done x → TookParen mode wanted flag room opening attrs s ts x
   unfolding opened_by
   opened_by_sound mode wanted flag room opening attrs s ts x none tail fits least e =
@@ -713,7 +770,9 @@ module _ (all : List Lexeme) (numbered : IsNumbered all) (tokens : TokenLaws all
       no_specs true b e = absurd cc
       no_specs false b e = e
 
-  opened_sound : (mode : Mode) (wanted : Option Kind) (flag : Bool) (room : ℕ) (s : HeldScopes) (ts : List Lexeme) (x : Found Declared) → takes_none mode → IsTail all ts → is_open_paren (kind_at ts) ≡ true → opened_with inner mode wanted flag room s ts ≡ done x →
+  opened_sound : (mode : Mode) (wanted : Option Kind) (flag : Bool) (room : ℕ) (s : HeldScopes) (ts : List Lexeme) (x : Found Declared)
+      → takes_none mode → IsTail all ts → is_open_paren (kind_at ts) ≡ true
+      → opened_with inner mode wanted flag room s ts ≡ done x →
       Core mode wanted flag room s ts x
   unfolding opened_with
   opened_sound mode wanted flag room s ts x none tail is e =
@@ -730,14 +789,16 @@ module _ (all : List Lexeme) (numbered : IsNumbered all) (tokens : TokenLaws all
 
   -- a name, or nothing
 
-  absent_sound : (mode : Mode) (wanted : Option Kind) (flag : Bool) (room : ℕ) (s : HeldScopes) (ts : List Lexeme) (x : Found Declared) → IsTail all ts → absent mode s ts ≡ done x → Core mode wanted flag room s ts x
+  absent_sound : (mode : Mode) (wanted : Option Kind) (flag : Bool) (room : ℕ) (s : HeldScopes) (ts : List Lexeme) (x : Found Declared)
+      → IsTail all ts → absent mode s ts ≡ done x → Core mode wanted flag room s ts x
   absent_sound Named wanted flag room s ts x tail e = absurd cc
   absent_sound Abstract wanted flag room s ts x tail e =
       at_end (Core Abstract wanted flag room s ts) e (record { state = record { spelled = refl; fits = tt; named = refl; closed = refl; low = omega arith; plain = λ no. refl; left = tail }; fits = tt })
   absent_sound Either wanted flag room s ts x tail e =
       at_end (Core Either wanted flag room s ts) e (record { state = record { spelled = refl; fits = tt; named = refl; closed = refl; low = omega arith; plain = λ no. refl; left = tail }; fits = (tt, refl) })
 
-  name_fits : (mode : Mode) (token name : ℕ) (s : HeldScopes) → takes_name mode ≡ true → FitsMode all mode (some_declr (declr_name token name)) s
+  name_fits : (mode : Mode) (token name : ℕ) (s : HeldScopes) → takes_name mode ≡ true
+      → FitsMode all mode (some_declr (declr_name token name)) s
   name_fits Named token name s e = (tt, refl)
   name_fits Abstract token name s e = absurd cc
   name_fits Either token name s e = (tt, refl)
@@ -746,7 +807,8 @@ module _ (all : List Lexeme) (numbered : IsNumbered all) (tokens : TokenLaws all
   low_name true room h = h
   low_name false room h = h
 
-  held_sound : (mode : Mode) (wanted : Option Kind) (flag : Bool) (name room : ℕ) (s : HeldScopes) (ts : List Lexeme) (o : Option HeldScopes) (x : Found Declared) → IsTail all ts → takes_name mode ≡ true → kind_at ts ≡ kinds.Name name →
+  held_sound : (mode : Mode) (wanted : Option Kind) (flag : Bool) (name room : ℕ) (s : HeldScopes) (ts : List Lexeme) (o : Option HeldScopes) (x : Found Declared)
+      → IsTail all ts → takes_name mode ≡ true → kind_at ts ≡ kinds.Name name →
       at_name wanted name s ≡ o → name_held name room o s ts ≡ done x → Core mode wanted flag room s ts x
   held_sound mode wanted flag name room s ts None x tail takes kind is e = absurd cc
   held_sound mode wanted flag name room s ts (Some held) x tail takes kind is e =
@@ -758,7 +820,8 @@ module _ (all : List Lexeme) (numbered : IsNumbered all) (tokens : TokenLaws all
         fits = name_fits mode a.0.tree name s takes;
       })
 
-  name_sound : (mode : Mode) (wanted : Option Kind) (flag : Bool) (room : ℕ) (s : HeldScopes) (ts : List Lexeme) (o : Option ℕ) (x : Found Declared) → IsTail all ts → spelled_name (kind_at ts) ≡ o → name_or_none inner mode wanted o room s ts ≡ done x →
+  name_sound : (mode : Mode) (wanted : Option Kind) (flag : Bool) (room : ℕ) (s : HeldScopes) (ts : List Lexeme) (o : Option ℕ) (x : Found Declared)
+      → IsTail all ts → spelled_name (kind_at ts) ≡ o → name_or_none inner mode wanted o room s ts ≡ done x →
       Core mode wanted flag room s ts x
   name_sound mode wanted flag room s ts None x tail is e = absent_sound mode wanted flag room s ts x tail e
   name_sound mode wanted flag room s ts (Some name) x tail is e =
@@ -766,7 +829,8 @@ module _ (all : List Lexeme) (numbered : IsNumbered all) (tokens : TokenLaws all
       (λ takes e. held_sound mode wanted flag name room s ts (at_name wanted name s) x tail takes (name_kind all (kind_at ts) name is) refl e)
       (λ takes e. absent_sound mode wanted flag room s ts x tail e)
 
-  some_paren_sound : (mode : Mode) (wanted : Option Kind) (flag : Bool) (room : ℕ) (s : HeldScopes) (ts : List Lexeme) (x : Found Declared) → IsTail all ts → is_open_paren (kind_at ts) ≡ true → some_paren inner mode wanted flag room s ts ≡ done x →
+  some_paren_sound : (mode : Mode) (wanted : Option Kind) (flag : Bool) (room : ℕ) (s : HeldScopes) (ts : List Lexeme) (x : Found Declared)
+      → IsTail all ts → is_open_paren (kind_at ts) ≡ true → some_paren inner mode wanted flag room s ts ≡ done x →
       Core mode wanted flag room s ts x
   some_paren_sound Named wanted flag room s ts x tail is e = named_paren_sound wanted flag room s ts x tail is e
   some_paren_sound Abstract wanted flag room s ts x tail is e = opened_sound Abstract wanted flag room s ts x tt tail is e
@@ -777,7 +841,8 @@ module _ (all : List Lexeme) (numbered : IsNumbered all) (tokens : TokenLaws all
   base_kind kind e = absurd cc
 
   -- a base word that names a typedef
-  base_sound : (mode : Mode) (wanted : Option Kind) (flag : Bool) (room : ℕ) (s : HeldScopes) (ts : List Lexeme) (x : Found Declared) → IsTail all ts → names_base s mode wanted (kind_at ts) ≡ true → base_named room s ts ≡ done x →
+  base_sound : (mode : Mode) (wanted : Option Kind) (flag : Bool) (room : ℕ) (s : HeldScopes) (ts : List Lexeme) (x : Found Declared)
+      → IsTail all ts → names_base s mode wanted (kind_at ts) ≡ true → base_named room s ts ≡ done x →
       Core mode wanted flag room s ts x
   base_sound Named (Some Typedef) flag room s ts x tail is e =
       let r = fits_ok 1 room ts e in
@@ -801,7 +866,8 @@ module _ (all : List Lexeme) (numbered : IsNumbered all) (tokens : TokenLaws all
   base_sound Abstract wanted flag room s ts x tail is e = absurd cc
   base_sound Either wanted flag room s ts x tail is e = absurd cc
 
-  core_sound : (mode : Mode) (wanted : Option Kind) (flag : Bool) (room : ℕ) (s : HeldScopes) (ts : List Lexeme) (x : Found Declared) → IsTail all ts → core_with inner mode wanted flag room s ts ≡ done x → Core mode wanted flag room s ts x
+  core_sound : (mode : Mode) (wanted : Option Kind) (flag : Bool) (room : ℕ) (s : HeldScopes) (ts : List Lexeme) (x : Found Declared)
+      → IsTail all ts → core_with inner mode wanted flag room s ts ≡ done x → Core mode wanted flag room s ts x
   unfolding core_with
   core_sound mode wanted flag room s ts x tail e =
       if_ok (is_open_paren (kind_at ts)) e
@@ -814,7 +880,9 @@ module _ (all : List Lexeme) (numbered : IsNumbered all) (tokens : TokenLaws all
   direct_some no_declr h = tt
   direct_some (some_declr d) h = h.0
 
-  direct_sound : (mode : Mode) (wanted : Option Kind) (flag : Bool) (room : ℕ) (s : HeldScopes) (ts : List Lexeme) (x : Found Declared) → IsTail all ts → direct_with inner mode wanted flag room s ts ≡ done x → TakesDeclr all mode wanted flag room s ts x
+  direct_sound : (mode : Mode) (wanted : Option Kind) (flag : Bool) (room : ℕ) (s : HeldScopes) (ts : List Lexeme) (x : Found Declared)
+      → IsTail all ts → direct_with inner mode wanted flag room s ts ≡ done x
+      → TakesDeclr all mode wanted flag room s ts x
   unfolding direct_with
   direct_sound mode wanted flag room s ts x tail e =
       let a = bind_ok e in
@@ -835,7 +903,8 @@ module _ (all : List Lexeme) (numbered : IsNumbered all) (tokens : TokenLaws all
   least_one Abstract room h = h
   least_one Either room h = h
 
-  pointer_sound : (mode : Mode) (wanted : Option Kind) (flag : Bool) (room : ℕ) (s : HeldScopes) (ts : List Lexeme) (x : Found Declared) → IsTail all ts → is_star (kind_at ts) ≡ true → pointer_with inner mode wanted flag room s ts ≡ done x →
+  pointer_sound : (mode : Mode) (wanted : Option Kind) (flag : Bool) (room : ℕ) (s : HeldScopes) (ts : List Lexeme) (x : Found Declared)
+      → IsTail all ts → is_star (kind_at ts) ≡ true → pointer_with inner mode wanted flag room s ts ≡ done x →
       TakesDeclr all mode wanted flag room s ts x
   unfolding pointer_with
   pointer_sound mode wanted flag room s ts x tail is e =
@@ -851,7 +920,9 @@ module _ (all : List Lexeme) (numbered : IsNumbered all) (tokens : TokenLaws all
       at_end (TakesDeclr all mode wanted flag room s ts) c.2 (subst (λ (u : HeldScopes). TakesDeclr all mode wanted flag room u ts (found (record { declr = some_declr (with_pointer a.0.tree b.0.tree c.0.tree.declr); closed = c.0.tree.closed }) c.0.scopes c.0.rest)) same
       (made a.0.tree b.0.tree c.0 b.0.scopes b.0.rest (least_one mode room r.0) (o.spelled ∙ ap (sign_text puncts.Star a.0.tree) w.spelled) w.fits w.low d))
     where
-      made : (token : ℕ) (words : List PointerWord) (d : Found Declared) (u : HeldScopes) (k : List Lexeme) → 1 ≤ room → ts ≡ sign_text puncts.Star token (pointer_words_text all words k) → All (IsPointerWord all) words → least_pointer_words words ≤ room →
+      made : (token : ℕ) (words : List PointerWord) (d : Found Declared) (u : HeldScopes) (k : List Lexeme) → 1 ≤ room
+          → ts ≡ sign_text puncts.Star token (pointer_words_text all words k) → All (IsPointerWord all) words
+          → least_pointer_words words ≤ room →
           TakesDeclr all mode wanted flag (room - 1) u k d → TakesDeclr all mode wanted flag room u ts (found (record { declr = some_declr (with_pointer token words d.tree.declr); closed = d.tree.closed }) d.scopes d.rest)
       made token words d u k least text fits low t =
           let inside : IsSomeDeclr all d.tree.declr = fits_some mode d.tree.declr u t.fits in
@@ -866,7 +937,9 @@ module _ (all : List Lexeme) (numbered : IsNumbered all) (tokens : TokenLaws all
             left = t.left;
           }
 
-  pub declr_sound : (mode : Mode) (wanted : Option Kind) (flag : Bool) (room : ℕ) (s : HeldScopes) (ts : List Lexeme) (x : Found Declared) → IsTail all ts → declr_with inner mode wanted flag room s ts ≡ done x → TakesDeclr all mode wanted flag room s ts x
+  pub declr_sound : (mode : Mode) (wanted : Option Kind) (flag : Bool) (room : ℕ) (s : HeldScopes) (ts : List Lexeme) (x : Found Declared)
+      → IsTail all ts → declr_with inner mode wanted flag room s ts ≡ done x
+      → TakesDeclr all mode wanted flag room s ts x
   unfolding declr_with
   declr_sound mode wanted flag room s ts x tail e =
       if_ok (is_star (kind_at ts)) e

@@ -47,7 +47,8 @@ low_attrs (a ∷ attrs) = omega arith
 
 -- A list with commas whose first item begins before what its reader is given.
 module _ (all : List Lexeme) (numbered : IsNumbered all) {T E : Type 0} (first : Reader T) (next : ℕ → Reader (Next T E)) (form : Form T) (ending : Ending E) (room : ℕ) where
-  listed_from : (us : List Lexeme) (s : HeldScopes) (ts : List Lexeme) (x : Found (CommaList T E)) → ((y : Found T) → first s ts ≡ done y → Takes all form room s us y) →
+  listed_from : (us : List Lexeme) (s : HeldScopes) (ts : List Lexeme) (x : Found (CommaList T E))
+      → ((y : Found T) → first s ts ≡ done y → Takes all form room s us y) →
       ((comma : ℕ) (s : HeldScopes) (ts : List Lexeme) (x : Found (Next T E)) → IsTail all ts → next comma s ts ≡ done x → NextTakes all form ending room comma s ts x.tree x.scopes x.rest) →
       listed first next s ts ≡ done x → Takes all (list_form form ending) room s us x
   unfolding listed
@@ -57,7 +58,8 @@ module _ (all : List Lexeme) (numbered : IsNumbered all) {T E : Type 0} (first :
       run-keep (comma_turn next) (λ l t k. Takes all (list_form form ending) room s us (found l t k)) step (record { items = a.0.tree ∷ []; ending = None }) a.0.scopes a.0.rest x
       (record { spelled = i.spelled; fits = (tt, (i.fits, tt), tt); named = behind_is (row_scopes form []) i.named refl; low = omega (arith, i.low); left = i.left }) a.2
     where
-      step : (l : CommaList T E) (t : HeldScopes) (k : List Lexeme) (x : Found (CommaList T E)) → Takes all (list_form form ending) room s us (found l t k) → comma_turn next l t k ≡ Some (done x) →
+      step : (l : CommaList T E) (t : HeldScopes) (k : List Lexeme) (x : Found (CommaList T E))
+          → Takes all (list_form form ending) room s us (found l t k) → comma_turn next l t k ≡ Some (done x) →
           Takes all (list_form form ending) room s us x
       step l t k x h e =
           let p = list_parts first next l t k x e in
@@ -67,7 +69,8 @@ module _ (all : List Lexeme) (numbered : IsNumbered all) {T E : Type 0} (first :
           spelled : l.ending ≡ None → us ≡ commas_text form ending l.items k
           spelled none = subst (λ (o : Option E). us ≡ commas_text form ending l.items (ending_text form ending o k)) none h.spelled
 
-          by_next : (u : Lexeme) (rest : List Lexeme) (y : Next T E) (v : HeldScopes) (k' : List Lexeme) → l.ending ≡ None → k ≡ u ∷ rest → is_comma u.kind ≡ true →
+          by_next : (u : Lexeme) (rest : List Lexeme) (y : Next T E) (v : HeldScopes) (k' : List Lexeme)
+              → l.ending ≡ None → k ≡ u ∷ rest → is_comma u.kind ≡ true →
               NextTakes all form ending room u.at t rest y v k' → Takes all (list_form form ending) room s us (found (with_next l.items y) v k')
           by_next u rest (one_more y) v k' none is comma i =
               let more : zero < length rest = omega (arith, i.1) in
@@ -118,24 +121,29 @@ attrs_plain : (attrs : List Attr) → has_auto (words_of_attrs attrs) ≡ false
 attrs_plain [] = refl
 attrs_plain (a ∷ attrs) = attrs_plain attrs
 
-pub append_plain : (ws more : SpecWords) → has_auto ws ≡ false → has_auto more ≡ false → has_auto (append_words ws more) ≡ false
+pub append_plain : (ws more : SpecWords) → has_auto ws ≡ false → has_auto more ≡ false
+    → has_auto (append_words ws more) ≡ false
 append_plain no_words more h g = g
 append_plain (more_words w ws) more h g = by_word (is_auto w) h (λ h. append_plain ws more h g)
   where
-    by_word : (b : Bool) → (b || has_auto ws) ≡ false → (has_auto ws ≡ false → has_auto (append_words ws more) ≡ false) → (b || has_auto (append_words ws more)) ≡ false
+    by_word : (b : Bool) → (b || has_auto ws) ≡ false → (has_auto ws ≡ false → has_auto (append_words ws more) ≡ false)
+        → (b || has_auto (append_words ws more)) ≡ false
     by_word true h rest = absurd cc
     by_word false h rest = rest h
 
 module _ (all : List Lexeme) where
-  pub append_text : (ws more : SpecWords) (k : List Lexeme) → spec_words_text all (append_words ws more) k ≡ spec_words_text all ws (spec_words_text all more k)
+  pub append_text : (ws more : SpecWords) (k : List Lexeme)
+      → spec_words_text all (append_words ws more) k ≡ spec_words_text all ws (spec_words_text all more k)
   append_text no_words more k = refl
   append_text (more_words w ws) more k = ap (spec_word_text all w) (append_text ws more k)
 
-  pub append_fits : (ws more : SpecWords) → AreSpecWords all ws → AreSpecWords all more → AreSpecWords all (append_words ws more)
+  pub append_fits : (ws more : SpecWords) → AreSpecWords all ws → AreSpecWords all more
+      → AreSpecWords all (append_words ws more)
   append_fits no_words more h g = g
   append_fits (more_words w ws) more h g = (h.0, append_fits ws more h.1 g)
 
-  pub append_scopes : (ws more : SpecWords) (s t : HeldScopes) (r : Option HeldScopes) → spec_words_scopes ws s ≡ Some t → spec_words_scopes more t ≡ r → spec_words_scopes (append_words ws more) s ≡ r
+  pub append_scopes : (ws more : SpecWords) (s t : HeldScopes) (r : Option HeldScopes) → spec_words_scopes ws s ≡ Some t
+      → spec_words_scopes more t ≡ r → spec_words_scopes (append_words ws more) s ≡ r
   append_scopes no_words more s t r h g = subst (λ (t : HeldScopes). spec_words_scopes more t ≡ r) (sym cc) g
   append_scopes (more_words w ws) more s t r h g =
       let b = behind_ok (spec_word_scopes w s) (spec_words_scopes ws) t h in
@@ -174,11 +182,13 @@ module _ (all : List Lexeme) where
   pub known_attrs : (attrs : List Attr) → AreAttrs all attrs → Known (words_of_attrs attrs)
   known_attrs attrs h = record { fits = attrs_fit attrs h; flat = attrs_flat attrs; words = attrs_words attrs; count = attrs_count attrs; plain = attrs_plain attrs }
 
-  pub quals_spelled : (qs : List Qual) (k : List Lexeme) → spec_words_text all (words_of_quals qs) k ≡ quals_text all qs k
+  pub quals_spelled : (qs : List Qual) (k : List Lexeme)
+      → spec_words_text all (words_of_quals qs) k ≡ quals_text all qs k
   quals_spelled [] k = refl
   quals_spelled (q ∷ qs) k = ap (qual_text all q) (quals_spelled qs k)
 
-  pub attrs_spelled : (attrs : List Attr) (k : List Lexeme) → spec_words_text all (words_of_attrs attrs) k ≡ attrs_text all attrs k
+  pub attrs_spelled : (attrs : List Attr) (k : List Lexeme)
+      → spec_words_text all (words_of_attrs attrs) k ≡ attrs_text all attrs k
   attrs_spelled [] k = refl
   attrs_spelled (a ∷ attrs) k = ap (attr_text all a) (attrs_spelled attrs k)
 
@@ -193,7 +203,8 @@ module _ (all : List Lexeme) where
       pub low : specs_height x.tree + 1 ≤ room
       pub left : IsTail all x.rest
 
-    words_behind : (w : SpecWord) (ws : SpecWords) (room : ℕ) (s : HeldScopes) (ts : List Lexeme) (x : Found SpecWords) → Known (more_words w ws) → TakesWords all Typed (more_words w ws) (room - 1) s ts x →
+    words_behind : (w : SpecWord) (ws : SpecWords) (room : ℕ) (s : HeldScopes) (ts : List Lexeme) (x : Found SpecWords)
+        → Known (more_words w ws) → TakesWords all Typed (more_words w ws) (room - 1) s ts x →
         TookWords (more_words w ws) room s ts x
     words_behind w ws room s ts x known t = record {
       spelled = ap (spec_words_text all (more_words w ws)) t.spelled ∙ sym (append_text (more_words w ws) t.rest x.rest) ∙ ap (λ (us : SpecWords). spec_words_text all us x.rest) (sym t.words_are);
@@ -215,7 +226,8 @@ module _ (all : List Lexeme) where
             absurd (no_mix_without (more_words w ws) known.words known.count (subst IsMix same t.mix))
         by_low (inr low) = let high : 1 ≤ specs_height x.tree = specs_high x.tree in omega (arith, low, high)
 
-    words_sound : (known : SpecWords) (room : ℕ) (s : HeldScopes) (ts : List Lexeme) (x : Found SpecWords) → IsTail all ts → Known known → param_words inner known room s ts ≡ done x → TookWords known room s ts x
+    words_sound : (known : SpecWords) (room : ℕ) (s : HeldScopes) (ts : List Lexeme) (x : Found SpecWords)
+        → IsTail all ts → Known known → param_words inner known room s ts ≡ done x → TookWords known room s ts x
     words_sound no_words room s ts x tail known e =
         let t = specs_here_sound all n inner laws Typed room s ts x tail e in
         record { spelled = t.spelled; mix = t.fits.0; fits = t.fits.1.0; plain = t.fits.1.1; named = t.named; low = t.low; left = t.left }
@@ -246,7 +258,8 @@ module _ (all : List Lexeme) where
         no_is true e = absurd cc
         no_is false e = refl
 
-    end_sound : (d : SomeDeclr) (room : ℕ) (s : HeldScopes) (ts : List Lexeme) (x : Found (List Attr)) → IsTail all ts → param_attrs inner d room s ts ≡ done x → TookEnd d s ts x
+    end_sound : (d : SomeDeclr) (room : ℕ) (s : HeldScopes) (ts : List Lexeme) (x : Found (List Attr)) → IsTail all ts
+        → param_attrs inner d room s ts ≡ done x → TookEnd d s ts x
     end_sound d room s ts x tail e =
         if_ok (takes_attrs d) e
         (λ is e. let a = tokens.attrs_sound room s ts x tail e in
@@ -257,7 +270,8 @@ module _ (all : List Lexeme) where
     shown true s e = refl
     shown false s e = absurd cc
 
-    pub param_sound : (known : SpecWords) (room : ℕ) (s : HeldScopes) (ts : List Lexeme) (x : Found ParamItem) → IsTail all ts → Known known → param_with inner known room s ts ≡ done x → TookParam known room s ts x
+    pub param_sound : (known : SpecWords) (room : ℕ) (s : HeldScopes) (ts : List Lexeme) (x : Found ParamItem)
+        → IsTail all ts → Known known → param_with inner known room s ts ≡ done x → TookParam known room s ts x
     unfolding param_with
     param_sound known room s ts x tail known_fits e =
         let a = bind_ok e in
@@ -276,7 +290,8 @@ module _ (all : List Lexeme) where
           left = f.left;
         })
 
-    takes_param : (room : ℕ) (s : HeldScopes) (ts : List Lexeme) (x : Found ParamItem) → TookParam no_words room s ts x → Takes all (param_form all) room s ts x
+    takes_param : (room : ℕ) (s : HeldScopes) (ts : List Lexeme) (x : Found ParamItem) → TookParam no_words room s ts x
+        → Takes all (param_form all) room s ts x
     takes_param room s ts x t = record { spelled = t.spelled; fits = t.fits; named = t.named; low = t.low; left = t.left }
 
     element_long : (ts k : List Lexeme) → IsElement ts → length (ts ++ k) ≡ suc (length k)
@@ -296,7 +311,8 @@ module _ (all : List Lexeme) where
         omega (arith, rest, qual_long q (quals_text all qs k) (All-head (IsWordQual all) q qs h).0)
 
     -- what stands behind a comma
-    next_sound : (room comma : ℕ) (s : HeldScopes) (ts : List Lexeme) (x : Found (Next ParamItem Dots)) → IsTail all ts → next_param inner room comma s ts ≡ done x →
+    next_sound : (room comma : ℕ) (s : HeldScopes) (ts : List Lexeme) (x : Found (Next ParamItem Dots)) → IsTail all ts
+        → next_param inner room comma s ts ≡ done x →
         NextTakes all (param_form all) (dots_ending all) room comma s ts x.tree x.scopes x.rest
     unfolding next_param
     next_sound room comma s ts x tail e =
@@ -315,7 +331,10 @@ module _ (all : List Lexeme) where
         at_end (λ (x : Found (Next ParamItem Dots)). NextTakes all (param_form all) (dots_ending all) room comma s ts x.tree x.scopes x.rest) b.2
         (record { spelled = spelled; fits = p.fits; named = ap (λ (t : HeldScopes). (param_form all).scopes b.0.tree t) (sym same) ∙ p.named; low = p.low; left = p.left }, less))
       where
-        shorter : (qs : List Qual) (y : Found ParamItem) → ts ≡ quals_text all qs (bind_ok e).0.rest → All (IsWordQual all) qs → param_with inner (words_of_quals qs) room (bind_ok e).0.scopes (bind_ok e).0.rest ≡ done y → length y.rest < length ts
+        shorter : (qs : List Qual) (y : Found ParamItem) → ts ≡ quals_text all qs (bind_ok e).0.rest
+            → All (IsWordQual all) qs
+            → param_with inner (words_of_quals qs) room (bind_ok e).0.scopes (bind_ok e).0.rest ≡ done y
+            → length y.rest < length ts
         shorter [] y spelled fits e' =
             let less : length y.rest < length (bind_ok e).0.rest = param_shrinks all tokens n inner laws room _ _ _ e' in
             omega (arith, less, ap length spelled)
@@ -334,7 +353,8 @@ module _ (all : List Lexeme) where
       pub low : params_height (params_from x.tree.items) ≤ room
       pub left : IsTail all x.rest
 
-    pub params_sound : (lead : List Attr) (room : ℕ) (s : HeldScopes) (ts : List Lexeme) (x : Found (CommaList ParamItem Dots)) → IsTail all ts → AreAttrs all lead → params_with inner lead room s ts ≡ done x → TookParams lead room s ts x
+    pub params_sound : (lead : List Attr) (room : ℕ) (s : HeldScopes) (ts : List Lexeme) (x : Found (CommaList ParamItem Dots))
+        → IsTail all ts → AreAttrs all lead → params_with inner lead room s ts ≡ done x → TookParams lead room s ts x
     unfolding params_with
     params_sound lead room s ts x tail fits e =
         if_ok (are_none lead && is_close_paren (kind_at ts)) e
@@ -352,7 +372,8 @@ module _ (all : List Lexeme) where
         none_text [] e = refl
         none_text (a ∷ lead) e = absurd cc
 
-        listed_params : Takes all (list_form (param_form all) (dots_ending all)) room s (attrs_text all lead ts) x → TookParams lead room s ts x
+        listed_params : Takes all (list_form (param_form all) (dots_ending all)) room s (attrs_text all lead ts) x
+            → TookParams lead room s ts x
         listed_params t = record {
           spelled = t.spelled ∙ params_are all x.tree.items (ending_text (param_form all) (dots_ending all) x.tree.ending x.rest) ∙ ap (params_text all (params_from x.tree.items)) (ending_is all x.tree.ending x.rest);
           fits = params_fit all x.tree.items t.fits.1;

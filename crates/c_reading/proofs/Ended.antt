@@ -12,18 +12,24 @@ use Rattle.c_reading.proofs.Groups.{run_stops}
 use Rattle.c_reading.proofs.Aims.{TokenLaws}
 
 module _ {T : Type 0} (begins : TokenKind → Bool) (read : Reader T) where
-  no_turn : (xs : List T) (s : HeldScopes) (ts : List Lexeme) → repeated_turn begins read xs s ts ≡ None → begins (kind_at ts) ≡ false
+  no_turn : (xs : List T) (s : HeldScopes) (ts : List Lexeme) → repeated_turn begins read xs s ts ≡ None
+      → begins (kind_at ts) ≡ false
   no_turn xs s ts is = by_test (begins (kind_at ts)) refl is
     where
-      by_test : (b : Bool) → begins (kind_at ts) ≡ b → (if b then Some (and_then (read s ts) (λ y. ends (xs ++ y.tree ∷ []) y.scopes y.rest)) else None) ≡ None → begins (kind_at ts) ≡ false
+      by_test : (b : Bool) → begins (kind_at ts) ≡ b
+          → (if b then Some (and_then (read s ts) (λ y. ends (xs ++ y.tree ∷ []) y.scopes y.rest)) else None) ≡ None
+          → begins (kind_at ts) ≡ false
       by_test true t is = absurd cc
       by_test false t is = t
 
-  pub repeated_stops : Shrinks read → (s : HeldScopes) (ts : List Lexeme) (x : Found (List T)) → repeated begins read s ts ≡ done x → begins (kind_at x.rest) ≡ false
+  pub repeated_stops : Shrinks read → (s : HeldScopes) (ts : List Lexeme) (x : Found (List T))
+      → repeated begins read s ts ≡ done x → begins (kind_at x.rest) ≡ false
   unfolding repeated
   repeated_stops shrinks s ts x e = no_turn x.tree x.scopes x.rest (run_stops (repeated_turn begins read) (row_turn_shrinks begins read shrinks) [] s ts x e)
 
-pub exts_stop : {all : List Lexeme} → TokenLaws all → (room : ℕ) (s : HeldScopes) (ts : List Lexeme) (x : Found (List ℕ)) → extensions_at room s ts ≡ done x → is_extension (kind_at x.rest) ≡ false
+pub exts_stop : {all : List Lexeme} → TokenLaws all
+    → (room : ℕ) (s : HeldScopes) (ts : List Lexeme) (x : Found (List ℕ)) → extensions_at room s ts ≡ done x
+    → is_extension (kind_at x.rest) ≡ false
 unfolding extensions_at
 exts_stop tokens room s ts x e = repeated_stops is_extension (λ s ts. fits 2 room ts (take_one s ts)) one s ts x e
   where

@@ -1,4 +1,5 @@
--- What the reader of units answers of the tokens of small sources: the height of the unit, or why which token is refused.
+-- What the reader of units answers of the tokens of small sources: the height of the unit, or why which token is
+-- refused.
 use Rattle.std.proofs.Common.{◌≡◌, ℕ, false, List, [], ◌∷◌, Ok, Err, inl, inr, refl}
 use Rattle.c_words.specs.declared.kinds.TokenKind.{TokenKind}
 use Rattle.c_words.specs.declared.kinds.TokenKind.TheVariants as kinds

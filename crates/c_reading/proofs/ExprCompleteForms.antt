@@ -45,7 +45,8 @@ level_sixteen (operation e op token e2) = let t : operator_level op ≤ 12 = ope
 level_sixteen e = omega arith
 
 -- the sign of a prefix, by the level of its operand
-pub prefix_opens : (p : Punct) → prefix_level p ≤ 16 → (reach : Reach) × (punct_opening p ≡ openings.Prefix p reach) × (prefix_level p ≡ reach_level reach)
+pub prefix_opens : (p : Punct) → prefix_level p ≤ 16
+    → (reach : Reach) × (punct_opening p ≡ openings.Prefix p reach) × (prefix_level p ≡ reach_level reach)
 prefix_opens puncts.PlusPlus h = (Unary, refl, refl)
 prefix_opens puncts.MinusMinus h = (Unary, refl, refl)
 prefix_opens puncts.Ampersand h = (Castable, refl, refl)
@@ -56,7 +57,8 @@ prefix_opens puncts.Tilde h = (Castable, refl, refl)
 prefix_opens puncts.Bang h = (Castable, refl, refl)
 prefix_opens p h = absurd (omega (arith, h))
 
-pub prefix_no_paren : (p : Punct) (reach : Reach) → punct_opening p ≡ openings.Prefix p reach → is_open_paren (kinds.Punct p) ≡ false
+pub prefix_no_paren : (p : Punct) (reach : Reach) → punct_opening p ≡ openings.Prefix p reach
+    → is_open_paren (kinds.Punct p) ≡ false
 prefix_no_paren puncts.OpenParen reach e = absurd cc
 prefix_no_paren p reach e = refl
 
@@ -125,7 +127,8 @@ pub less_all : (h room : ℕ) → h + 1 ≤ room → h ≤ room
 less_all h room a = omega (arith, a)
 
 module _ (all : List Lexeme) (numbered : IsNumbered all) (tokens : TokenLaws all) (firsts : FirstLaws all) (n : ℕ) (inner : Inner) (laws : Laws all n inner) where
-  arguments_read : (room : ℕ) → room - 1 < n → (es : Exprs) (s s' : HeldScopes) (k : List Lexeme) → AreArguments all es → exprs_scopes es s ≡ Some s' → exprs_height es ≤ room - 1 →
+  arguments_read : (room : ℕ) → room - 1 < n → (es : Exprs) (s s' : HeldScopes) (k : List Lexeme) → AreArguments all es
+      → exprs_scopes es s ≡ Some s' → exprs_height es ≤ room - 1 →
       is_close_paren (kind_at k) ≡ true → arguments_with inner room s (exprs_text all es k) ≡ done (found es s' k)
   unfolding arguments_with next_argument
   arguments_read room less no_exprs s s' k h named low ended = rw ended (ap (λ (o : Option HeldScopes). done (found no_exprs (from o) k)) named)
@@ -156,13 +159,15 @@ module _ (all : List Lexeme) (numbered : IsNumbered all) (tokens : TokenLaws all
       close_ends kind e = absurd cc
 
   -- a postfix form goes on, and ends
-  postfix_on : (room : ℕ) (e f : Expr) (s t : HeldScopes) (k k' : List Lexeme) → suc (expr_height e) ≤ room → postfix_by inner (form_of (kind_at k)) room e s k ≡ Some (done (found f t k')) →
+  postfix_on : (room : ℕ) (e f : Expr) (s t : HeldScopes) (k k' : List Lexeme) → suc (expr_height e) ≤ room
+      → postfix_by inner (form_of (kind_at k)) room e s k ≡ Some (done (found f t k')) →
       postfixed inner room e s k ≡ postfixed inner room f t k'
   unfolding postfixed
   postfix_on room e f s t k k' low is =
       run_on (postfix_turn inner room) (postfix_turn_shrinks all tokens n inner laws room) e s k (found f t k') (ap (lowered inner (expr_height e) room k) is ∙ ap Some (fits_is (suc (expr_height e)) room k (done (found f t k')) low))
 
-  pub postfix_ends : (room : ℕ) (e : Expr) (s : HeldScopes) (k : List Lexeme) → ends_unary (kind_at k) ≡ true → postfixed inner room e s k ≡ done (found e s k)
+  pub postfix_ends : (room : ℕ) (e : Expr) (s : HeldScopes) (k : List Lexeme) → ends_unary (kind_at k) ≡ true
+      → postfixed inner room e s k ≡ done (found e s k)
   unfolding postfixed
   postfix_ends room e s k ended =
       run_ends (postfix_turn inner room) (postfix_turn_shrinks all tokens n inner laws room) e s k (ap (λ (f : PostfixForm). lowered inner (expr_height e) room k (postfix_by inner f room e s k)) (ends_no_form (kind_at k) ended))
@@ -203,7 +208,9 @@ module _ (all : List Lexeme) (numbered : IsNumbered all) (tokens : TokenLaws all
   up_one : (a b : ℕ) → a ≤ b → a ≤ b + 1
   up_one a b h = omega (arith, h)
 
-  pub base_of : (room : ℕ) → room ≤ n → (e : Expr) (s s' : HeldScopes) (k : List Lexeme) → IsExpr all e → 15 ≤ expr_level e → expr_scopes e s ≡ Some s' → expr_height e ≤ room → is_text (kind_at k) ≡ false → BaseOf room e s s' k
+  pub base_of : (room : ℕ) → room ≤ n → (e : Expr) (s s' : HeldScopes) (k : List Lexeme) → IsExpr all e
+      → 15 ≤ expr_level e → expr_scopes e s ≡ Some s' → expr_height e ≤ room → is_text (kind_at k) ≡ false
+      → BaseOf room e s s' k
   unfolding index_with call_with dot_with arrow_with post_with
   base_of room less (operation e op token e2) s s' k h l named low no_text = absurd (let t : operator_level op ≤ 12 = operator_twelve op in omega (arith, t, l))
   base_of room less (cast opening ws d closing e) s s' k h l named low no_text = absurd (omega (arith, l))
@@ -301,7 +308,8 @@ module _ (all : List Lexeme) (numbered : IsNumbered all) (tokens : TokenLaws all
       no_sign_text : (p : Punct) → is_text (kinds.Punct p) ≡ false
       no_sign_text p = refl
 
-      by_sign : (p : Punct) → is_postfix p ≡ true → postfix_by inner (form_of (kinds.Punct p)) room e s' (sign_text p token k) ≡ Some (done (found (post e token p) s' k))
+      by_sign : (p : Punct) → is_postfix p ≡ true
+          → postfix_by inner (form_of (kinds.Punct p)) room e s' (sign_text p token k) ≡ Some (done (found (post e token p) s' k))
       by_sign puncts.PlusPlus is = ap Some (bind_is _ refl refl)
       by_sign puncts.MinusMinus is = ap Some (bind_is _ refl refl)
       by_sign p is = absurd cc

@@ -89,12 +89,14 @@ module _ (all : List Lexeme) where
   tight_right n m e h l less = tt
 
   -- the left side of an operator ends before it
-  tight_left : (op : Operator) (e : Expr) → IsOperator op → IsExpr all e → left_level op ≤ expr_level e → Tight (operator_level op) e
+  tight_left : (op : Operator) (e : Expr) → IsOperator op → IsExpr all e → left_level op ≤ expr_level e
+      → Tight (operator_level op) e
   tight_left op (operation e op2 token e2) i h l =
       let more = above_left op op2 i h.2 l in
       (more, tight_right (operator_level op) (right_level op2) e2 h.1 h.5 more)
     where
-      above_left : (op op2 : Operator) → IsOperator op → IsOperator op2 → left_level op ≤ operator_level op2 → operator_level op < right_level op2
+      above_left : (op op2 : Operator) → IsOperator op → IsOperator op2 → left_level op ≤ operator_level op2
+          → operator_level op < right_level op2
       above_left comma comma i j l = omega arith
       above_left comma (assign p) i j l = omega arith
       above_left comma (cond middle colon) i j l = omega arith
@@ -163,7 +165,8 @@ assign_infix puncts.Comma h = absurd cc
 assign_infix puncts.Question h = absurd cc
 assign_infix p h = by_test (is_assignment p) h
   where
-    by_test : (b : Bool) → b ≡ true → (if b then infixes.Assign p else binary_or_nothing p (binary_level p)) ≡ infixes.Assign p
+    by_test : (b : Bool) → b ≡ true
+        → (if b then infixes.Assign p else binary_or_nothing p (binary_level p)) ≡ infixes.Assign p
     by_test true e = refl
     by_test false e = absurd cc
 
@@ -178,7 +181,8 @@ then_done : {A B : Type 0} (x : A) (f : A → Result B Refusal) → and_then (do
 unfolding and_then
 then_done x f = refl
 
-then_all : (r : Read Expr) (f : Found Expr → Read Row) (g : Found Row → Read Expr) → and_then r (λ e. and_then (f e) g) ≡ and_then (and_then r f) g
+then_all : (r : Read Expr) (f : Found Expr → Read Row) (g : Found Row → Read Expr)
+    → and_then r (λ e. and_then (f e) g) ≡ and_then (and_then r f) g
 unfolding and_then
 then_all (Ok x) f g = refl
 then_all (Err d) f g = refl
@@ -198,13 +202,15 @@ takes_of_assign Castable h = absurd (omega (arith, h))
 takes_of_assign Unary h = absurd (omega (arith, h))
 
 module _ (all : List Lexeme) (numbered : IsNumbered all) (tokens : TokenLaws all) (firsts : FirstLaws all) (n : ℕ) (inner : Inner) (laws : Laws all n inner) where
-  operator_ends : (op : Operator) (token : ℕ) (k : List Lexeme) → IsOperator op → ends_unary (kind_at (operator_text all op token k)) ≡ true
+  operator_ends : (op : Operator) (token : ℕ) (k : List Lexeme) → IsOperator op
+      → ends_unary (kind_at (operator_text all op token k)) ≡ true
   operator_ends comma token k h = refl
   operator_ends (assign p) token k h = assign_ends p h
   operator_ends (cond middle colon) token k h = refl
   operator_ends (binary p) token k h = binary_ends p h
 
-  middle_read : (room : ℕ) → room < n → (e : SomeExpr) (s s' : HeldScopes) (colon : ℕ) (k : List Lexeme) → IsSomeExpr all e → some_expr_scopes e s ≡ Some s' → some_expr_height e ≤ room →
+  middle_read : (room : ℕ) → room < n → (e : SomeExpr) (s s' : HeldScopes) (colon : ℕ) (k : List Lexeme)
+      → IsSomeExpr all e → some_expr_scopes e s ≡ Some s' → some_expr_height e ≤ room →
       middle_with inner room s (some_expr_text all e (sign_text puncts.Colon colon k)) ≡ done (found e s' (sign_text puncts.Colon colon k))
   unfolding middle_with
   middle_read room less no_expr s s' colon k h named low = ap (λ (o : Option HeldScopes). done (found no_expr (from o) (sign_text puncts.Colon colon k))) named
@@ -225,18 +231,22 @@ module _ (all : List Lexeme) (numbered : IsNumbered all) (tokens : TokenLaws all
     abbrev goes_from : Stack → HeldScopes → List Lexeme → Read Row
     goes_from w s ts = and_then (cast_with inner (room - how_many w) s ts) (λ x. goes (record { waiting = w; last = x.tree }) x.scopes x.rest)
 
-    some_goes : (row : Row) (s : HeldScopes) (ts : List Lexeme) (read : Read Row) → operation_turn inner reach room row s ts ≡ Some read → goes row s ts ≡ and_then read (λ x. goes x.tree x.scopes x.rest)
+    some_goes : (row : Row) (s : HeldScopes) (ts : List Lexeme) (read : Read Row)
+        → operation_turn inner reach room row s ts ≡ Some read
+        → goes row s ts ≡ and_then read (λ x. goes x.tree x.scopes x.rest)
     some_goes row s ts read is = run_is (operation_turn inner reach room) (operation_turn_shrinks all tokens n inner laws reach room) row s ts ∙ ap (λ (o : Option (Read Row)). after o row s ts (run (operation_turn inner reach room))) is
 
     -- an operator without a middle
-    operation_goes : (op : Operator) (w : Stack) (a : Expr) (token : ℕ) (s : HeldScopes) (p : Punct) (k : List Lexeme) → suc (how_many w) + expr_height a ≤ room →
+    operation_goes : (op : Operator) (w : Stack) (a : Expr) (token : ℕ) (s : HeldScopes) (p : Punct) (k : List Lexeme)
+        → suc (how_many w) + expr_height a ≤ room →
         and_then (operation_with inner op (record { below = w; last = a }) room s (sign_text p token k)) (λ x. goes x.tree x.scopes x.rest) ≡ goes_from (above w (record { tree = a; operator = op; token = token })) s k
     operation_goes op w a token s p k low =
         ap (λ (r : Read Row). and_then r (λ x. goes x.tree x.scopes x.rest)) (fits_is (suc (how_many w) + expr_height a) room (sign_text p token k) _ low ∙
         then_done (found token s k) (λ t. and_then (cast_with inner (room - suc (how_many w)) t.scopes t.rest) (λ e. ends (with_operand (record { below = w; last = a }) op t.tree e.tree) e.scopes e.rest))) ∙
         then_then (cast_with inner (room - suc (how_many w)) s k) (λ e. with_operand (record { below = w; last = a }) op token e) (λ x. goes x.tree x.scopes x.rest)
 
-    question_goes : (middle : SomeExpr) (colon : ℕ) (w : Stack) (a : Expr) (token : ℕ) (s t : HeldScopes) (k : List Lexeme) → suc (how_many w) + expr_height a ≤ room → IsSomeExpr all middle → some_expr_scopes middle s ≡ Some t →
+    question_goes : (middle : SomeExpr) (colon : ℕ) (w : Stack) (a : Expr) (token : ℕ) (s t : HeldScopes) (k : List Lexeme)
+        → suc (how_many w) + expr_height a ≤ room → IsSomeExpr all middle → some_expr_scopes middle s ≡ Some t →
         some_expr_height middle ≤ room - suc (how_many w) → room - suc (how_many w) < n →
         and_then (question_with inner (record { below = w; last = a }) room s (sign_text puncts.Question token (some_expr_text all middle (sign_text puncts.Colon colon k)))) (λ x. goes x.tree x.scopes x.rest) ≡
         goes_from (above w (record { tree = a; operator = cond middle colon; token = token })) t k
@@ -247,7 +257,8 @@ module _ (all : List Lexeme) (numbered : IsNumbered all) (tokens : TokenLaws all
         then_then (cast_with inner (room - suc (how_many w)) t k) (λ e. with_operand (record { below = w; last = a }) (cond middle colon) token e) (λ x. goes x.tree x.scopes x.rest)
 
     -- behind a left side its operator is taken, and the right side is read next
-    step_on : (op : Operator) (w : Stack) (a : Expr) (token : ℕ) (s t : HeldScopes) (k : List Lexeme) → IsOperator op → IsMiddle all op → IsExpr all a → left_level op ≤ expr_level a → Accepts w (operator_level op) →
+    step_on : (op : Operator) (w : Stack) (a : Expr) (token : ℕ) (s t : HeldScopes) (k : List Lexeme) → IsOperator op
+        → IsMiddle all op → IsExpr all a → left_level op ≤ expr_level a → Accepts w (operator_level op) →
         reach_level reach ≤ operator_level op → operator_scopes op s ≡ Some t → suc (how_many w) + expr_height a ≤ room → suc (how_many w) + operator_height op ≤ room → room ≤ n → 1 ≤ room →
         goes (spread w a) s (operator_text all op token k) ≡ goes_from (above w (record { tree = a; operator = op; token = token })) t k
     step_on comma w a token s t k i m h l acc reached named low high less some_room =
@@ -316,7 +327,9 @@ module _ (all : List Lexeme) (numbered : IsNumbered all) (tokens : TokenLaws all
     up_through : (a b c : ℕ) → a ≤ b → b ≤ c → a ≤ c
     up_through a b c p q = omega (arith, p, q)
 
-    rows_read : room ≤ n → (e : Expr) (w : Stack) (s s' : HeldScopes) (k : List Lexeme) → IsExpr all e → expr_scopes e s ≡ Some s' → how_many w + expr_height e ≤ room → Accepts w (expr_level e) → reach_level reach ≤ expr_level e →
+    rows_read : room ≤ n → (e : Expr) (w : Stack) (s s' : HeldScopes) (k : List Lexeme) → IsExpr all e
+        → expr_scopes e s ≡ Some s' → how_many w + expr_height e ≤ room → Accepts w (expr_level e)
+        → reach_level reach ≤ expr_level e →
         reach_level reach ≤ 2 → ends_unary (kind_at k) ≡ true → goes_from w s (expr_text all e k) ≡ goes (spread w e) s' k
     rows_read less (operation a op token b) w s s' k h named low acc reached small ended =
         let p = behind_ok (behind (expr_scopes a s) (operator_scopes op)) (expr_scopes b) s' named in
@@ -336,11 +349,13 @@ module _ (all : List Lexeme) (numbered : IsNumbered all) (tokens : TokenLaws all
         bind_is _ (cast_read all numbered tokens firsts n inner laws (room - how_many w) (rest_less (how_many w) room n less) e s s' k h (omega arith) named (rest_low (how_many w) (expr_height e) room low) ended) refl
 
     -- the loop ends before what does not go on with the reach
-    goes_ends : (row : Row) (s : HeldScopes) (k : List Lexeme) → is_row reach ≡ true → ends_before reach (infix_of (kind_at k)) ≡ true → goes row s k ≡ done (found row s k)
+    goes_ends : (row : Row) (s : HeldScopes) (k : List Lexeme) → is_row reach ≡ true
+        → ends_before reach (infix_of (kind_at k)) ≡ true → goes row s k ≡ done (found row s k)
     goes_ends row s k rows ended =
         run_ends (operation_turn inner reach room) (operation_turn_shrinks all tokens n inner laws reach room) row s k (by_infix (infix_of (kind_at k)) reach rows ended)
       where
-        by_infix : (f : Infix) (reach : Reach) → is_row reach ≡ true → ends_before reach f ≡ true → operation_by inner reach room f row s k ≡ None
+        by_infix : (f : Infix) (reach : Reach) → is_row reach ≡ true → ends_before reach f ≡ true
+            → operation_by inner reach room f row s k ≡ None
         by_infix infixes.Nothing reach rows e = refl
         by_infix infixes.Comma Whole rows e = absurd cc
         by_infix infixes.Comma Assigned rows e = refl
@@ -373,7 +388,8 @@ module _ (all : List Lexeme) (numbered : IsNumbered all) (tokens : TokenLaws all
       named : expr_scopes inside s ≡ Some s'
       high : expr_height e ≡ length numbers + expr_height inside
 
-    extended_of : (numbers : List ℕ) (e : Expr) (s s' : HeldScopes) (k : List Lexeme) → exts_begin numbers e → IsExpr all e → 13 ≤ expr_level e → expr_scopes e s ≡ Some s' → IsExtended numbers e s s' k
+    extended_of : (numbers : List ℕ) (e : Expr) (s s' : HeldScopes) (k : List Lexeme) → exts_begin numbers e
+        → IsExpr all e → 13 ≤ expr_level e → expr_scopes e s ≡ Some s' → IsExtended numbers e s s' k
     extended_of numbers (operation e op token e2) s s' k b h l named = absurd (let t : operator_level op ≤ 12 = operator_twelve op in omega (arith, t, l))
     extended_of [] (extension keyword e) s s' k b h l named = record { inside = extension keyword e; is = refl; same_text = refl; fits = h; level = l; named = named; high = omega arith }
     extended_of (token ∷ numbers) (extension keyword e) s s' k b h l named =
@@ -403,7 +419,8 @@ module _ (all : List Lexeme) (numbered : IsNumbered all) (tokens : TokenLaws all
       named : expr_scopes inside s ≡ Some s'
       high : expr_height e ≡ expr_height inside + 1
 
-    starred_of : (token : ℕ) (e : Expr) (s s' : HeldScopes) (k : List Lexeme) → star_begins token e → IsExpr all e → 13 ≤ expr_level e → expr_scopes e s ≡ Some s' → IsStarred token e s s' k
+    starred_of : (token : ℕ) (e : Expr) (s s' : HeldScopes) (k : List Lexeme) → star_begins token e → IsExpr all e
+        → 13 ≤ expr_level e → expr_scopes e s ≡ Some s' → IsStarred token e s s' k
     starred_of token (operation e op token2 e2) s s' k b h l named = absurd (let t : operator_level op ≤ 12 = operator_twelve op in omega (arith, t, l))
     starred_of token (prefix token2 p e) s s' k b h l named =
         record {
@@ -418,7 +435,9 @@ module _ (all : List Lexeme) (numbered : IsNumbered all) (tokens : TokenLaws all
     starred_of token e s s' k b h l named = absurd b
 
     -- what is left of a first operand is read, with all that was read of it
-    operand_read : room ≤ n → (begun : Begun) (e : Expr) (s s' : HeldScopes) (k : List Lexeme) → IsBegun begun e → IsExpr all e → 13 ≤ expr_level e → expr_scopes e s ≡ Some s' → expr_height e ≤ room → ends_unary (kind_at k) ≡ true →
+    operand_read : room ≤ n → (begun : Begun) (e : Expr) (s s' : HeldScopes) (k : List Lexeme) → IsBegun begun e
+        → IsExpr all e → 13 ≤ expr_level e → expr_scopes e s ≡ Some s' → expr_height e ≤ room
+        → ends_unary (kind_at k) ≡ true →
         operand_with inner begun room s (behind_begun all begun e k) ≡ done (found e s' k)
     unfolding operand_with
     operand_read less nothing e s s' k b h l named low ended = cast_read all numbered tokens firsts n inner laws room less e s s' k h l named low ended
@@ -442,17 +461,21 @@ module _ (all : List Lexeme) (numbered : IsNumbered all) (tokens : TokenLaws all
     abbrev begun_goes : Begun → HeldScopes → List Lexeme → Read Row
     begun_goes begun s ts = and_then (operand_with inner begun room s ts) (λ x. goes (record { waiting = bottom; last = x.tree }) x.scopes x.rest)
 
-    is_begun_left : (begun : Begun) (a b : Expr) (op : Operator) (token : ℕ) → IsBegun begun (operation a op token b) → IsBegun begun a
+    is_begun_left : (begun : Begun) (a b : Expr) (op : Operator) (token : ℕ) → IsBegun begun (operation a op token b)
+        → IsBegun begun a
     is_begun_left nothing a b op token h = tt
     is_begun_left (extensions numbers) a b op token h = h
     is_begun_left (star token2) a b op token h = h
 
-    begun_left : (begun : Begun) (a b : Expr) (op : Operator) (token : ℕ) (k : List Lexeme) → behind_begun all begun (operation a op token b) k ≡ behind_begun all begun a (operator_text all op token (expr_text all b k))
+    begun_left : (begun : Begun) (a b : Expr) (op : Operator) (token : ℕ) (k : List Lexeme)
+        → behind_begun all begun (operation a op token b) k ≡ behind_begun all begun a (operator_text all op token (expr_text all b k))
     begun_left nothing a b op token k = refl
     begun_left (extensions numbers) a b op token k = refl
     begun_left (star token2) a b op token k = refl
 
-    begun_read : room ≤ n → (begun : Begun) (e : Expr) (s s' : HeldScopes) (k : List Lexeme) → IsBegun begun e → IsExpr all e → expr_scopes e s ≡ Some s' → expr_height e ≤ room → reach_level reach ≤ expr_level e → reach_level reach ≤ 2 →
+    begun_read : room ≤ n → (begun : Begun) (e : Expr) (s s' : HeldScopes) (k : List Lexeme) → IsBegun begun e
+        → IsExpr all e → expr_scopes e s ≡ Some s' → expr_height e ≤ room → reach_level reach ≤ expr_level e
+        → reach_level reach ≤ 2 →
         ends_unary (kind_at k) ≡ true → begun_goes begun s (behind_begun all begun e k) ≡ goes (spread bottom e) s' k
     begun_read less begun (operation a op token b) s s' k begins h named low reached small ended =
         let p = behind_ok (behind (expr_scopes a s) (operator_scopes op)) (expr_scopes b) s' named in
@@ -476,7 +499,9 @@ module _ (all : List Lexeme) (numbered : IsNumbered all) (tokens : TokenLaws all
     begun_read less begun e s s' k begins h named low reached small ended =
         bind_is _ (operand_read less begun e s s' k begins h (omega arith) named low ended) refl
 
-    row_read : room ≤ n → is_row reach ≡ true → reach_level reach ≤ 2 → (begun : Begun) (e : Expr) (s s' : HeldScopes) (k : List Lexeme) → IsBegun begun e → IsExpr all e → expr_scopes e s ≡ Some s' → expr_height e ≤ room →
+    row_read : room ≤ n → is_row reach ≡ true → reach_level reach ≤ 2
+        → (begun : Begun) (e : Expr) (s s' : HeldScopes) (k : List Lexeme) → IsBegun begun e → IsExpr all e
+        → expr_scopes e s ≡ Some s' → expr_height e ≤ room →
         reach_level reach ≤ expr_level e → ends_expr reach (kind_at k) ≡ true → row_with inner reach begun room s (behind_begun all begun e k) ≡ done (found e s' k)
     unfolding row_with
     row_read less rows small begun e s s' k begins h named low reached ended =
@@ -486,7 +511,8 @@ module _ (all : List Lexeme) (numbered : IsNumbered all) (tokens : TokenLaws all
         (found (spread bottom e) s' k) (begun_read less begun e s s' k begins h named low reached small unary_ended ∙ goes_ends (spread bottom e) s' k rows reach_ended) ∙
         ap (λ (f : Expr). done (found f s' k)) (spread_finished bottom e)
       where
-        then_goes : (r : Read Expr) (f : Found Expr → Read Row) (g : Found Row → Read Expr) (x : Found Row) → and_then r f ≡ done x → and_then r (λ e. and_then (f e) g) ≡ g x
+        then_goes : (r : Read Expr) (f : Found Expr → Read Row) (g : Found Row → Read Expr) (x : Found Row)
+            → and_then r f ≡ done x → and_then r (λ e. and_then (f e) g) ≡ g x
         then_goes r f g x is = by_result r is
           where
             by_result : (r : Read Expr) → and_then r f ≡ done x → and_then r (λ e. and_then (f e) g) ≡ g x
@@ -496,7 +522,9 @@ module _ (all : List Lexeme) (numbered : IsNumbered all) (tokens : TokenLaws all
   unary_reach e h = omega (arith, h)
 
   -- expressions, of any reach
-  pub expr_begun_read : (reach : Reach) (begun : Begun) (room : ℕ) → is_row reach ≡ true → room ≤ n → (e : Expr) (s s' : HeldScopes) (k : List Lexeme) → IsExpr all e → reach_level reach ≤ expr_level e → IsBegun begun e → expr_scopes e s ≡ Some s' →
+  pub expr_begun_read : (reach : Reach) (begun : Begun) (room : ℕ) → is_row reach ≡ true → room ≤ n
+      → (e : Expr) (s s' : HeldScopes) (k : List Lexeme) → IsExpr all e → reach_level reach ≤ expr_level e
+      → IsBegun begun e → expr_scopes e s ≡ Some s' →
       expr_height e ≤ room → ends_expr reach (kind_at k) ≡ true → expr_with inner reach begun room s (behind_begun all begun e k) ≡ done (found e s' k)
   unfolding expr_with
   expr_begun_read Whole begun room rows less e s s' k h l begins named low ended = row_read Whole room less refl (omega arith) begun e s s' k begins h named low l ended
@@ -505,7 +533,8 @@ module _ (all : List Lexeme) (numbered : IsNumbered all) (tokens : TokenLaws all
   expr_begun_read Castable begun room rows less e s s' k h l begins named low ended = absurd cc
   expr_begun_read Unary begun room rows less e s s' k h l begins named low ended = absurd cc
 
-  pub expr_read : (reach : Reach) (room : ℕ) → room ≤ n → IsComplete (expr_form all reach) (λ e. ends_expr reach) room (expr_with inner reach nothing room)
+  pub expr_read : (reach : Reach) (room : ℕ) → room ≤ n
+      → IsComplete (expr_form all reach) (λ e. ends_expr reach) room (expr_with inner reach nothing room)
   unfolding expr_with operand_with
   expr_read Whole room less e s s' k h named low ended = row_read Whole room less refl (omega arith) nothing e s s' k tt h.0 named low h.1 ended
   expr_read Assigned room less e s s' k h named low ended = row_read Assigned room less refl (omega arith) nothing e s s' k tt h.0 named low h.1 ended

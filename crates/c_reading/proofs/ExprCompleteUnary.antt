@@ -21,12 +21,12 @@ use Rattle.c_reading.specs.declared.kinds.Reach.{Reach}
 use Rattle.c_reading.specs.declared.kinds.Reach.TheVariants.{Whole, Assigned, Conditional, Castable, Unary}
 use Rattle.c_reading.specs.declared.kinds.Opening.{Opening}
 use Rattle.c_reading.specs.declared.kinds.Opening.TheVariants as openings
-use Rattle.c_reading.specs.Reading.{Found, Read, Reader, kind_at, behind_first, fits, IsNumbered, is_comma, listed, repeated}
+use Rattle.c_reading.specs.Reading.{Read, Reader, kind_at, behind_first, fits, IsNumbered, is_comma, listed, repeated}
 use Rattle.c_reading.specs.Tokens.{is_open_paren, is_close_paren, is_text, is_open_brace}
 use Rattle.c_reading.specs.Specifying.{begins_specs}
 use Rattle.c_reading.specs.declared.kinds.Role.TheVariants.{Naming}
 use Rattle.c_reading.specs.Parts.{Inner, type_name_height}
-use Rattle.c_reading.specs.Expressing.{punct_opening, opening_of, begins_expr, begins_desig, is_dot, postfixed, text_with, compound_with, cast_behind, typed_behind, typed_with, statement_with, paren_with, opened_by, opened_with, prefix_with, extension_with, sizeof_value_with, sizeof_typed, sizeof_type_with, sizeof_behind, sizeof_with, va_arg_with, va_two_with, step_with, offset_with, part_with, label_use_with, compat_with, choose_with, default_assoc_with, typed_assoc_with, assoc_with, next_assoc, generic_with, unary_by, unary_with, cast_with, primary_with}
+use Rattle.c_reading.specs.Expressing.{punct_opening, opening_of, begins_desig, postfixed, text_with, compound_with, cast_behind, typed_behind, typed_with, statement_with, paren_with, opened_by, opened_with, prefix_with, extension_with, sizeof_value_with, sizeof_typed, sizeof_type_with, sizeof_behind, sizeof_with, va_arg_with, va_two_with, step_with, offset_with, part_with, label_use_with, compat_with, choose_with, default_assoc_with, typed_assoc_with, assoc_with, next_assoc, generic_with, unary_by, unary_with, cast_with, primary_with}
 use Rattle.c_reading.proofs.Binding.{found, done, bind_is, fits_is}
 use Rattle.c_reading.proofs.Forms.{IsComplete, behind_ok}
 use Rattle.c_reading.proofs.Rows.{repeated_complete}
@@ -56,7 +56,8 @@ some_same : (s m : HeldScopes) → Some s ≡ Some m → s ≡ m
 some_same s m e = cc
 
 -- the prefixes go before unary forms or casts
-prefix_ends : (p : Punct) (reach : Reach) → punct_opening p ≡ openings.Prefix p reach → (kind : TokenKind) → ends_unary kind ≡ true → ends_expr reach kind ≡ true
+prefix_ends : (p : Punct) (reach : Reach) → punct_opening p ≡ openings.Prefix p reach → (kind : TokenKind)
+    → ends_unary kind ≡ true → ends_expr reach kind ≡ true
 prefix_ends p Unary is kind h = ends_unary_expr kind h
 prefix_ends p Castable is kind h = ends_castable kind h
 prefix_ends p Whole is kind h = absurd (never p is)
@@ -83,13 +84,11 @@ prefix_ends p Conditional is kind h = absurd (never p is)
     never p e = cc
 
 -- the words before an operand
-sizeof_opens : (keyword : Keyword) → is_sizeof keyword ≡ true → opening_of (kinds.Keyword keyword) ≡ openings.Sizeof keyword
+sizeof_opens : (keyword : Keyword) → is_sizeof keyword ≡ true
+    → opening_of (kinds.Keyword keyword) ≡ openings.Sizeof keyword
 sizeof_opens keywords.Sizeof e = refl
 sizeof_opens keywords.Alignof e = refl
 sizeof_opens keyword e = absurd cc
-
-typed_low : (a b room : ℕ) → max a b + 1 ≤ room → a + 1 ≤ room
-typed_low a b room h = omega (arith, h)
 
 three : (a d room : ℕ) → max a d + 1 + 1 ≤ room → 1 ≤ a → 3 ≤ room
 three a d room h p = omega (arith, h, p)
@@ -100,17 +99,20 @@ module _ (all : List Lexeme) (numbered : IsNumbered all) (tokens : TokenLaws all
   tight true room s ts = cast_with inner room s ts
   tight false room s ts = unary_with inner room s ts
 
-  opened_tight : (casts : Bool) (room : ℕ) (s : HeldScopes) (opening : ℕ) (k : List Lexeme) → tight casts room s (sign_text puncts.OpenParen opening k) ≡ opened_with inner casts room s (sign_text puncts.OpenParen opening k)
+  opened_tight : (casts : Bool) (room : ℕ) (s : HeldScopes) (opening : ℕ) (k : List Lexeme)
+      → tight casts room s (sign_text puncts.OpenParen opening k) ≡ opened_with inner casts room s (sign_text puncts.OpenParen opening k)
   unfolding cast_with unary_with unary_by
   opened_tight true room s opening k = refl
   opened_tight false room s opening k = refl
 
-  other_tight : (casts : Bool) (room : ℕ) (s : HeldScopes) (t : Lexeme) (k : List Lexeme) → is_open_paren t.kind ≡ false → tight casts room s (t ∷ k) ≡ unary_by inner (opening_of t.kind) room s (t ∷ k)
+  other_tight : (casts : Bool) (room : ℕ) (s : HeldScopes) (t : Lexeme) (k : List Lexeme) → is_open_paren t.kind ≡ false
+      → tight casts room s (t ∷ k) ≡ unary_by inner (opening_of t.kind) room s (t ∷ k)
   unfolding cast_with unary_with
   other_tight true room s t k is = rw is refl
   other_tight false room s t k is = refl
 
-  opened_goes : (casts : Bool) (room : ℕ) (s : HeldScopes) (opening : ℕ) (k : List Lexeme) (y : Read Expr) → 2 ≤ room → opened_by inner casts opening room s k ≡ y → tight casts room s (sign_text puncts.OpenParen opening k) ≡ y
+  opened_goes : (casts : Bool) (room : ℕ) (s : HeldScopes) (opening : ℕ) (k : List Lexeme) (y : Read Expr) → 2 ≤ room
+      → opened_by inner casts opening room s k ≡ y → tight casts room s (sign_text puncts.OpenParen opening k) ≡ y
   unfolding opened_with
   opened_goes casts room s opening k y least is = opened_tight casts room s opening k ∙ fits_is 2 room (sign_text puncts.OpenParen opening k) _ least ∙ bind_is _ refl is
 
@@ -126,23 +128,27 @@ module _ (all : List Lexeme) (numbered : IsNumbered all) (tokens : TokenLaws all
     pub low : max (specs_height ws) (some_declr_height d) + 1 ≤ room
     pub less : room < n
 
-  typed_begins : (room : ℕ) (s : HeldScopes) (ws : SpecWords) (d : SomeDeclr) (t : HeldScopes) (closing : ℕ) (k : List Lexeme) → TypedWell room s ws d t → begins_specs s (kind_at (type_text ws d closing k)) ≡ true
+  typed_begins : (room : ℕ) (s : HeldScopes) (ws : SpecWords) (d : SomeDeclr) (t : HeldScopes) (closing : ℕ) (k : List Lexeme)
+      → TypedWell room s ws d t → begins_specs s (kind_at (type_text ws d closing k)) ≡ true
   typed_begins room s ws d t closing k w =
       let b = behind_ok (spec_words_scopes ws s) (some_declr_scopes None d) t w.named in
       firsts.type_words_begin ws s b.0 (some_declr_text all d (sign_text puncts.CloseParen closing k)) w.mix w.words b.1
 
-  typed_read : (room : ℕ) (s : HeldScopes) (ws : SpecWords) (d : SomeDeclr) (t : HeldScopes) (closing : ℕ) (k : List Lexeme) → TypedWell room s ws d t →
+  typed_read : (room : ℕ) (s : HeldScopes) (ws : SpecWords) (d : SomeDeclr) (t : HeldScopes) (closing : ℕ) (k : List Lexeme)
+      → TypedWell room s ws d t →
       inner.type_name room s (type_text ws d closing k) ≡ done (found (record { words = ws; declr = d }) t (sign_text puncts.CloseParen closing k))
   typed_read room s ws d t closing k w =
       laws.types.complete room w.less (record { words = ws; declr = d }) s t (sign_text puncts.CloseParen closing k) (w.mix, w.words, w.declr) w.named w.low refl
 
-  typed_goes : (casts : Bool) (room : ℕ) (s : HeldScopes) (opening : ℕ) (ws : SpecWords) (d : SomeDeclr) (closing : ℕ) (t : HeldScopes) (k : List Lexeme) (y : Read Expr) → TypedWell (room - 1) s ws d t →
+  typed_goes : (casts : Bool) (room : ℕ) (s : HeldScopes) (opening : ℕ) (ws : SpecWords) (d : SomeDeclr) (closing : ℕ) (t : HeldScopes) (k : List Lexeme) (y : Read Expr)
+      → TypedWell (room - 1) s ws d t →
       typed_behind inner casts opening (record { words = ws; declr = d }) closing room t k ≡ y → opened_by inner casts opening room s (type_text ws d closing k) ≡ y
   unfolding opened_by typed_with
   typed_goes casts room s opening ws d closing t k y w is =
       rw (typed_begins (room - 1) s ws d t closing k w) (bind_is _ (typed_read (room - 1) s ws d t closing k w) (bind_is _ refl is))
 
-  compound_read : (room : ℕ) (opening : ℕ) (ws : SpecWords) (d : SomeDeclr) (closing : ℕ) (list : InitList) (t m : HeldScopes) (k : List Lexeme) → IsInitList all list → init_list_scopes list t ≡ Some m →
+  compound_read : (room : ℕ) (opening : ℕ) (ws : SpecWords) (d : SomeDeclr) (closing : ℕ) (list : InitList) (t m : HeldScopes) (k : List Lexeme)
+      → IsInitList all list → init_list_scopes list t ≡ Some m →
       init_list_height list ≤ room - 1 → room - 1 < n → compound_with inner opening (record { words = ws; declr = d }) closing room t (init_list_text all list k) ≡ postfixed inner room (compound opening ws d closing list) m k
   unfolding compound_with
   compound_read room opening ws d closing list t m k h named low less = bind_is _ (laws.lists.complete (room - 1) less list t m k h named low refl) refl
@@ -156,7 +162,8 @@ module _ (all : List Lexeme) (numbered : IsNumbered all) (tokens : TokenLaws all
   inner_two : (a b room : ℕ) → max (a + 1) b + 1 ≤ room → 2 ≤ room
   inner_two a b room h = omega (arith, h)
 
-  steps_read : (room : ℕ) → room - 1 < n → (ds : Desigs) (s s' : HeldScopes) (k : List Lexeme) → AreSteps all ds → desigs_scopes ds s ≡ Some s' → steps_height ds ≤ room - 1 →
+  steps_read : (room : ℕ) → room - 1 < n → (ds : Desigs) (s s' : HeldScopes) (k : List Lexeme) → AreSteps all ds
+      → desigs_scopes ds s ≡ Some s' → steps_height ds ≤ room - 1 →
       begins_desig (kind_at k) ≡ false → repeated begins_desig (step_with inner room) s (desigs_text all ds k) ≡ done (found (desigs_items ds) s' k)
   unfolding step_with
   steps_read room less ds s s' k h named low ended =
@@ -165,21 +172,24 @@ module _ (all : List Lexeme) (numbered : IsNumbered all) (tokens : TokenLaws all
       (desigs_items ds) s s' k (steps_fit_back all ds h) (steps_named all (desigs_items ds) s ∙ ap (λ (ds : Desigs). desigs_scopes ds s) (desigs_back ds) ∙ named)
       (subst (λ (m : ℕ). m ≤ room - 1) (sym (steps_high all (desigs_items ds) ∙ ap steps_height (desigs_back ds))) low) ended (λ x. refl)
     where
-      one : (x : Desig) (s t : HeldScopes) (k : List Lexeme) → IsStep all x → desig_scopes x s ≡ Some t → step_height x ≤ room - 1 → true ≡ true → step_with inner room s (desig_text all x k) ≡ done (found x t k)
+      one : (x : Desig) (s t : HeldScopes) (k : List Lexeme) → IsStep all x → desig_scopes x s ≡ Some t
+          → step_height x ≤ room - 1 → true ≡ true → step_with inner room s (desig_text all x k) ≡ done (found x t k)
       one (member_desig token name) s t k h named low e = bind_is _ refl (bind_is _ refl (ap (λ (t : HeldScopes). done (found (member_desig token name) t k)) (some_same s t named)))
       one (index_desig opening e closing) s t k h named low is =
           bind_is _ refl (bind_is _ (laws.exprs.complete Whole (room - 1) less e s t (sign_text puncts.CloseBracket closing k) (h, omega arith) named low refl) (bind_is _ refl refl))
       one (range_desig opening e dots e2 closing) s t k h named low is = absurd h
       one (old_desig name colon) s t k h named low is = absurd h
 
-      starts : (x : Desig) (s t : HeldScopes) (k : List Lexeme) → IsStep all x → desig_scopes x s ≡ Some t → begins_desig (kind_at (desig_text all x k)) ≡ true
+      starts : (x : Desig) (s t : HeldScopes) (k : List Lexeme) → IsStep all x → desig_scopes x s ≡ Some t
+          → begins_desig (kind_at (desig_text all x k)) ≡ true
       starts (member_desig token name) s t k h named = refl
       starts (index_desig opening e closing) s t k h named = refl
       starts (range_desig opening e dots e2 closing) s t k h named = absurd h
       starts (old_desig name colon) s t k h named = absurd h
 
   -- an association is read from its text
-  assoc_read : (room : ℕ) → room ≤ n → IsComplete (assoc_form all) (λ x. ends_expr Assigned) room (assoc_with inner room)
+  assoc_read : (room : ℕ) → room ≤ n
+      → IsComplete (assoc_form all) (λ x. ends_expr Assigned) room (assoc_with inner room)
   unfolding assoc_with default_assoc_with typed_assoc_with
   assoc_read room less (default_assoc keyword colon e) s s' k h named low ended =
       fits_is 2 room (keyword_text keywords.Default keyword (sign_text puncts.Colon colon (expr_text all e k))) _ (asks_two (expr_height e) room low (expr_high e)) ∙
@@ -198,7 +208,8 @@ module _ (all : List Lexeme) (numbered : IsNumbered all) (tokens : TokenLaws all
       (bind_is _ (laws.exprs.complete Assigned (room - 1) (inside_less (expr_height e) room n less right) e b.0 s' k (h.3, h.4) b.2 (inside_low (expr_height e) room right) ended) refl)))
 
   -- associations, the first of which stands behind a comma that was read
-  assocs_read : (room : ℕ) → room ≤ n → (x : Assoc) (xs : Assocs) (s s' : HeldScopes) (k : List Lexeme) → AreAssocs all (more_assocs x xs) → assocs_scopes (more_assocs x xs) s ≡ Some s' →
+  assocs_read : (room : ℕ) → room ≤ n → (x : Assoc) (xs : Assocs) (s s' : HeldScopes) (k : List Lexeme)
+      → AreAssocs all (more_assocs x xs) → assocs_scopes (more_assocs x xs) s ≡ Some s' →
       assocs_height (more_assocs x xs) ≤ room → is_close_paren (kind_at k) ≡ true →
       listed (assoc_with inner room) (next_assoc inner room) s (assoc_text all x (assocs_text all xs k)) ≡ done (found (record { items = x ∷ assocs_items xs; ending = None }) s' k)
   unfolding next_assoc
@@ -220,14 +231,17 @@ module _ (all : List Lexeme) (numbered : IsNumbered all) (tokens : TokenLaws all
       close_ends (kinds.Punct puncts.CloseParen) e = refl
       close_ends kind e = absurd cc
 
-  one_token : (casts : Bool) (make : ℕ → Expr) (room : ℕ) (s : HeldScopes) (token : ℕ) (kind : TokenKind) (k : List Lexeme) → 1 ≤ room → is_open_paren kind ≡ false →
+  one_token : (casts : Bool) (make : ℕ → Expr) (room : ℕ) (s : HeldScopes) (token : ℕ) (kind : TokenKind) (k : List Lexeme)
+      → 1 ≤ room → is_open_paren kind ≡ false →
       unary_by inner (opening_of kind) room s (plain_text kind token k) ≡ primary_with inner make room s (plain_text kind token k) →
       tight casts room s (plain_text kind token k) ≡ postfixed inner room (make token) s k
   one_token casts make room s token kind k least no_paren is =
       other_tight casts room s (record { kind = kind; at = token }) k no_paren ∙ is ∙ fits_is 1 room (plain_text kind token k) _ least ∙ bind_is _ refl refl
 
   -- a primary expression or a compound literal is read, and then its postfix forms
-  pub base_read : (casts : Bool) (room : ℕ) → room ≤ n → (b : Expr) (s m : HeldScopes) (k : List Lexeme) → IsBase all numbered tokens firsts n inner laws b → IsExpr all b → expr_scopes b s ≡ Some m → expr_height b ≤ room →
+  pub base_read : (casts : Bool) (room : ℕ) → room ≤ n → (b : Expr) (s m : HeldScopes) (k : List Lexeme)
+      → IsBase all numbered tokens firsts n inner laws b → IsExpr all b → expr_scopes b s ≡ Some m
+      → expr_height b ≤ room →
       is_text (kind_at k) ≡ false → tight casts room s (expr_text all b k) ≡ postfixed inner room b m k
   unfolding opened_by statement_with paren_with typed_behind text_with va_arg_with va_two_with offset_with compat_with choose_with generic_with unary_by
   base_read casts room less (operation e op token e2) s m k base h named low no_text = absurd base
@@ -373,7 +387,8 @@ module _ (all : List Lexeme) (numbered : IsNumbered all) (tokens : TokenLaws all
       room_less room n h = omega (arith, h)
 
   -- an operand with its postfix forms
-  postfix_read : (casts : Bool) (room : ℕ) → room ≤ n → (e : Expr) (s s' : HeldScopes) (k : List Lexeme) → IsExpr all e → 15 ≤ expr_level e → expr_scopes e s ≡ Some s' → expr_height e ≤ room → ends_unary (kind_at k) ≡ true →
+  postfix_read : (casts : Bool) (room : ℕ) → room ≤ n → (e : Expr) (s s' : HeldScopes) (k : List Lexeme) → IsExpr all e
+      → 15 ≤ expr_level e → expr_scopes e s ≡ Some s' → expr_height e ≤ room → ends_unary (kind_at k) ≡ true →
       tight casts room s (expr_text all e k) ≡ done (found e s' k)
   postfix_read casts room less e s s' k h l named low ended =
       let b = base_of all numbered tokens firsts n inner laws room less e s s' k h l named low (ends_no_text (kind_at k) ended) in
@@ -384,18 +399,21 @@ module _ (all : List Lexeme) (numbered : IsNumbered all) (tokens : TokenLaws all
       lower_base a b c p q = omega (arith, p, q)
 
   -- an operand of `sizeof` that is not taken for a type's name in parentheses
-  value_read : (word : Word) (room : ℕ) → room ≤ n → (e : Expr) (s s' : HeldScopes) (k : List Lexeme) → IsExpr all e → 14 ≤ expr_level e → expr_scopes e s ≡ Some s' → expr_height e + 1 ≤ room → ends_unary (kind_at k) ≡ true →
+  value_read : (word : Word) (room : ℕ) → room ≤ n → (e : Expr) (s s' : HeldScopes) (k : List Lexeme) → IsExpr all e
+      → 14 ≤ expr_level e → expr_scopes e s ≡ Some s' → expr_height e + 1 ≤ room → ends_unary (kind_at k) ≡ true →
       sizeof_value_with inner word room s (expr_text all e k) ≡ done (found (sizeof_value word e) s' k)
   unfolding sizeof_value_with
   value_read word room less e s s' k h l named low ended =
       bind_is _ (laws.exprs.complete Unary (room - 1) (inside_less (expr_height e) room n less low) e s s' k (h, l) named (inside_low (expr_height e) room low) (ends_unary_expr (kind_at k) ended)) refl
 
-  without_paren : (word : Word) (room : ℕ) → room ≤ n → (e : Expr) (s s' : HeldScopes) (k : List Lexeme) → IsExpr all e → 14 ≤ expr_level e → expr_scopes e s ≡ Some s' → expr_height e + 1 ≤ room → ends_unary (kind_at k) ≡ true →
+  without_paren : (word : Word) (room : ℕ) → room ≤ n → (e : Expr) (s s' : HeldScopes) (k : List Lexeme) → IsExpr all e
+      → 14 ≤ expr_level e → expr_scopes e s ≡ Some s' → expr_height e + 1 ≤ room → ends_unary (kind_at k) ≡ true →
       is_open_paren (kind_at (expr_text all e k)) ≡ false → sizeof_behind inner word room s (expr_text all e k) ≡ done (found (sizeof_value word e) s' k)
   unfolding sizeof_behind
   without_paren word room less e s s' k h l named low ended is = rw is (value_read word room less e s s' k h l named low ended)
 
-  with_value : (word : Word) (room : ℕ) → room ≤ n → (e : Expr) (s s' : HeldScopes) (k : List Lexeme) → IsExpr all e → 14 ≤ expr_level e → expr_scopes e s ≡ Some s' → expr_height e + 1 ≤ room → ends_unary (kind_at k) ≡ true →
+  with_value : (word : Word) (room : ℕ) → room ≤ n → (e : Expr) (s s' : HeldScopes) (k : List Lexeme) → IsExpr all e
+      → 14 ≤ expr_level e → expr_scopes e s ≡ Some s' → expr_height e + 1 ≤ room → ends_unary (kind_at k) ≡ true →
       is_open_paren (kind_at (expr_text all e k)) ≡ true → begins_specs s (kind_at (behind_first (expr_text all e k))) ≡ false → 3 ≤ room → sizeof_behind inner word room s (expr_text all e k) ≡ done (found (sizeof_value word e) s' k)
   unfolding sizeof_behind
   with_value word room less e s s' k h l named low ended is no_type least =
@@ -405,7 +423,8 @@ module _ (all : List Lexeme) (numbered : IsNumbered all) (tokens : TokenLaws all
   two_more a b room p q r = omega (arith, p, q, r)
 
   -- a compound literal behind `sizeof`
-  with_compound : (word : Word) (room : ℕ) → room ≤ n → (e : Expr) (s m s' : HeldScopes) (k k' : List Lexeme) (opening : ℕ) (ws : SpecWords) (d : SomeDeclr) (closing : ℕ) (list : InitList) →
+  with_compound : (word : Word) (room : ℕ) → room ≤ n
+      → (e : Expr) (s m s' : HeldScopes) (k k' : List Lexeme) (opening : ℕ) (ws : SpecWords) (d : SomeDeclr) (closing : ℕ) (list : InitList) →
       IsExpr all (compound opening ws d closing list) → expr_scopes (compound opening ws d closing list) s ≡ Some m → expr_height (compound opening ws d closing list) + 1 ≤ room →
       postfixed inner (room - 1) (compound opening ws d closing list) m k' ≡ done (found e s' k) →
       sizeof_behind inner word room s (expr_text all (compound opening ws d closing list) k') ≡ done (found (sizeof_value word e) s' k)
@@ -444,7 +463,8 @@ module _ (all : List Lexeme) (numbered : IsNumbered all) (tokens : TokenLaws all
       list_less : (a b room n : ℕ) → max a b + 1 + 1 ≤ room → room ≤ n → room - 1 - 1 < n
       list_less a b room n h p = omega (arith, h, p)
 
-  sizeof_postfix : (word : Word) (room : ℕ) → room ≤ n → (e : Expr) (s s' : HeldScopes) (k : List Lexeme) → IsExpr all e → 15 ≤ expr_level e → expr_scopes e s ≡ Some s' → expr_height e + 1 ≤ room → ends_unary (kind_at k) ≡ true →
+  sizeof_postfix : (word : Word) (room : ℕ) → room ≤ n → (e : Expr) (s s' : HeldScopes) (k : List Lexeme) → IsExpr all e
+      → 15 ≤ expr_level e → expr_scopes e s ≡ Some s' → expr_height e + 1 ≤ room → ends_unary (kind_at k) ≡ true →
       sizeof_behind inner word room s (expr_text all e k) ≡ done (found (sizeof_value word e) s' k)
   sizeof_postfix word room less e s s' k h l named low ended =
       let b = base_of all numbered tokens firsts n inner laws (room - 1) (below (expr_height e) room n less low) e s s' k h l named (inside_low (expr_height e) room low) (ends_no_text (kind_at k) ended) in
@@ -459,10 +479,13 @@ module _ (all : List Lexeme) (numbered : IsNumbered all) (tokens : TokenLaws all
       compound_low : (a b room : ℕ) → a ≤ b → b + 1 ≤ room → a + 1 ≤ room
       compound_low a b room p q = omega (arith, p, q)
 
-      no_paren : is_open_paren (kind_at (expr_text all e k)) ≡ false → sizeof_behind inner word room s (expr_text all e k) ≡ done (found (sizeof_value word e) s' k)
+      no_paren : is_open_paren (kind_at (expr_text all e k)) ≡ false
+          → sizeof_behind inner word room s (expr_text all e k) ≡ done (found (sizeof_value word e) s' k)
       no_paren is = without_paren word room less e s s' k h (tighter (expr_level e) l) named low ended is
 
-      by_base : (b : Expr) (k' : List Lexeme) (m : HeldScopes) → IsBase all numbered tokens firsts n inner laws b → expr_text all e k ≡ expr_text all b k' → IsExpr all b → expr_scopes b s ≡ Some m → expr_height b ≤ expr_height e →
+      by_base : (b : Expr) (k' : List Lexeme) (m : HeldScopes) → IsBase all numbered tokens firsts n inner laws b
+          → expr_text all e k ≡ expr_text all b k' → IsExpr all b → expr_scopes b s ≡ Some m
+          → expr_height b ≤ expr_height e →
           postfixed inner (room - 1) b m k' ≡ done (found e s' k) → sizeof_behind inner word room s (expr_text all e k) ≡ done (found (sizeof_value word e) s' k)
       by_base (compound opening ws d closing list) k' m base same fits named2 lower goes =
           ap (λ (ts : List Lexeme). sizeof_behind inner word room s ts) same ∙ with_compound word room less e s m s' k k' opening ws d closing list fits named2
@@ -495,7 +518,8 @@ module _ (all : List Lexeme) (numbered : IsNumbered all) (tokens : TokenLaws all
   prefix_small : (a b : ℕ) → a ≤ b → b ≤ 16 → a ≤ 16
   prefix_small a b p q = omega (arith, p, q)
 
-  sizeof_operand : (word : Word) (room : ℕ) → room ≤ n → (e : Expr) (s s' : HeldScopes) (k : List Lexeme) → IsExpr all e → 14 ≤ expr_level e → expr_scopes e s ≡ Some s' → expr_height e + 1 ≤ room → ends_unary (kind_at k) ≡ true →
+  sizeof_operand : (word : Word) (room : ℕ) → room ≤ n → (e : Expr) (s s' : HeldScopes) (k : List Lexeme) → IsExpr all e
+      → 14 ≤ expr_level e → expr_scopes e s ≡ Some s' → expr_height e + 1 ≤ room → ends_unary (kind_at k) ≡ true →
       sizeof_behind inner word room s (expr_text all e k) ≡ done (found (sizeof_value word e) s' k)
   sizeof_operand word room less (operation e op token e2) s s' k h l named low ended = absurd (let t : operator_level op ≤ 12 = operator_twelve op in omega (arith, t, l))
   sizeof_operand word room less (cast opening ws d closing e) s s' k h l named low ended = absurd (omega (arith, l))
@@ -511,7 +535,9 @@ module _ (all : List Lexeme) (numbered : IsNumbered all) (tokens : TokenLaws all
   sizeof_operand word room less e s s' k h l named low ended = sizeof_postfix word room less e s s' k h (omega arith) named low ended
 
   -- a unary form is read whole
-  pub tight_unary : (casts : Bool) (room : ℕ) → room ≤ n → (e : Expr) (s s' : HeldScopes) (k : List Lexeme) → IsExpr all e → 14 ≤ expr_level e → expr_scopes e s ≡ Some s' → expr_height e ≤ room → ends_unary (kind_at k) ≡ true →
+  pub tight_unary : (casts : Bool) (room : ℕ) → room ≤ n → (e : Expr) (s s' : HeldScopes) (k : List Lexeme)
+      → IsExpr all e → 14 ≤ expr_level e → expr_scopes e s ≡ Some s' → expr_height e ≤ room
+      → ends_unary (kind_at k) ≡ true →
       tight casts room s (expr_text all e k) ≡ done (found e s' k)
   unfolding unary_by prefix_with extension_with part_with label_use_with sizeof_with sizeof_behind sizeof_type_with sizeof_typed
   tight_unary casts room less (operation e op token e2) s s' k h l named low ended = absurd (let t : operator_level op ≤ 12 = operator_twelve op in omega (arith, t, l))
@@ -557,7 +583,8 @@ module _ (all : List Lexeme) (numbered : IsNumbered all) (tokens : TokenLaws all
   tight_unary casts room less e s s' k h l named low ended = postfix_read casts room less e s s' k h (omega arith) named low ended
 
   -- a cast is read whole
-  pub cast_read : (room : ℕ) → room ≤ n → (e : Expr) (s s' : HeldScopes) (k : List Lexeme) → IsExpr all e → 13 ≤ expr_level e → expr_scopes e s ≡ Some s' → expr_height e ≤ room → ends_unary (kind_at k) ≡ true →
+  pub cast_read : (room : ℕ) → room ≤ n → (e : Expr) (s s' : HeldScopes) (k : List Lexeme) → IsExpr all e
+      → 13 ≤ expr_level e → expr_scopes e s ≡ Some s' → expr_height e ≤ room → ends_unary (kind_at k) ≡ true →
       cast_with inner room s (expr_text all e k) ≡ done (found e s' k)
   unfolding typed_behind cast_behind
   cast_read room less (operation e op token e2) s s' k h l named low ended = absurd (let t : operator_level op ≤ 12 = operator_twelve op in omega (arith, t, l))

@@ -92,7 +92,9 @@ module _ (all : List Lexeme) (tokens : TokenLaws all) (n : ℕ) (inner : Inner) 
   pub postfix_turn_shrinks : (room : ℕ) → TurnShrinks (postfix_turn inner room)
   postfix_turn_shrinks room base s ts x e = by_form (form_of (kind_at ts)) e
     where
-      by_form : (f : PostfixForm) → lowered inner (expr_height base) room ts (postfix_by inner f room base s ts) ≡ Some (done x) → length x.rest < length ts
+      by_form : (f : PostfixForm)
+          → lowered inner (expr_height base) room ts (postfix_by inner f room base s ts) ≡ Some (done x)
+          → length x.rest < length ts
       by_form forms.Index e = index_shrinks base room s ts x (fits_ok _ _ _ (some_is e)).1
       by_form forms.Call e = call_shrinks base room s ts x (fits_ok _ _ _ (some_is e)).1
       by_form forms.Dot e = dot_shrinks base s ts x (fits_ok _ _ _ (some_is e)).1
@@ -120,19 +122,22 @@ module _ (all : List Lexeme) (tokens : TokenLaws all) (n : ℕ) (inner : Inner) 
       let b = bind_ok a.2 in
       omega (arith, take_falls _ _ _ a.1, tokens.texts_falls _ _ _ b.1, postfixed_falls _ _ _ _ _ b.2)
 
-  compound_shrinks : (opening : ℕ) (t : TypeName) (closing room : ℕ) → Shrinks (compound_with inner opening t closing room)
+  compound_shrinks : (opening : ℕ) (t : TypeName) (closing room : ℕ)
+      → Shrinks (compound_with inner opening t closing room)
   unfolding compound_with
   compound_shrinks opening t closing room s ts x e =
       let a = bind_ok e in
       omega (arith, laws.lists.shrinks _ _ _ _ a.1, postfixed_falls _ _ _ _ _ a.2)
 
-  cast_behind_shrinks : (opening : ℕ) (t : TypeName) (closing room : ℕ) → Shrinks (cast_behind inner opening t closing room)
+  cast_behind_shrinks : (opening : ℕ) (t : TypeName) (closing room : ℕ)
+      → Shrinks (cast_behind inner opening t closing room)
   unfolding cast_behind
   cast_behind_shrinks opening t closing room s ts x e =
       let a = bind_ok e in
       omega (arith, laws.exprs.shrinks _ _ _ _ _ _ a.1, left_is a.2)
 
-  typed_behind_shrinks : (casts : Bool) (opening : ℕ) (t : TypeName) (closing room : ℕ) → Shrinks (typed_behind inner casts opening t closing room)
+  typed_behind_shrinks : (casts : Bool) (opening : ℕ) (t : TypeName) (closing room : ℕ)
+      → Shrinks (typed_behind inner casts opening t closing room)
   unfolding typed_behind
   typed_behind_shrinks casts opening t closing room s ts x e =
       if_ok (is_open_brace (kind_at ts)) e (λ is e. compound_shrinks opening t closing room s ts x e) (λ is e.
@@ -194,7 +199,8 @@ module _ (all : List Lexeme) (tokens : TokenLaws all) (n : ℕ) (inner : Inner) 
       let a = bind_ok e in
       omega (arith, laws.exprs.shrinks _ _ _ _ _ _ a.1, left_is a.2)
 
-  sizeof_typed_falls : (word : Word) (opening : ℕ) (t : TypeName) (closing room : ℕ) → Falls (sizeof_typed inner word opening t closing room)
+  sizeof_typed_falls : (word : Word) (opening : ℕ) (t : TypeName) (closing room : ℕ)
+      → Falls (sizeof_typed inner word opening t closing room)
   unfolding sizeof_typed
   sizeof_typed_falls word opening t closing room s ts x e =
       if_ok (is_open_brace (kind_at ts)) e (λ is e.

@@ -89,14 +89,16 @@ IsInfix infixes.Question kind = kind ≡ kinds.Punct puncts.Question
 IsInfix (infixes.Binary p) kind = (kind ≡ kinds.Punct p) × (1 ≤ binary_level p)
 IsInfix infixes.Nothing kind = Unit {0}
 
-infix_punct : (p : Punct) → IsInfix (if is_assignment p then infixes.Assign p else binary_or_nothing p (binary_level p)) (kinds.Punct p)
+infix_punct : (p : Punct)
+    → IsInfix (if is_assignment p then infixes.Assign p else binary_or_nothing p (binary_level p)) (kinds.Punct p)
 infix_punct p = by_assign (is_assignment p) refl
   where
     by_level : (n : ℕ) → binary_level p ≡ n → IsInfix (binary_or_nothing p n) (kinds.Punct p)
     by_level zero is = tt
     by_level (suc n) is = (refl, omega (arith, is))
 
-    by_assign : (b : Bool) → is_assignment p ≡ b → IsInfix (if b then infixes.Assign p else binary_or_nothing p (binary_level p)) (kinds.Punct p)
+    by_assign : (b : Bool) → is_assignment p ≡ b
+        → IsInfix (if b then infixes.Assign p else binary_or_nothing p (binary_level p)) (kinds.Punct p)
     by_assign true is = (refl, is)
     by_assign false is = by_level (binary_level p) refl
 

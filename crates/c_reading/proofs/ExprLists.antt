@@ -41,11 +41,13 @@ assocs_back no_assocs = refl
 assocs_back (more_assocs x xs) = ap (more_assocs x) (assocs_back xs)
 
 module _ (all : List Lexeme) where
-  other_exprs_are : (es : List Expr) (k : List Lexeme) → others_text (expr_form all Assigned) no_ending es k ≡ other_exprs_text all (exprs_from es) k
+  other_exprs_are : (es : List Expr) (k : List Lexeme)
+      → others_text (expr_form all Assigned) no_ending es k ≡ other_exprs_text all (exprs_from es) k
   other_exprs_are [] k = refl
   other_exprs_are (e ∷ es) k = ap (λ (k : List Lexeme). separated (expr_text all e k)) (other_exprs_are es k)
 
-  pub exprs_are : (es : List Expr) (k : List Lexeme) → commas_text (expr_form all Assigned) no_ending es k ≡ exprs_text all (exprs_from es) k
+  pub exprs_are : (es : List Expr) (k : List Lexeme)
+      → commas_text (expr_form all Assigned) no_ending es k ≡ exprs_text all (exprs_from es) k
   exprs_are [] k = refl
   exprs_are (e ∷ es) k = ap (expr_text all e) (other_exprs_are es k)
 
@@ -57,7 +59,8 @@ module _ (all : List Lexeme) where
   exprs_fit_back no_exprs h = tt
   exprs_fit_back (more_exprs e es) h = ((h.0, h.1), exprs_fit_back es h.2)
 
-  pub exprs_named : (es : List Expr) (s : HeldScopes) → row_scopes (expr_form all Assigned) es s ≡ exprs_scopes (exprs_from es) s
+  pub exprs_named : (es : List Expr) (s : HeldScopes)
+      → row_scopes (expr_form all Assigned) es s ≡ exprs_scopes (exprs_from es) s
   exprs_named [] s = refl
   exprs_named (e ∷ es) s = behind_same (expr_scopes e s) _ _ (λ t. exprs_named es t)
 
@@ -66,7 +69,8 @@ module _ (all : List Lexeme) where
   exprs_high (e ∷ es) = ap (max (expr_height e)) (exprs_high es)
 
   -- associations, each behind a comma
-  pub assocs_are : (xs : List Assoc) (k : List Lexeme) → others_text (assoc_form all) no_ending xs k ≡ assocs_text all (assocs_from xs) k
+  pub assocs_are : (xs : List Assoc) (k : List Lexeme)
+      → others_text (assoc_form all) no_ending xs k ≡ assocs_text all (assocs_from xs) k
   assocs_are [] k = refl
   assocs_are (x ∷ xs) k = ap (λ (k : List Lexeme). separated (assoc_text all x k)) (assocs_are xs k)
 
@@ -86,7 +90,8 @@ module _ (all : List Lexeme) where
   some_assocs_back no_assocs h = absurd (h refl)
   some_assocs_back (more_assocs x xs) h = tt
 
-  pub assocs_named : (xs : List Assoc) (s : HeldScopes) → row_scopes (assoc_form all) xs s ≡ assocs_scopes (assocs_from xs) s
+  pub assocs_named : (xs : List Assoc) (s : HeldScopes)
+      → row_scopes (assoc_form all) xs s ≡ assocs_scopes (assocs_from xs) s
   assocs_named [] s = refl
   assocs_named (x ∷ xs) s = behind_same (assoc_scopes x s) _ _ (λ t. assocs_named xs t)
 
@@ -94,7 +99,8 @@ module _ (all : List Lexeme) where
   assocs_high [] = refl
   assocs_high (x ∷ xs) = ap (max (assoc_height x)) (assocs_high xs)
 
-  pub steps_are : (ds : List Desig) (k : List Lexeme) → row_text (step_form all) ds k ≡ desigs_text all (desigs_from ds) k
+  pub steps_are : (ds : List Desig) (k : List Lexeme)
+      → row_text (step_form all) ds k ≡ desigs_text all (desigs_from ds) k
   steps_are [] k = refl
   steps_are (d ∷ ds) k = ap (desig_text all d) (steps_are ds k)
 
@@ -106,7 +112,8 @@ module _ (all : List Lexeme) where
   steps_fit_back no_desigs h = tt
   steps_fit_back (more_desigs d ds) h = (h.0, steps_fit_back ds h.1)
 
-  pub steps_named : (ds : List Desig) (s : HeldScopes) → row_scopes (step_form all) ds s ≡ desigs_scopes (desigs_from ds) s
+  pub steps_named : (ds : List Desig) (s : HeldScopes)
+      → row_scopes (step_form all) ds s ≡ desigs_scopes (desigs_from ds) s
   steps_named [] s = refl
   steps_named (d ∷ ds) s = behind_same (desig_scopes d s) _ _ (λ t. steps_named ds t)
 

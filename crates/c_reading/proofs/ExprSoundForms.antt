@@ -47,7 +47,8 @@ module _ (all : List Lexeme) where
   abbrev pub level_form : ℕ → Form Expr
   level_form level = record { text = expr_text all; Fits = λ e. IsExpr all e × (level ≤ expr_level e); scopes = expr_scopes; height = expr_height }
 
-  pub lower : (n m room : ℕ) (s : HeldScopes) (ts : List Lexeme) (x : Found Expr) → m ≤ n → Takes all (level_form n) room s ts x → Takes all (level_form m) room s ts x
+  pub lower : (n m room : ℕ) (s : HeldScopes) (ts : List Lexeme) (x : Found Expr) → m ≤ n
+      → Takes all (level_form n) room s ts x → Takes all (level_form m) room s ts x
   lower n m room s ts x less h = record { spelled = h.spelled; fits = (h.fits.0, omega (arith, less, h.fits.1)); named = h.named; low = h.low; left = h.left }
 
   -- a type's name in parentheses
@@ -61,7 +62,8 @@ module _ (all : List Lexeme) where
     pub low : type_name_height t ≤ room
 
   module _ (numbered : IsNumbered all) (tokens : TokenLaws all) (n : ℕ) (inner : Inner) (laws : Laws all n inner) where
-    next_argument_sound : (room comma : ℕ) (s : HeldScopes) (ts : List Lexeme) (x : Found (Next Expr ⊥)) → IsTail all ts → next_argument inner room comma s ts ≡ done x →
+    next_argument_sound : (room comma : ℕ) (s : HeldScopes) (ts : List Lexeme) (x : Found (Next Expr ⊥)) → IsTail all ts
+        → next_argument inner room comma s ts ≡ done x →
         NextTakes all (expr_form all Assigned) no_ending (room - 1) comma s ts x.tree x.scopes x.rest
     unfolding next_argument
     next_argument_sound room comma s ts x tail e =
@@ -82,7 +84,8 @@ module _ (all : List Lexeme) where
         (laws.exprs.sound Assigned (room - 1)) (next_argument_sound room) s ts a.0 tail a.1 in
         at_end (Takes all arguments_form (room - 1) s ts) a.2 (of_list a.0 i))
       where
-        of_list : (l : Found (CommaList Expr ⊥)) → Takes all (list_form (expr_form all Assigned) no_ending) (room - 1) s ts l →
+        of_list : (l : Found (CommaList Expr ⊥))
+            → Takes all (list_form (expr_form all Assigned) no_ending) (room - 1) s ts l →
             Takes all arguments_form (room - 1) s ts (found (exprs_from l.tree.items) l.scopes l.rest)
         of_list l i = record {
           spelled = by_ending l.tree.ending i.spelled;
@@ -92,18 +95,22 @@ module _ (all : List Lexeme) where
           left = i.left;
         }
           where
-            by_ending : (o : Option ⊥) → ts ≡ commas_text (expr_form all Assigned) no_ending l.tree.items (ending_text (expr_form all Assigned) no_ending o l.rest) →
+            by_ending : (o : Option ⊥)
+                → ts ≡ commas_text (expr_form all Assigned) no_ending l.tree.items (ending_text (expr_form all Assigned) no_ending o l.rest) →
                 ts ≡ exprs_text all (exprs_from l.tree.items) l.rest
             by_ending None is = is ∙ exprs_are all l.tree.items l.rest
             by_ending (Some e) is = absurd e
 
     -- one more postfix form
-    postfix_taken : (room : ℕ) (s : HeldScopes) (ts : List Lexeme) (base : Expr) (t : HeldScopes) (k : List Lexeme) (x : Found Expr) → Takes all (level_form 15) room s ts (found base t k) →
+    postfix_taken : (room : ℕ) (s : HeldScopes) (ts : List Lexeme) (base : Expr) (t : HeldScopes) (k : List Lexeme) (x : Found Expr)
+        → Takes all (level_form 15) room s ts (found base t k) →
         postfix_turn inner room base t k ≡ Some (done x) → Takes all (level_form 15) room s ts x
     unfolding index_with call_with dot_with arrow_with post_with
     postfix_taken room s ts base t k x h e = by_form (form_of (kind_at k)) (form_is (kind_at k)) e
       where
-        by_form : (f : PostfixForm) → IsForm f (kind_at k) → lowered inner (expr_height base) room k (postfix_by inner f room base t k) ≡ Some (done x) → Takes all (level_form 15) room s ts x
+        by_form : (f : PostfixForm) → IsForm f (kind_at k)
+            → lowered inner (expr_height base) room k (postfix_by inner f room base t k) ≡ Some (done x)
+            → Takes all (level_form 15) room s ts x
         by_form forms.Index is e =
             let r = fits_ok _ _ _ (some_is all tokens n inner laws e) in
             let a = bind_ok r.1 in
@@ -173,15 +180,18 @@ module _ (all : List Lexeme) where
             })
         by_form forms.Nothing is e = absurd cc
 
-    pub postfixed_sound : (room : ℕ) (s : HeldScopes) (ts : List Lexeme) (base : Expr) (t : HeldScopes) (k : List Lexeme) (x : Found Expr) → Takes all (level_form 15) room s ts (found base t k) →
+    pub postfixed_sound : (room : ℕ) (s : HeldScopes) (ts : List Lexeme) (base : Expr) (t : HeldScopes) (k : List Lexeme) (x : Found Expr)
+        → Takes all (level_form 15) room s ts (found base t k) →
         postfixed inner room base t k ≡ done x → Takes all (level_form 15) room s ts x
     unfolding postfixed
     postfixed_sound room s ts base t k x h e =
         run-keep (postfix_turn inner room) (λ a t k. Takes all (level_form 15) room s ts (found a t k)) (λ a t k x h e. postfix_taken room s ts a t k x h e) base t k x h e
 
     -- what begins with a token and goes on as a primary expression with its postfix forms
-    primary_taken : (make : ℕ → Expr) (kind : TokenKind) (room : ℕ) (s : HeldScopes) (ts : List Lexeme) (x : Found Expr) → IsTail all ts → kind_at ts ≡ kind →
-        ((token : ℕ) (k : List Lexeme) → plain_text kind token k ≡ expr_text all (make token) k) → ((token : ℕ) → IsExpr all (make token) × (15 ≤ expr_level (make token))) →
+    primary_taken : (make : ℕ → Expr) (kind : TokenKind) (room : ℕ) (s : HeldScopes) (ts : List Lexeme) (x : Found Expr)
+        → IsTail all ts → kind_at ts ≡ kind →
+        ((token : ℕ) (k : List Lexeme) → plain_text kind token k ≡ expr_text all (make token) k)
+        → ((token : ℕ) → IsExpr all (make token) × (15 ≤ expr_level (make token))) →
         ((token : ℕ) → expr_scopes (make token) s ≡ Some s) → ((token : ℕ) → expr_height (make token) ≡ 1) →
         primary_with inner make room s ts ≡ done x → Takes all (level_form 15) room s ts x
     primary_taken make kind room s ts x tail is spells fits named high e =
@@ -192,7 +202,8 @@ module _ (all : List Lexeme) where
         postfixed_sound room s ts (make a.0.tree) a.0.scopes a.0.rest x
         (record { spelled = o.spelled ∙ spells a.0.tree a.0.rest; fits = fits a.0.tree; named = named a.0.tree ∙ ap Some (sym o.same); low = low; left = o.left }) a.2
 
-    text_sound : (room : ℕ) (s : HeldScopes) (ts : List Lexeme) (x : Found Expr) → IsTail all ts → kind_at ts ≡ kinds.Text → text_with inner room s ts ≡ done x → Takes all (level_form 15) room s ts x
+    text_sound : (room : ℕ) (s : HeldScopes) (ts : List Lexeme) (x : Found Expr) → IsTail all ts
+        → kind_at ts ≡ kinds.Text → text_with inner room s ts ≡ done x → Takes all (level_form 15) room s ts x
     unfolding text_with
     text_sound room s ts x tail is e =
         let r = fits_ok _ _ _ e in
@@ -203,7 +214,8 @@ module _ (all : List Lexeme) where
         postfixed_sound room s ts (text_use (a.0.tree ∷ b.0.tree)) b.0.scopes b.0.rest x
         (record { spelled = o.spelled ∙ ap (plain_text kinds.Text a.0.tree) i.spelled; fits = (λ e. absurd cc, omega arith); named = ap Some (sym o.same) ∙ i.named; low = r.0; left = i.left }) b.2
 
-    compound_sound : (opening : ℕ) (t : TypeName) (closing room : ℕ) (s0 s : HeldScopes) (ts : List Lexeme) (x : Found Expr) → TypedAt (room - 1) s0 t s → 1 ≤ room → IsTail all ts →
+    compound_sound : (opening : ℕ) (t : TypeName) (closing room : ℕ) (s0 s : HeldScopes) (ts : List Lexeme) (x : Found Expr)
+        → TypedAt (room - 1) s0 t s → 1 ≤ room → IsTail all ts →
         compound_with inner opening t closing room s ts ≡ done x → Takes all (level_form 15) room s0 (typed_text opening t closing ts) x
     unfolding compound_with
     compound_sound opening t closing room s0 s ts x typed least tail e =
@@ -227,7 +239,8 @@ module _ (all : List Lexeme) where
     above_cast true = omega arith
     above_cast false = omega arith
 
-    cast_behind_sound : (opening : ℕ) (t : TypeName) (closing room : ℕ) (s0 s : HeldScopes) (ts : List Lexeme) (x : Found Expr) → TypedAt (room - 1) s0 t s → 1 ≤ room → IsTail all ts →
+    cast_behind_sound : (opening : ℕ) (t : TypeName) (closing room : ℕ) (s0 s : HeldScopes) (ts : List Lexeme) (x : Found Expr)
+        → TypedAt (room - 1) s0 t s → 1 ≤ room → IsTail all ts →
         cast_behind inner opening t closing room s ts ≡ done x → Takes all (level_form 13) room s0 (typed_text opening t closing ts) x
     unfolding cast_behind
     cast_behind_sound opening t closing room s0 s ts x typed least tail e =
@@ -241,20 +254,23 @@ module _ (all : List Lexeme) where
           left = i.left;
         })
 
-    typed_behind_sound : (casts : Bool) (opening : ℕ) (t : TypeName) (closing room : ℕ) (s0 s : HeldScopes) (ts : List Lexeme) (x : Found Expr) → TypedAt (room - 1) s0 t s → 1 ≤ room → IsTail all ts →
+    typed_behind_sound : (casts : Bool) (opening : ℕ) (t : TypeName) (closing room : ℕ) (s0 s : HeldScopes) (ts : List Lexeme) (x : Found Expr)
+        → TypedAt (room - 1) s0 t s → 1 ≤ room → IsTail all ts →
         typed_behind inner casts opening t closing room s ts ≡ done x → Takes all (level_form (cast_level casts)) room s0 (typed_text opening t closing ts) x
     unfolding typed_behind
     typed_behind_sound casts opening t closing room s0 s ts x typed least tail e =
         if_ok (is_open_brace (kind_at ts)) e (λ is e. lower 15 (cast_level casts) room s0 (typed_text opening t closing ts) x (above_cast casts)
         (compound_sound opening t closing room s0 s ts x typed least tail e)) (λ is e. by_casts casts e)
       where
-        by_casts : (casts : Bool) → (if casts then cast_behind inner opening t closing room s ts else refuses Unexpected ts) ≡ done x →
+        by_casts : (casts : Bool)
+            → (if casts then cast_behind inner opening t closing room s ts else refuses Unexpected ts) ≡ done x →
             Takes all (level_form (cast_level casts)) room s0 (typed_text opening t closing ts) x
         by_casts true e = cast_behind_sound opening t closing room s0 s ts x typed least tail e
         by_casts false e = absurd cc
 
     -- behind a parenthesis
-    typed_sound : (casts : Bool) (opening room : ℕ) (s : HeldScopes) (ts : List Lexeme) (x : Found Expr) → 1 ≤ room → IsTail all ts → typed_with inner casts opening room s ts ≡ done x →
+    typed_sound : (casts : Bool) (opening room : ℕ) (s : HeldScopes) (ts : List Lexeme) (x : Found Expr) → 1 ≤ room
+        → IsTail all ts → typed_with inner casts opening room s ts ≡ done x →
         Takes all (level_form (cast_level casts)) room s (sign_text puncts.OpenParen opening ts) x
     unfolding typed_with
     typed_sound casts opening room s ts x least tail e =
@@ -266,7 +282,8 @@ module _ (all : List Lexeme) where
         ap (sign_text puncts.OpenParen opening) (i.spelled ∙ ap (λ (k : List Lexeme). spec_words_text all a.0.tree.words (some_declr_text all a.0.tree.declr k)) q.spelled) in
         rw is (typed_behind_sound casts opening a.0.tree b.0.tree room s b.0.scopes b.0.rest x (record { fits = i.fits; named = i.named ∙ ap Some (sym q.same); low = i.low }) least q.left b.2)
 
-    statement_sound : (opening room : ℕ) (s : HeldScopes) (ts : List Lexeme) (x : Found Expr) → 1 ≤ room → IsTail all ts → statement_with inner opening room s ts ≡ done x →
+    statement_sound : (opening room : ℕ) (s : HeldScopes) (ts : List Lexeme) (x : Found Expr) → 1 ≤ room → IsTail all ts
+        → statement_with inner opening room s ts ≡ done x →
         Takes all (level_form 15) room s (sign_text puncts.OpenParen opening ts) x
     unfolding statement_with
     statement_sound opening room s ts x least tail e =
@@ -283,7 +300,8 @@ module _ (all : List Lexeme) where
           left = q.left;
         }) b.2
 
-    paren_sound : (opening room : ℕ) (s : HeldScopes) (ts : List Lexeme) (x : Found Expr) → 1 ≤ room → IsTail all ts → paren_with inner opening room s ts ≡ done x →
+    paren_sound : (opening room : ℕ) (s : HeldScopes) (ts : List Lexeme) (x : Found Expr) → 1 ≤ room → IsTail all ts
+        → paren_with inner opening room s ts ≡ done x →
         Takes all (level_form 15) room s (sign_text puncts.OpenParen opening ts) x
     unfolding paren_with
     paren_sound opening room s ts x least tail e =
@@ -300,7 +318,8 @@ module _ (all : List Lexeme) where
           left = q.left;
         }) b.2
 
-    opened_by_sound : (casts : Bool) (opening room : ℕ) (s : HeldScopes) (ts : List Lexeme) (x : Found Expr) → 1 ≤ room → IsTail all ts → opened_by inner casts opening room s ts ≡ done x →
+    opened_by_sound : (casts : Bool) (opening room : ℕ) (s : HeldScopes) (ts : List Lexeme) (x : Found Expr) → 1 ≤ room
+        → IsTail all ts → opened_by inner casts opening room s ts ≡ done x →
         Takes all (level_form (cast_level casts)) room s (sign_text puncts.OpenParen opening ts) x
     unfolding opened_by
     opened_by_sound casts opening room s ts x least tail e =
@@ -308,7 +327,8 @@ module _ (all : List Lexeme) where
         lower 15 (cast_level casts) room s (sign_text puncts.OpenParen opening ts) x (above_cast casts)
         (if_ok (is_open_brace (kind_at ts)) e (λ is e. statement_sound opening room s ts x least tail e) (λ is e. paren_sound opening room s ts x least tail e)))
 
-    opened_sound : (casts : Bool) (room : ℕ) (s : HeldScopes) (ts : List Lexeme) (x : Found Expr) → IsTail all ts → kind_at ts ≡ kinds.Punct puncts.OpenParen → opened_with inner casts room s ts ≡ done x →
+    opened_sound : (casts : Bool) (room : ℕ) (s : HeldScopes) (ts : List Lexeme) (x : Found Expr) → IsTail all ts
+        → kind_at ts ≡ kinds.Punct puncts.OpenParen → opened_with inner casts room s ts ≡ done x →
         Takes all (level_form (cast_level casts)) room s ts x
     unfolding opened_with
     opened_sound casts room s ts x tail is e =
@@ -318,7 +338,8 @@ module _ (all : List Lexeme) where
         behind_token all (level_form (cast_level casts)) room (kinds.Punct puncts.OpenParen) s ts a.0 x o
         (opened_by_sound casts a.0.tree room a.0.scopes a.0.rest x (omega (arith, r.0)) o.left a.2)
 
-    prefix_sound : (p : Punct) (reach : Reach) (room : ℕ) (s : HeldScopes) (ts : List Lexeme) (x : Found Expr) → IsTail all ts → kind_at ts ≡ kinds.Punct p → prefix_level p ≡ reach_level reach →
+    prefix_sound : (p : Punct) (reach : Reach) (room : ℕ) (s : HeldScopes) (ts : List Lexeme) (x : Found Expr)
+        → IsTail all ts → kind_at ts ≡ kinds.Punct p → prefix_level p ≡ reach_level reach →
         prefix_with inner p reach room s ts ≡ done x → Takes all (level_form 14) room s ts x
     unfolding prefix_with
     prefix_sound p reach room s ts x tail is level e =
@@ -335,7 +356,8 @@ module _ (all : List Lexeme) where
           left = i.left;
         })
 
-    extension_sound : (room : ℕ) (s : HeldScopes) (ts : List Lexeme) (x : Found Expr) → IsTail all ts → kind_at ts ≡ kinds.Keyword keywords.Extension → extension_with inner room s ts ≡ done x →
+    extension_sound : (room : ℕ) (s : HeldScopes) (ts : List Lexeme) (x : Found Expr) → IsTail all ts
+        → kind_at ts ≡ kinds.Keyword keywords.Extension → extension_with inner room s ts ≡ done x →
         Takes all (level_form 14) room s ts x
     unfolding extension_with
     extension_sound room s ts x tail is e =
@@ -352,7 +374,8 @@ module _ (all : List Lexeme) where
           left = i.left;
         })
 
-    part_sound : (room : ℕ) (s : HeldScopes) (ts : List Lexeme) (x : Found Expr) → IsTail all ts → kind_at ts ≡ kinds.Keyword keywords.Part → part_with inner room s ts ≡ done x →
+    part_sound : (room : ℕ) (s : HeldScopes) (ts : List Lexeme) (x : Found Expr) → IsTail all ts
+        → kind_at ts ≡ kinds.Keyword keywords.Part → part_with inner room s ts ≡ done x →
         Takes all (level_form 14) room s ts x
     unfolding part_with
     part_sound room s ts x tail is e =
@@ -369,7 +392,8 @@ module _ (all : List Lexeme) where
           left = i.left;
         })
 
-    label_use_sound : (room : ℕ) (s : HeldScopes) (ts : List Lexeme) (x : Found Expr) → IsTail all ts → kind_at ts ≡ kinds.Punct puncts.AmpersandAmpersand → label_use_with inner room s ts ≡ done x →
+    label_use_sound : (room : ℕ) (s : HeldScopes) (ts : List Lexeme) (x : Found Expr) → IsTail all ts
+        → kind_at ts ≡ kinds.Punct puncts.AmpersandAmpersand → label_use_with inner room s ts ≡ done x →
         Takes all (level_form 14) room s ts x
     unfolding label_use_with
     label_use_sound room s ts x tail is e =
@@ -389,7 +413,8 @@ module _ (all : List Lexeme) where
         })) (λ wide e. absurd cc)
 
     module _ (word : Word) (kind : is_sizeof word.keyword ≡ true) where
-      sizeof_value_sound : (room : ℕ) (s : HeldScopes) (ts : List Lexeme) (x : Found Expr) → 1 ≤ room → IsTail all ts → sizeof_value_with inner word room s ts ≡ done x →
+      sizeof_value_sound : (room : ℕ) (s : HeldScopes) (ts : List Lexeme) (x : Found Expr) → 1 ≤ room → IsTail all ts
+          → sizeof_value_with inner word room s ts ≡ done x →
           Takes all (level_form 14) room s (word_text word ts) x
       unfolding sizeof_value_with
       sizeof_value_sound room s ts x least tail e =
@@ -403,7 +428,8 @@ module _ (all : List Lexeme) where
             left = i.left;
           })
 
-      sizeof_typed_sound : (opening : ℕ) (t : TypeName) (closing room : ℕ) (s0 s : HeldScopes) (ts : List Lexeme) (x : Found Expr) → TypedAt (room - 1) s0 t s → 1 ≤ room → IsTail all ts →
+      sizeof_typed_sound : (opening : ℕ) (t : TypeName) (closing room : ℕ) (s0 s : HeldScopes) (ts : List Lexeme) (x : Found Expr)
+          → TypedAt (room - 1) s0 t s → 1 ≤ room → IsTail all ts →
           sizeof_typed inner word opening t closing room s ts ≡ done x → Takes all (level_form 14) room s0 (word_text word (typed_text opening t closing ts)) x
       unfolding sizeof_typed
       sizeof_typed_sound opening t closing room s0 s ts x typed least tail e =
@@ -426,7 +452,8 @@ module _ (all : List Lexeme) where
             left = tail;
           }))
 
-      sizeof_type_sound : (room : ℕ) (s : HeldScopes) (ts : List Lexeme) (x : Found Expr) → 1 ≤ room → IsTail all ts → kind_at ts ≡ kinds.Punct puncts.OpenParen → sizeof_type_with inner word room s ts ≡ done x →
+      sizeof_type_sound : (room : ℕ) (s : HeldScopes) (ts : List Lexeme) (x : Found Expr) → 1 ≤ room → IsTail all ts
+          → kind_at ts ≡ kinds.Punct puncts.OpenParen → sizeof_type_with inner word room s ts ≡ done x →
           Takes all (level_form 14) room s (word_text word ts) x
       unfolding sizeof_type_with
       sizeof_type_sound room s ts x least tail is e =
@@ -441,7 +468,8 @@ module _ (all : List Lexeme) where
           rw spelled (sizeof_typed_sound a.0.tree b.0.tree c.0.tree room s c.0.scopes c.0.rest x
           (record { fits = i.fits; named = through (λ s. behind (spec_words_scopes b.0.tree.words s) (some_declr_scopes None b.0.tree.declr)) o.same i.named q.same; low = i.low }) least q.left c.2)
 
-      sizeof_behind_sound : (room : ℕ) (s : HeldScopes) (ts : List Lexeme) (x : Found Expr) → 1 ≤ room → IsTail all ts → sizeof_behind inner word room s ts ≡ done x →
+      sizeof_behind_sound : (room : ℕ) (s : HeldScopes) (ts : List Lexeme) (x : Found Expr) → 1 ≤ room → IsTail all ts
+          → sizeof_behind inner word room s ts ≡ done x →
           Takes all (level_form 14) room s (word_text word ts) x
       unfolding sizeof_behind
       sizeof_behind_sound room s ts x least tail e =
@@ -449,7 +477,8 @@ module _ (all : List Lexeme) where
           if_ok (begins_specs s (kind_at (behind_first ts))) (fits_ok _ _ _ e).1 (λ begun e. sizeof_type_sound room s ts x least tail (open_paren_kind (kind_at ts) is) e) (λ begun e. sizeof_value_sound room s ts x least tail e))
           (λ is e. sizeof_value_sound room s ts x least tail e)
 
-    sizeof_sound : (keyword : Keyword) (room : ℕ) (s : HeldScopes) (ts : List Lexeme) (x : Found Expr) → IsTail all ts → kind_at ts ≡ kinds.Keyword keyword → is_sizeof keyword ≡ true →
+    sizeof_sound : (keyword : Keyword) (room : ℕ) (s : HeldScopes) (ts : List Lexeme) (x : Found Expr) → IsTail all ts
+        → kind_at ts ≡ kinds.Keyword keyword → is_sizeof keyword ≡ true →
         sizeof_with inner keyword room s ts ≡ done x → Takes all (level_form 14) room s ts x
     unfolding sizeof_with
     sizeof_sound keyword room s ts x tail is kind e =
@@ -466,10 +495,12 @@ module _ (all : List Lexeme) where
     primary_fifteen = omega arith
 
     -- scopes through two parts
-    behind_two : (f g h : HeldScopes → Option HeldScopes) (s t u v : HeldScopes) → f s ≡ Some t → behind (g t) h ≡ Some u → u ≡ v → behind (behind (f s) g) h ≡ Some v
+    behind_two : (f g h : HeldScopes → Option HeldScopes) (s t u v : HeldScopes) → f s ≡ Some t
+        → behind (g t) h ≡ Some u → u ≡ v → behind (behind (f s) g) h ≡ Some v
     behind_two f g h s t u v p q same = rw p (q ∙ ap Some same)
 
-    va_arg_sound : (room : ℕ) (s : HeldScopes) (ts : List Lexeme) (x : Found Expr) → IsTail all ts → kind_at ts ≡ kinds.Keyword keywords.VaArg → va_arg_with inner room s ts ≡ done x →
+    va_arg_sound : (room : ℕ) (s : HeldScopes) (ts : List Lexeme) (x : Found Expr) → IsTail all ts
+        → kind_at ts ≡ kinds.Keyword keywords.VaArg → va_arg_with inner room s ts ≡ done x →
         Takes all (level_form 14) room s ts x
     unfolding va_arg_with
     va_arg_sound room s ts x tail is e =
@@ -501,7 +532,8 @@ module _ (all : List Lexeme) where
         two_low h k room a b c = omega (arith, a, b, c)
 
     -- two operands
-    va_two_sound : (make : ℕ → ℕ → Expr → ℕ → Expr → ℕ → Expr) (keyword : Keyword) → ((a b c d : ℕ) (e f : Expr) (k : List Lexeme) →
+    va_two_sound : (make : ℕ → ℕ → Expr → ℕ → Expr → ℕ → Expr) (keyword : Keyword)
+        → ((a b c d : ℕ) (e f : Expr) (k : List Lexeme) →
         keyword_text keyword a (sign_text puncts.OpenParen b (expr_text all e (sign_text puncts.Comma c (expr_text all f (sign_text puncts.CloseParen d k))))) ≡ expr_text all (make a b e c f d) k) →
         ((a b c d : ℕ) (e f : Expr) → IsExpr all e → IsExpr all f → 1 ≤ expr_level e → 1 ≤ expr_level f → IsExpr all (make a b e c f d) × (15 ≤ expr_level (make a b e c f d))) →
         ((a b c d : ℕ) (e f : Expr) (s : HeldScopes) → expr_scopes (make a b e c f d) s ≡ behind (expr_scopes e s) (expr_scopes f)) →
@@ -541,13 +573,16 @@ module _ (all : List Lexeme) where
     dot_kind kind e = absurd cc
 
     -- a step begins with a point or a bracket; the reader of one is asked at such a token alone
-    desig_kind : (kind : TokenKind) → begins_desig kind ≡ true → is_dot kind ≡ false → kind ≡ kinds.Punct puncts.OpenBracket
+    desig_kind : (kind : TokenKind) → begins_desig kind ≡ true → is_dot kind ≡ false
+        → kind ≡ kinds.Punct puncts.OpenBracket
     desig_kind (kinds.Punct puncts.OpenBracket) e f = refl
     desig_kind (kinds.Punct puncts.Dot) e f = absurd cc
     desig_kind kind e f = absurd cc
 
     -- before each step stands a token that begins one
-    step_taken : (room : ℕ) (s : HeldScopes) (ts : List Lexeme) (x : Found Desig) → 1 ≤ room → IsTail all ts → begins_desig (kind_at ts) ≡ true → step_with inner room s ts ≡ done x → Takes all (step_form all) (room - 1) s ts x
+    step_taken : (room : ℕ) (s : HeldScopes) (ts : List Lexeme) (x : Found Desig) → 1 ≤ room → IsTail all ts
+        → begins_desig (kind_at ts) ≡ true → step_with inner room s ts ≡ done x
+        → Takes all (step_form all) (room - 1) s ts x
     unfolding step_with
     step_taken room s ts x least tail begun e =
         if_ok (is_dot (kind_at ts)) e (λ is e.
@@ -576,7 +611,8 @@ module _ (all : List Lexeme) where
           left = q.left;
         }))
 
-    offset_sound : (room : ℕ) (s : HeldScopes) (ts : List Lexeme) (x : Found Expr) → IsTail all ts → kind_at ts ≡ kinds.Keyword keywords.Offsetof → offset_with inner room s ts ≡ done x →
+    offset_sound : (room : ℕ) (s : HeldScopes) (ts : List Lexeme) (x : Found Expr) → IsTail all ts
+        → kind_at ts ≡ kinds.Keyword keywords.Offsetof → offset_with inner room s ts ≡ done x →
         Takes all (level_form 14) room s ts x
     unfolding offset_with
     offset_sound room s ts x tail is e =
@@ -613,7 +649,8 @@ module _ (all : List Lexeme) where
         two_low : (h k room : ℕ) → 3 ≤ room → h ≤ room - 1 → k ≤ room - 1 → max h k + 1 ≤ room
         two_low h k room a b c = omega (arith, a, b, c)
 
-    compat_sound : (room : ℕ) (s : HeldScopes) (ts : List Lexeme) (x : Found Expr) → IsTail all ts → kind_at ts ≡ kinds.Keyword keywords.Compatible → compat_with inner room s ts ≡ done x →
+    compat_sound : (room : ℕ) (s : HeldScopes) (ts : List Lexeme) (x : Found Expr) → IsTail all ts
+        → kind_at ts ≡ kinds.Keyword keywords.Compatible → compat_with inner room s ts ≡ done x →
         Takes all (level_form 14) room s ts x
     unfolding compat_with
     compat_sound room s ts x tail is e =
@@ -645,7 +682,8 @@ module _ (all : List Lexeme) where
         two_low : (h k room : ℕ) → 3 ≤ room → h ≤ room - 1 → k ≤ room - 1 → max h k + 1 ≤ room
         two_low h k room a b c = omega (arith, a, b, c)
 
-    choose_sound : (room : ℕ) (s : HeldScopes) (ts : List Lexeme) (x : Found Expr) → IsTail all ts → kind_at ts ≡ kinds.Keyword keywords.Choose → choose_with inner room s ts ≡ done x →
+    choose_sound : (room : ℕ) (s : HeldScopes) (ts : List Lexeme) (x : Found Expr) → IsTail all ts
+        → kind_at ts ≡ kinds.Keyword keywords.Choose → choose_with inner room s ts ≡ done x →
         Takes all (level_form 14) room s ts x
     unfolding choose_with
     choose_sound room s ts x tail is e =
@@ -677,7 +715,8 @@ module _ (all : List Lexeme) where
           left = l.left;
         }) v.2)
       where
-        three_low : (h k l room : ℕ) → 2 ≤ room → h ≤ room - 1 → k ≤ room - 1 → l ≤ room - 1 → max h (max k l) + 1 ≤ room
+        three_low : (h k l room : ℕ) → 2 ≤ room → h ≤ room - 1 → k ≤ room - 1 → l ≤ room - 1
+            → max h (max k l) + 1 ≤ room
         three_low h k l room a b c d = omega (arith, a, b, c, d)
 
     -- an association
@@ -721,7 +760,8 @@ module _ (all : List Lexeme) where
         two_low : (h k room : ℕ) → 3 ≤ room → h ≤ room - 1 → k ≤ room - 1 → max h k + 1 ≤ room
         two_low h k room a b c = omega (arith, a, b, c)
 
-    next_assoc_sound : (room comma : ℕ) (s : HeldScopes) (ts : List Lexeme) (x : Found (Next Assoc ⊥)) → IsTail all ts → next_assoc inner room comma s ts ≡ done x →
+    next_assoc_sound : (room comma : ℕ) (s : HeldScopes) (ts : List Lexeme) (x : Found (Next Assoc ⊥)) → IsTail all ts
+        → next_assoc inner room comma s ts ≡ done x →
         NextTakes all (assoc_form all) no_ending room comma s ts x.tree x.scopes x.rest
     unfolding next_assoc
     next_assoc_sound room comma s ts x tail e =
@@ -730,11 +770,13 @@ module _ (all : List Lexeme) where
         (assoc_sound room s ts a.0 tail a.1, assoc_shrinks all tokens n inner laws room s ts a.0 a.1)
 
     -- a comma has the number before that of the token behind it
-    comma_separates : (token : ℕ) (ts : List Lexeme) → IsTail all (sign_text puncts.Comma token ts) → 0 < length ts → sign_text puncts.Comma token ts ≡ separated ts
+    comma_separates : (token : ℕ) (ts : List Lexeme) → IsTail all (sign_text puncts.Comma token ts) → 0 < length ts
+        → sign_text puncts.Comma token ts ≡ separated ts
     comma_separates token [] tail more = absurd (omega (arith, more))
     comma_separates token (u ∷ ts) tail more = comma_is all numbered (record { kind = kinds.Punct puncts.Comma; at = token }) u ts tail refl
 
-    generic_sound : (room : ℕ) (s : HeldScopes) (ts : List Lexeme) (x : Found Expr) → IsTail all ts → kind_at ts ≡ kinds.Keyword keywords.Generic → generic_with inner room s ts ≡ done x →
+    generic_sound : (room : ℕ) (s : HeldScopes) (ts : List Lexeme) (x : Found Expr) → IsTail all ts
+        → kind_at ts ≡ kinds.Keyword keywords.Generic → generic_with inner room s ts ≡ done x →
         Takes all (level_form 14) room s ts x
     unfolding generic_with
     generic_sound room s ts x tail is e =
@@ -765,7 +807,8 @@ module _ (all : List Lexeme) where
           left = l.left;
         }) g.2)
       where
-        by_items : (xs : List Assoc) (o : Option ⊥) (ts k : List Lexeme) → HasItem (assoc_form all) no_ending xs → ts ≡ commas_text (assoc_form all) no_ending xs (ending_text (assoc_form all) no_ending o k) →
+        by_items : (xs : List Assoc) (o : Option ⊥) (ts k : List Lexeme) → HasItem (assoc_form all) no_ending xs
+            → ts ≡ commas_text (assoc_form all) no_ending xs (ending_text (assoc_form all) no_ending o k) →
             separated ts ≡ assocs_text all (assocs_from xs) k
         by_items [] o ts k some is = absurd some
         by_items (x ∷ xs) None ts k some is = ap separated is ∙ assocs_are all (x ∷ xs) k
@@ -774,13 +817,15 @@ module _ (all : List Lexeme) where
         two_low : (h k room : ℕ) → 3 ≤ room → h ≤ room - 1 → k ≤ room - 1 → max h k + 1 ≤ room
         two_low h k room a b c = omega (arith, a, b, c)
 
-    name_sound : (name room : ℕ) (s : HeldScopes) (ts : List Lexeme) (x : Found Expr) → IsTail all ts → kind_at ts ≡ kinds.Name name → name_with inner name room s ts ≡ done x →
+    name_sound : (name room : ℕ) (s : HeldScopes) (ts : List Lexeme) (x : Found Expr) → IsTail all ts
+        → kind_at ts ≡ kinds.Name name → name_with inner name room s ts ≡ done x →
         Takes all (level_form 14) room s ts x
     name_sound name room s ts x tail is e =
         if_ok (names_type s name) e (λ no e. absurd cc) (λ no e.
         lower 15 14 room s ts x unary_fifteen (primary_taken (λ token. name_use token name) (kinds.Name name) room s ts x tail is (λ token k. refl) (λ token. (tt, primary_fifteen)) (λ token. rw no refl) (λ token. refl) e))
 
-    unary_by_sound : (o : Opening) (room : ℕ) (s : HeldScopes) (ts : List Lexeme) (x : Found Expr) → IsTail all ts → IsOpening o (kind_at ts) → unary_by inner o room s ts ≡ done x → Takes all (level_form 14) room s ts x
+    unary_by_sound : (o : Opening) (room : ℕ) (s : HeldScopes) (ts : List Lexeme) (x : Found Expr) → IsTail all ts
+        → IsOpening o (kind_at ts) → unary_by inner o room s ts ≡ done x → Takes all (level_form 14) room s ts x
     unfolding unary_by
     unary_by_sound (openings.Prefix p reach) room s ts x tail is e = prefix_sound p reach room s ts x tail is.0 is.1 e
     unary_by_sound (openings.Sizeof keyword) room s ts x tail is e = sizeof_sound keyword room s ts x tail is.0 is.1 e

@@ -38,15 +38,18 @@ expr_high (name_use token name) = omega arith
 expr_high e = omega arith
 
 module _ (all : List Lexeme) where
-  extended_text : (numbers : List ℕ) (e : Expr) (k : List Lexeme) → extensions_text numbers (expr_text all e k) ≡ expr_text all (extended numbers e) k
+  extended_text : (numbers : List ℕ) (e : Expr) (k : List Lexeme)
+      → extensions_text numbers (expr_text all e k) ≡ expr_text all (extended numbers e) k
   extended_text [] e k = refl
   extended_text (token ∷ numbers) e k = ap (λ (k : List Lexeme). keyword_text Extension token k) (extended_text numbers e k)
 
-  extended_fits : (numbers : List ℕ) (e : Expr) → IsExpr all e → 13 ≤ expr_level e → IsExpr all (extended numbers e) × (13 ≤ expr_level (extended numbers e))
+  extended_fits : (numbers : List ℕ) (e : Expr) → IsExpr all e → 13 ≤ expr_level e
+      → IsExpr all (extended numbers e) × (13 ≤ expr_level (extended numbers e))
   extended_fits [] e h l = (h, l)
   extended_fits (token ∷ numbers) e h l = (extended_fits numbers e h l, omega arith)
 
-  extended_scopes : (numbers : List ℕ) (e : Expr) (s : HeldScopes) → expr_scopes (extended numbers e) s ≡ expr_scopes e s
+  extended_scopes : (numbers : List ℕ) (e : Expr) (s : HeldScopes)
+      → expr_scopes (extended numbers e) s ≡ expr_scopes e s
   extended_scopes [] e s = refl
   extended_scopes (token ∷ numbers) e s = extended_scopes numbers e s
 
@@ -67,7 +70,8 @@ module _ (all : List Lexeme) where
     sum_low : (n h h' room : ℕ) → h' ≡ n + h → h ≤ room - n → 1 ≤ h → h' ≤ room
     sum_low n h h' room a b c = omega (arith, a, b, c)
 
-    operand_sound : (begun : Begun) (room : ℕ) (s : HeldScopes) (ts : List Lexeme) (x : Found Expr) → IsTail all ts → operand_with inner begun room s ts ≡ done x → TakesOperand begun room s ts x
+    operand_sound : (begun : Begun) (room : ℕ) (s : HeldScopes) (ts : List Lexeme) (x : Found Expr) → IsTail all ts
+        → operand_with inner begun room s ts ≡ done x → TakesOperand begun room s ts x
     unfolding operand_with
     operand_sound nothing room s ts x tail e =
         let i = cast_sound all numbered tokens n inner laws room s ts x tail e in
@@ -123,8 +127,10 @@ module _ (all : List Lexeme) where
     deeper d h room a b = omega (arith, a, b)
 
     -- an operator and the operand behind it
-    pushed : (reach : Reach) (room : ℕ) (s : HeldScopes) (ts : List Lexeme) (row : Row) (t : HeldScopes) (k : List Lexeme) → TakesRow reach room s ts row t k →
-        (op : Operator) (token : ℕ) (e : Expr) (u v : HeldScopes) (k' : List Lexeme) → SettlesTo all room reach (operator_level op) (left_level op) row.waiting row.last (settled row (operator_level op)) →
+    pushed : (reach : Reach) (room : ℕ) (s : HeldScopes) (ts : List Lexeme) (row : Row) (t : HeldScopes) (k : List Lexeme)
+        → TakesRow reach room s ts row t k →
+        (op : Operator) (token : ℕ) (e : Expr) (u v : HeldScopes) (k' : List Lexeme)
+        → SettlesTo all room reach (operator_level op) (left_level op) row.waiting row.last (settled row (operator_level op)) →
         IsOperator op → IsMiddle all op → reach_level reach ≤ operator_level op →
         depth_of (settled row (operator_level op)) + expr_height (settled row (operator_level op)).last ≤ room → depth_of (settled row (operator_level op)) + operator_height op ≤ room →
         k ≡ operator_text all op token (expr_text all e k') → operator_scopes op t ≡ Some u → expr_scopes e u ≡ Some v → IsExpr all e → 13 ≤ expr_level e →
@@ -141,8 +147,10 @@ module _ (all : List Lexeme) where
       left = left;
     }
 
-    settled_row : (reach : Reach) (room : ℕ) (s : HeldScopes) (ts : List Lexeme) (row : Row) (t : HeldScopes) (k : List Lexeme) → TakesRow reach room s ts row t k →
-        (level least : ℕ) → ((op : Operator) → IsOperator op → level < right_level op → least ≤ operator_level op) → least ≤ 13 →
+    settled_row : (reach : Reach) (room : ℕ) (s : HeldScopes) (ts : List Lexeme) (row : Row) (t : HeldScopes) (k : List Lexeme)
+        → TakesRow reach room s ts row t k →
+        (level least : ℕ) → ((op : Operator) → IsOperator op → level < right_level op → least ≤ operator_level op)
+        → least ≤ 13 →
         SettlesTo all room reach level least row.waiting row.last (settled row level)
     settled_row reach room s ts row t k h level least rises small =
         settles all room reach level least rises row.waiting row.last h.stack h.fits (accepts_cast row.waiting (expr_level row.last) h.level) (at_least least (expr_level row.last) small h.level) h.reaches h.stack_low h.low
@@ -151,7 +159,8 @@ module _ (all : List Lexeme) where
         at_least a b p q = omega (arith, p, q)
 
     -- what is joined before a binary operator, a conditional, a comma is at least of the level that it asks for
-    rises_binary : (p : Punct) (op : Operator) → IsOperator op → binary_level p + 2 < right_level op → binary_level p + 2 ≤ operator_level op
+    rises_binary : (p : Punct) (op : Operator) → IsOperator op → binary_level p + 2 < right_level op
+        → binary_level p + 2 ≤ operator_level op
     rises_binary p comma i h = omega (arith, h)
     rises_binary p (assign q) i h = omega (arith, h)
     rises_binary p (cond middle colon) i h = omega (arith, h)
@@ -170,8 +179,11 @@ module _ (all : List Lexeme) where
     no_middle d h room a = omega (arith, a)
 
     -- one more operator without a middle
-    operation_taken : (reach : Reach) (room : ℕ) (s : HeldScopes) (ts : List Lexeme) (row : Row) (t : HeldScopes) (k : List Lexeme) → TakesRow reach room s ts row t k →
-        (op : Operator) (p : Punct) → ((token : ℕ) (k : List Lexeme) → operator_text all op token k ≡ sign_text p token k) → operator_height op ≡ 0 → ((s : HeldScopes) → operator_scopes op s ≡ Some s) →
+    operation_taken : (reach : Reach) (room : ℕ) (s : HeldScopes) (ts : List Lexeme) (row : Row) (t : HeldScopes) (k : List Lexeme)
+        → TakesRow reach room s ts row t k →
+        (op : Operator) (p : Punct)
+        → ((token : ℕ) (k : List Lexeme) → operator_text all op token k ≡ sign_text p token k) → operator_height op ≡ 0
+        → ((s : HeldScopes) → operator_scopes op s ≡ Some s) →
         SettlesTo all room reach (operator_level op) (left_level op) row.waiting row.last (settled row (operator_level op)) → IsOperator op → IsMiddle all op → reach_level reach ≤ operator_level op →
         kind_at k ≡ kinds.Punct p → (x : Found Row) → operation_with inner op (settled row (operator_level op)) room t k ≡ done x → TakesRow reach room s ts x.tree x.scopes x.rest
     operation_taken reach room s ts row t k h op p text high scopes settle is_op is_middle reached is x e =
@@ -185,7 +197,8 @@ module _ (all : List Lexeme) where
         (subst (λ (m : ℕ). depth_of (settled row (operator_level op)) + m ≤ room) (sym high) (no_middle (depth_of (settled row (operator_level op))) (expr_height (settled row (operator_level op)).last) room r.0))
         (o.spelled ∙ ap (sign_text p a.0.tree) i.spelled ∙ sym (text a.0.tree (expr_text all b.0.tree b.0.rest))) (scopes t) (through (expr_scopes b.0.tree) o.same i.named refl) i.fits.0 i.fits.1 i.low i.left)
 
-    question_taken : (reach : Reach) (room : ℕ) (s : HeldScopes) (ts : List Lexeme) (row : Row) (t : HeldScopes) (k : List Lexeme) → TakesRow reach room s ts row t k → reach_level reach ≤ 2 →
+    question_taken : (reach : Reach) (room : ℕ) (s : HeldScopes) (ts : List Lexeme) (row : Row) (t : HeldScopes) (k : List Lexeme)
+        → TakesRow reach room s ts row t k → reach_level reach ≤ 2 →
         kind_at k ≡ kinds.Punct puncts.Question → (x : Found Row) → question_with inner (settled row 2) room t k ≡ done x → TakesRow reach room s ts x.tree x.scopes x.rest
     question_taken reach room s ts row t k h reached is x e =
         let r = fits_ok _ _ _ e in
@@ -232,18 +245,23 @@ module _ (all : List Lexeme) where
     binary_reach m k h = omega (arith, h)
 
     -- one more operator
-    operation_turn_taken : (reach : Reach) → is_row reach ≡ true → (room : ℕ) (s : HeldScopes) (ts : List Lexeme) (row : Row) (t : HeldScopes) (k : List Lexeme) (x : Found Row) → TakesRow reach room s ts row t k →
+    operation_turn_taken : (reach : Reach) → is_row reach ≡ true
+        → (room : ℕ) (s : HeldScopes) (ts : List Lexeme) (row : Row) (t : HeldScopes) (k : List Lexeme) (x : Found Row)
+        → TakesRow reach room s ts row t k →
         operation_turn inner reach room row t k ≡ Some (done x) → TakesRow reach room s ts x.tree x.scopes x.rest
     operation_turn_taken reach rows room s ts row t k x h e = by_infix (infix_of (kind_at k)) (infix_is (kind_at k)) e
       where
-        by_infix : (f : Infix) → IsInfix f (kind_at k) → operation_by inner reach room f row t k ≡ Some (done x) → TakesRow reach room s ts x.tree x.scopes x.rest
+        by_infix : (f : Infix) → IsInfix f (kind_at k) → operation_by inner reach room f row t k ≡ Some (done x)
+            → TakesRow reach room s ts x.tree x.scopes x.rest
         by_infix infixes.Comma is e = if_ok (takes_comma reach) e (λ takes e.
             operation_taken reach room s ts row t k h comma puncts.Comma (λ token k. refl) refl (λ s. refl) (settled_row reach room s ts row t k h 0 0 (rises_none 0) (omega arith)) tt tt (comma_reach reach takes) is x (some_is all tokens n inner laws e)) (λ takes e. absurd cc)
         by_infix (infixes.Assign p) is e = if_ok (nat_le 14 (expr_level (settled row 1).last)) e (λ target e. if_ok (takes_assign reach) e (λ takes e.
             operation_taken reach room s ts row t k h (assign p) p (λ token k. refl) refl (λ s. refl) (with_target (settled_row reach room s ts row t k h 1 0 (rises_none 1) (omega arith)) (leb-true 14 (expr_level (settled row 1).last) target))
             is.1 tt (assign_reach reach takes) is.0 x (some_is all tokens n inner laws e)) (λ takes e. absurd cc)) (λ target e. absurd cc)
           where
-            with_target : SettlesTo all room reach 1 0 row.waiting row.last (settled row 1) → 14 ≤ expr_level (settled row 1).last → SettlesTo all room reach 1 14 row.waiting row.last (settled row 1)
+            with_target : SettlesTo all room reach 1 0 row.waiting row.last (settled row 1)
+                → 14 ≤ expr_level (settled row 1).last
+                → SettlesTo all room reach 1 14 row.waiting row.last (settled row 1)
             with_target w target = record { same_text = w.same_text; same_scopes = w.same_scopes; stack = w.stack; fits = w.fits; accepts = w.accepts; level = target; reaches = w.reaches; stack_low = w.stack_low; low = w.low }
         by_infix infixes.Question is e = question_taken reach room s ts row t k h (row_reach reach rows) is x (some_is all tokens n inner laws e)
         by_infix (infixes.Binary p) is e =
@@ -254,7 +272,9 @@ module _ (all : List Lexeme) where
             small p = let r : right_level (binary p) ≤ 13 = right_thirteen (binary p) in omega (arith, r)
         by_infix infixes.Nothing is e = absurd cc
 
-    row_sound : (reach : Reach) (begun : Begun) (room : ℕ) → is_row reach ≡ true → (s : HeldScopes) (ts : List Lexeme) (x : Found Expr) → IsTail all ts → row_with inner reach begun room s ts ≡ done x →
+    row_sound : (reach : Reach) (begun : Begun) (room : ℕ) → is_row reach ≡ true
+        → (s : HeldScopes) (ts : List Lexeme) (x : Found Expr) → IsTail all ts
+        → row_with inner reach begun room s ts ≡ done x →
         TakesBegun all reach begun room s ts x
     unfolding row_with
     row_sound reach begun room rows s ts x tail e =
@@ -281,10 +301,12 @@ module _ (all : List Lexeme) where
         row_level : (m k : ℕ) → m ≤ 2 → 13 ≤ k → m ≤ k
         row_level m k a b = omega (arith, a, b)
 
-    plain : (reach : Reach) (room : ℕ) (s : HeldScopes) (ts : List Lexeme) (x : Found Expr) → TakesBegun all reach nothing room s ts x → Takes all (expr_form all reach) room s ts x
+    plain : (reach : Reach) (room : ℕ) (s : HeldScopes) (ts : List Lexeme) (x : Found Expr)
+        → TakesBegun all reach nothing room s ts x → Takes all (expr_form all reach) room s ts x
     plain reach room s ts x h = record { spelled = h.spelled; fits = h.fits; named = h.named; low = h.low; left = h.left }
 
-    pub expr_sound : (reach : Reach) (room : ℕ) → IsSound all (expr_form all reach) room (expr_with inner reach nothing room)
+    pub expr_sound : (reach : Reach) (room : ℕ)
+        → IsSound all (expr_form all reach) room (expr_with inner reach nothing room)
     unfolding expr_with operand_with
     expr_sound Whole room s ts x tail e = plain Whole room s ts x (row_sound Whole nothing room refl s ts x tail e)
     expr_sound Assigned room s ts x tail e = plain Assigned room s ts x (row_sound Assigned nothing room refl s ts x tail e)
@@ -292,7 +314,9 @@ module _ (all : List Lexeme) where
     expr_sound Castable room s ts x tail e = cast_sound all numbered tokens n inner laws room s ts x tail e
     expr_sound Unary room s ts x tail e = unary_sound all numbered tokens n inner laws room s ts x tail e
 
-    pub expr_begun_sound : (reach : Reach) (begun : Begun) (room : ℕ) → is_row reach ≡ true → (s : HeldScopes) (ts : List Lexeme) (x : Found Expr) → IsTail all ts → expr_with inner reach begun room s ts ≡ done x →
+    pub expr_begun_sound : (reach : Reach) (begun : Begun) (room : ℕ) → is_row reach ≡ true
+        → (s : HeldScopes) (ts : List Lexeme) (x : Found Expr) → IsTail all ts
+        → expr_with inner reach begun room s ts ≡ done x →
         TakesBegun all reach begun room s ts x
     unfolding expr_with
     expr_begun_sound Whole begun room rows s ts x tail e = row_sound Whole begun room refl s ts x tail e

@@ -25,7 +25,8 @@ joined_with l e = operation l.tree l.operator l.token e
 pub settle_stays : (n : ℕ) (w : Stack) (l : Left) (e : Expr) → right_level l.operator ≤ n → settle_of n (above w l) e ≡ record { below = above w l; last = e }
 settle_stays n w l e h = rw (le-leb (right_level l.operator) n h) refl
 
-pub settle_joins : (n : ℕ) (w : Stack) (l : Left) (e : Expr) → nat_le (right_level l.operator) n ≡ false → settle_of n (above w l) e ≡ settle_of n w (joined_with l e)
+pub settle_joins : (n : ℕ) (w : Stack) (l : Left) (e : Expr) → nat_le (right_level l.operator) n ≡ false
+    → settle_of n (above w l) e ≡ settle_of n w (joined_with l e)
 settle_joins n w l e h = rw h refl
 
 -- no binary operator asks for more than a cast
@@ -84,38 +85,47 @@ module _ (all : List Lexeme) where
   StackReach reach bottom = Unit {0}
   StackReach reach (above w l) = StackReach reach w × (reach_level reach ≤ operator_level l.operator)
 
-  pub finished_text : (w : Stack) (e : Expr) (k : List Lexeme) → expr_text all (finished w e) k ≡ stack_text w (expr_text all e k)
+  pub finished_text : (w : Stack) (e : Expr) (k : List Lexeme)
+      → expr_text all (finished w e) k ≡ stack_text w (expr_text all e k)
   finished_text bottom e k = refl
   finished_text (above w l) e k = finished_text w (joined_with l e) k
 
-  pub finished_fits : (w : Stack) (e : Expr) → AreStack w → IsExpr all e → Accepts w (expr_level e) → IsExpr all (finished w e)
+  pub finished_fits : (w : Stack) (e : Expr) → AreStack w → IsExpr all e → Accepts w (expr_level e)
+      → IsExpr all (finished w e)
   finished_fits bottom e h f a = f
   finished_fits (above w l) e h f a = finished_fits w (joined_with l e) h.0 (h.1, f, h.2, h.3, h.4, a) h.5
 
-  pub finished_scopes : (w : Stack) (e : Expr) (s : HeldScopes) → expr_scopes (finished w e) s ≡ behind (stack_scopes w s) (expr_scopes e)
+  pub finished_scopes : (w : Stack) (e : Expr) (s : HeldScopes)
+      → expr_scopes (finished w e) s ≡ behind (stack_scopes w s) (expr_scopes e)
   finished_scopes bottom e s = refl
   finished_scopes (above w l) e s = finished_scopes w (joined_with l e) s ∙ by_first (stack_scopes w s)
     where
-      by_first : (r : Option HeldScopes) → behind r (expr_scopes (joined_with l e)) ≡ behind (behind (behind r (expr_scopes l.tree)) (operator_scopes l.operator)) (expr_scopes e)
+      by_first : (r : Option HeldScopes)
+          → behind r (expr_scopes (joined_with l e)) ≡ behind (behind (behind r (expr_scopes l.tree)) (operator_scopes l.operator)) (expr_scopes e)
       by_first None = refl
       by_first (Some t) = refl
 
-  one_more : (n h o k room : ℕ) → suc n + h ≤ room → suc n + o ≤ room → suc n + k ≤ room → n + (max h (max o k) + 1) ≤ room
+  one_more : (n h o k room : ℕ) → suc n + h ≤ room → suc n + o ≤ room → suc n + k ≤ room
+      → n + (max h (max o k) + 1) ≤ room
   one_more n h o k room a b c = omega (arith, a, b, c)
 
-  pub finished_low : (room : ℕ) (w : Stack) (e : Expr) → StackLow room w → how_many w + expr_height e ≤ room → expr_height (finished w e) ≤ room
+  pub finished_low : (room : ℕ) (w : Stack) (e : Expr) → StackLow room w → how_many w + expr_height e ≤ room
+      → expr_height (finished w e) ≤ room
   finished_low room bottom e h low = omega (arith, low)
   finished_low room (above w l) e h low =
       finished_low room w (joined_with l e) h.0 (one_more (how_many w) (expr_height l.tree) (operator_height l.operator) (expr_height e) room h.1 h.2 low)
 
-  pub finished_level : (reach : Reach) (w : Stack) (e : Expr) → StackReach reach w → reach_level reach ≤ expr_level e → reach_level reach ≤ expr_level (finished w e)
+  pub finished_level : (reach : Reach) (w : Stack) (e : Expr) → StackReach reach w → reach_level reach ≤ expr_level e
+      → reach_level reach ≤ expr_level (finished w e)
   finished_level reach bottom e h low = low
   finished_level reach (above w l) e h low = finished_level reach w (joined_with l e) h.0 h.1
 
-  -- What is joined before an operator of a level: the same in all but that the newest that still waits accepts the level.
+  -- What is joined before an operator of a level: the same in all but that the newest that still waits accepts the
+  -- level.
   pub record SettlesTo (room : ℕ) (reach : Reach) (n least : ℕ) (w : Stack) (e : Expr) (r : Settled) : Type 0 where
     pub same_text : (k : List Lexeme) → stack_text r.below (expr_text all r.last k) ≡ stack_text w (expr_text all e k)
-    pub same_scopes : (s : HeldScopes) → behind (stack_scopes r.below s) (expr_scopes r.last) ≡ behind (stack_scopes w s) (expr_scopes e)
+    pub same_scopes : (s : HeldScopes)
+        → behind (stack_scopes r.below s) (expr_scopes r.last) ≡ behind (stack_scopes w s) (expr_scopes e)
     pub stack : AreStack r.below
     pub fits : IsExpr all r.last
     pub accepts : Accepts r.below n
@@ -124,7 +134,9 @@ module _ (all : List Lexeme) where
     pub stack_low : StackLow room r.below
     pub low : how_many r.below + expr_height r.last ≤ room
 
-  pub settles : (room : ℕ) (reach : Reach) (n least : ℕ) → ((op : Operator) → IsOperator op → n < right_level op → least ≤ operator_level op) → (w : Stack) (e : Expr) → AreStack w → IsExpr all e → Accepts w (expr_level e) →
+  pub settles : (room : ℕ) (reach : Reach) (n least : ℕ)
+      → ((op : Operator) → IsOperator op → n < right_level op → least ≤ operator_level op) → (w : Stack) (e : Expr)
+      → AreStack w → IsExpr all e → Accepts w (expr_level e) →
       least ≤ expr_level e → StackReach reach w → StackLow room w → how_many w + expr_height e ≤ room → SettlesTo room reach n least w e (settle_of n w e)
   settles room reach n least rises bottom e h f a level reaches lows low =
       record { same_text = λ k. refl; same_scopes = λ s. refl; stack = tt; fits = f; accepts = tt; level = level; reaches = tt; stack_low = tt; low = low }
@@ -136,7 +148,8 @@ module _ (all : List Lexeme) where
       above_it : nat_le (right_level l.operator) n ≡ false → n < right_level l.operator
       above_it is = leb-false (right_level l.operator) n is
 
-      by_test : (b : Bool) → nat_le (right_level l.operator) n ≡ b → (nat_le (right_level l.operator) n ≡ false → SettlesTo room reach n least w (joined_with l e) (settle_of n w (joined_with l e))) →
+      by_test : (b : Bool) → nat_le (right_level l.operator) n ≡ b
+          → (nat_le (right_level l.operator) n ≡ false → SettlesTo room reach n least w (joined_with l e) (settle_of n w (joined_with l e))) →
           SettlesTo room reach n least (above w l) e (settle_of n (above w l) e)
       by_test true is rest =
           subst (SettlesTo room reach n least (above w l) e) (sym (settle_stays n w l e (leb-true (right_level l.operator) n is)))
@@ -155,6 +168,7 @@ module _ (all : List Lexeme) where
             low = t.low;
           })
         where
-          by_first : (r : Option HeldScopes) → behind r (expr_scopes (joined_with l e)) ≡ behind (behind (behind r (expr_scopes l.tree)) (operator_scopes l.operator)) (expr_scopes e)
+          by_first : (r : Option HeldScopes)
+              → behind r (expr_scopes (joined_with l e)) ≡ behind (behind (behind r (expr_scopes l.tree)) (operator_scopes l.operator)) (expr_scopes e)
           by_first None = refl
           by_first (Some t) = refl

@@ -42,7 +42,8 @@ use Rattle.c_reading.proofs.Aims.{begins_named, begins_abstract, FitsRole, First
 -- words of specifiers
 
 -- no mix goes on with a word that is in no basic type
-other_stops : (o : Option Mix) → is_some (elim o [ None ↦ None | Some mix ↦ with_types mix (with_part mix.types parts.Other) ]) ≡ true → ⊥
+other_stops : (o : Option Mix)
+    → is_some (elim o [ None ↦ None | Some mix ↦ with_types mix (with_part mix.types parts.Other) ]) ≡ true → ⊥
 other_stops None e = absurd cc
 other_stops (Some mix) e = by_types mix.types e
   where
@@ -50,14 +51,16 @@ other_stops (Some mix) e = by_types mix.types e
     by_types Named e = absurd cc
     by_types (Words base mark) e = absurd cc
 
-stops : (keyword : Keyword) (words : SpecWords) → part_of keyword ≡ parts.Other → goes_on words (classes.Spells keyword) ≡ true → ⊥
+stops : (keyword : Keyword) (words : SpecWords) → part_of keyword ≡ parts.Other
+    → goes_on words (classes.Spells keyword) ≡ true → ⊥
 stops keyword words other e = by_mix (mix_of words) e
   where
     by_mix : (o : Option Mix) → is_some (then_class o (classes.Spells keyword)) ≡ true → ⊥
     by_mix None e = absurd cc
     by_mix (Some mix) e = other_stops (Some mix) (ap (λ (part : _). is_some (with_types mix (with_part mix.types part))) (sym other) ∙ e)
 
-pub basic_starts : (keyword : Keyword) (words : SpecWords) → goes_on words (classes.Spells keyword) ≡ true → keyword_start keyword ≡ starts.Basic keyword
+pub basic_starts : (keyword : Keyword) (words : SpecWords) → goes_on words (classes.Spells keyword) ≡ true
+    → keyword_start keyword ≡ starts.Basic keyword
 basic_starts keywords.Void words e = refl
 basic_starts keywords.Char words e = refl
 basic_starts keywords.Short words e = refl
@@ -82,7 +85,8 @@ storage_starts keywords.Auto e = refl
 storage_starts keywords.Register e = refl
 storage_starts keyword e = absurd cc
 
-pub qual_starts : (keyword : Keyword) → is_qual keyword ≡ true → not (is_type_former keyword) ≡ true → keyword_start keyword ≡ starts.Word keyword
+pub qual_starts : (keyword : Keyword) → is_qual keyword ≡ true → not (is_type_former keyword) ≡ true
+    → keyword_start keyword ≡ starts.Word keyword
 qual_starts keywords.Const e word = refl
 qual_starts keywords.Volatile e word = refl
 qual_starts keywords.Restrict e word = refl
@@ -95,11 +99,6 @@ qual_starts keyword e word = absurd cc
 abbrev pub former_start : Keyword → SpecStart
 former_start keywords.AtomicType = starts.Atomic
 former_start keyword = starts.Typeof
-
-pub former_starts : (keyword : Keyword) → is_type_former keyword ≡ true → keyword_start keyword ≡ former_start keyword
-former_starts keywords.Typeof e = refl
-former_starts keywords.AtomicType e = refl
-former_starts keyword e = absurd cc
 
 former_some : (keyword : Keyword) → is_start (former_start keyword) ≡ true
 former_some keywords.AtomicType = refl
@@ -160,7 +159,8 @@ pub where_holds : (b : Bool) (s s' : HeldScopes) → where_true b s ≡ Some s' 
 where_holds true s s' e = refl
 where_holds false s s' e = absurd cc
 
-name_starts : (s : HeldScopes) (typed : Bool) (name : ℕ) → names_type s name ≡ true → typed ≡ false → typed_start s typed (starts.Name name) ≡ starts.Name name
+name_starts : (s : HeldScopes) (typed : Bool) (name : ℕ) → names_type s name ≡ true → typed ≡ false
+    → typed_start s typed (starts.Name name) ≡ starts.Name name
 name_starts s typed name is not_typed = rw (is, not_typed) refl
 
 -- no words are a basic type
@@ -181,19 +181,22 @@ type_words_are all no_words h = tt
 type_words_are all (more_words w ws) h = (h.0, type_words_are all ws h.2)
 
 module _ (all : List Lexeme) (numbered : IsNumbered all) (goes : MixesGoOn) where
-  element_start_at : (s : HeldScopes) (typed : Bool) (token : ℕ) (k : List Lexeme) → IsElement (tokens_between all token token) →
+  element_start_at : (s : HeldScopes) (typed : Bool) (token : ℕ) (k : List Lexeme)
+      → IsElement (tokens_between all token token) →
       start_at s typed (kind_at (tokens_between all token token ++ k)) ≡ starts.Element
   element_start_at s typed token k h =
       let e = element_spelled all numbered token h in
       ap (λ (ts : List Lexeme). start_at s typed (kind_at (ts ++ k))) e.1 ∙ ap (typed_start s typed) (element_starts e.0.kind e.3)
 
-  former_typed : (s : HeldScopes) (typed : Bool) (keyword : Keyword) → is_type_former keyword ≡ true → typed_start s typed (keyword_start keyword) ≡ former_start keyword
+  former_typed : (s : HeldScopes) (typed : Bool) (keyword : Keyword) → is_type_former keyword ≡ true
+      → typed_start s typed (keyword_start keyword) ≡ former_start keyword
   former_typed s typed keywords.Typeof e = refl
   former_typed s typed keywords.AtomicType e = refl
   former_typed s typed keyword e = absurd cc
 
   -- the text of a word that fits where it stands begins with what the word does
-  pub word_starts : (s s' : HeldScopes) (typed : Bool) (words : SpecWords) (w : SpecWord) (k : List Lexeme) → IsSpecWord all w → spec_word_scopes w s ≡ Some s' → goes_on words (class_of w) ≡ true →
+  pub word_starts : (s s' : HeldScopes) (typed : Bool) (words : SpecWords) (w : SpecWord) (k : List Lexeme)
+      → IsSpecWord all w → spec_word_scopes w s ≡ Some s' → goes_on words (class_of w) ≡ true →
       (is_name w ≡ true → typed ≡ false) → start_at s typed (kind_at (spec_word_text all w k)) ≡ start_of w
   word_starts s s' typed words (storage w) k fits named on free = ap (typed_start s typed) (storage_starts w.keyword fits)
   word_starts s s' typed words (thread token) k fits named on free = refl
@@ -212,7 +215,8 @@ module _ (all : List Lexeme) (numbered : IsNumbered all) (goes : MixesGoOn) wher
   word_starts s s' typed words (align a) k fits named on free = refl
   word_starts s s' typed words (auto_word token) k fits named on free = refl
 
-  words_begin : (ws : SpecWords) (s s' : HeldScopes) (k : List Lexeme) → IsMix ws → AreSpecWords all ws → spec_words_scopes ws s ≡ Some s' →
+  words_begin : (ws : SpecWords) (s s' : HeldScopes) (k : List Lexeme) → IsMix ws → AreSpecWords all ws
+      → spec_words_scopes ws s ≡ Some s' →
       begins_specs s (kind_at (spec_words_text all ws k)) ≡ true
   words_begin no_words s s' k mix fits named = absurd (no_mix_of_none no_words refl mix)
   words_begin (more_words w ws) s s' k mix fits named =
@@ -275,23 +279,27 @@ rest_plain : (a b : Bool) → (a || b) ≡ false → b ≡ false
 rest_plain true b h = absurd cc
 rest_plain false b h = h
 
-pub role_stands : (all : List Lexeme) (role : Role) (w : SpecWord) (ws : SpecWords) → FitsRole all role (more_words w ws) → may_stand role (start_of w) ≡ true
+pub role_stands : (all : List Lexeme) (role : Role) (w : SpecWord) (ws : SpecWords)
+    → FitsRole all role (more_words w ws) → may_stand role (start_of w) ≡ true
 role_stands all Declaring w ws fits = refl
 role_stands all Typed w ws fits = plain_stands w (first_plain (is_auto w) (has_auto ws) fits.1)
 role_stands all Naming w ws fits = stands w fits.1
 
-pub role_word : (all : List Lexeme) (role : Role) (w : SpecWord) (ws : SpecWords) → FitsRole all role (more_words w ws) → IsSpecWord all w
+pub role_word : (all : List Lexeme) (role : Role) (w : SpecWord) (ws : SpecWords) → FitsRole all role (more_words w ws)
+    → IsSpecWord all w
 role_word all Declaring w ws fits = fits.0
 role_word all Typed w ws fits = fits.0.0
 role_word all Naming w ws fits = fits.0
 
-pub role_words : (all : List Lexeme) (role : Role) (w : SpecWord) (ws : SpecWords) → FitsRole all role (more_words w ws) → FitsRole all role ws
+pub role_words : (all : List Lexeme) (role : Role) (w : SpecWord) (ws : SpecWords) → FitsRole all role (more_words w ws)
+    → FitsRole all role ws
 role_words all Declaring w ws fits = fits.1
 role_words all Typed w ws fits = (fits.0.1, rest_plain (is_auto w) (has_auto ws) fits.1)
 role_words all Naming w ws fits = fits.2
 
 module _ (all : List Lexeme) (numbered : IsNumbered all) (goes : MixesGoOn) where
-  words_stand : (role : Role) (ws : SpecWords) (s s' : HeldScopes) (k : List Lexeme) → IsMix ws → FitsRole all role ws → spec_words_scopes ws s ≡ Some s' →
+  words_stand : (role : Role) (ws : SpecWords) (s s' : HeldScopes) (k : List Lexeme) → IsMix ws → FitsRole all role ws
+      → spec_words_scopes ws s ≡ Some s' →
       may_stand role (start_at s false (kind_at (spec_words_text all ws k))) ≡ true
   words_stand role no_words s s' k mix fits named = absurd (no_mix_of_none no_words refl mix)
   words_stand role (more_words w ws) s s' k mix fits named =
@@ -356,13 +364,15 @@ prefix_begins s puncts.Tilde h = refl
 prefix_begins s puncts.Bang h = refl
 prefix_begins s p h = absurd (omega (arith, h))
 
-sizeof_begins : (s : HeldScopes) (keyword : Keyword) → is_sizeof keyword ≡ true → begins_expr s (kinds.Keyword keyword) ≡ true
+sizeof_begins : (s : HeldScopes) (keyword : Keyword) → is_sizeof keyword ≡ true
+    → begins_expr s (kinds.Keyword keyword) ≡ true
 sizeof_begins s keywords.Sizeof h = refl
 sizeof_begins s keywords.Alignof h = refl
 sizeof_begins s keyword h = absurd cc
 
 -- texts are at least one
-texts_begin : (all : List Lexeme) (texts : List ℕ) (s : HeldScopes) (k : List Lexeme) → (texts ≡ [] → ⊥) → begins_expr s (kind_at (expr_text all (text_use texts) k)) ≡ true
+texts_begin : (all : List Lexeme) (texts : List ℕ) (s : HeldScopes) (k : List Lexeme) → (texts ≡ [] → ⊥)
+    → begins_expr s (kind_at (expr_text all (text_use texts) k)) ≡ true
 texts_begin all [] s k h = absurd (h refl)
 texts_begin all (x ∷ xs) s k h = refl
 
@@ -373,7 +383,8 @@ bare_named (declr_paren opening attrs d closing) h = refl
 bare_named d h = absurd cc
 
 module _ (all : List Lexeme) where
-  expr_begins : (e : Expr) (s s' : HeldScopes) (k : List Lexeme) → IsExpr all e → expr_scopes e s ≡ Some s' → begins_expr s (kind_at (expr_text all e k)) ≡ true
+  expr_begins : (e : Expr) (s s' : HeldScopes) (k : List Lexeme) → IsExpr all e → expr_scopes e s ≡ Some s'
+      → begins_expr s (kind_at (expr_text all e k)) ≡ true
   expr_begins (operation e op token e2) s s' k fits named =
       let a = behind_ok (behind (expr_scopes e s) (operator_scopes op)) (expr_scopes e2) s' named in
       let b = behind_ok (expr_scopes e s) (operator_scopes op) a.0 a.1 in
@@ -413,7 +424,8 @@ module _ (all : List Lexeme) where
 
   -- declarators
 
-  named_begins : (d : Declr) (k : List Lexeme) → IsDeclr all d → is_named d ≡ true → begins_named (kind_at (declr_text all d k)) ≡ true
+  named_begins : (d : Declr) (k : List Lexeme) → IsDeclr all d → is_named d ≡ true
+      → begins_named (kind_at (declr_text all d k)) ≡ true
   named_begins (pointer star words d) k fits is = refl
   named_begins (declr_name token name) k fits is = refl
   named_begins (declr_paren opening attrs d closing) k fits is = refl
@@ -424,7 +436,8 @@ module _ (all : List Lexeme) where
   named_begins d k fits is = absurd cc
 
   -- whether a declarator begins with a base word
-  pub named_base : (d : Declr) (k : List Lexeme) → IsDeclr all d → is_named d ≡ true → is_base_word (kind_at (declr_text all d k)) ≡ begins_base d
+  pub named_base : (d : Declr) (k : List Lexeme) → IsDeclr all d → is_named d ≡ true
+      → is_base_word (kind_at (declr_text all d k)) ≡ begins_base d
   named_base (pointer star words d) k fits is = refl
   named_base (declr_name token name) k fits is = refl
   named_base (declr_paren opening attrs d closing) k fits is = refl
@@ -434,7 +447,8 @@ module _ (all : List Lexeme) where
   named_base (base_name token) k fits is = refl
   named_base d k fits is = absurd cc
 
-  abstract_begins : (d : Declr) (k : List Lexeme) → IsDeclr all d → is_named d ≡ false → begins_abstract (kind_at (declr_text all d k)) ≡ true
+  abstract_begins : (d : Declr) (k : List Lexeme) → IsDeclr all d → is_named d ≡ false
+      → begins_abstract (kind_at (declr_text all d k)) ≡ true
   abstract_begins (abs_pointer star words d) k fits is = refl
   abstract_begins (abs_paren opening attrs d closing) k fits is = refl
   abstract_begins (abs_array no_declr opening words size closing) k fits is = refl

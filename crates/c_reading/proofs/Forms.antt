@@ -34,7 +34,8 @@ shrinks_falls read shrinks s ts x e = let less : length x.rest < length ts = shr
 pub at_end : {A : Type 0} (P : Found A → Type 0) {y x : Found A} → done y ≡ done x → P y → P x
 at_end P e p = subst P (ok_is e) p
 
--- What was read is spelled so, obeys the rules, gives these scopes, has the room for its height, and leaves a tail of all
+-- What was read is spelled so, obeys the rules, gives these scopes, has the room for its height, and leaves a tail of
+-- all
 -- tokens.
 pub record Takes (all : List Lexeme) {T : Type 0} (form : Form T) (room : ℕ) (s : HeldScopes) (ts : List Lexeme) (x : Found T) : Type 0 where
   pub spelled : ts ≡ form.text x.tree x.rest
@@ -57,14 +58,17 @@ abbrev pub always : {T : Type 0} → T → TokenKind → Bool
 always e kind = true
 
 -- what stands behind some scopes
-pub behind_is : {r : Option HeldScopes} (f : HeldScopes → Option HeldScopes) {t u : HeldScopes} → r ≡ Some t → f t ≡ Some u → behind r f ≡ Some u
+pub behind_is : {r : Option HeldScopes} (f : HeldScopes → Option HeldScopes) {t u : HeldScopes} → r ≡ Some t
+    → f t ≡ Some u → behind r f ≡ Some u
 behind_is f is e = rw is e
 
-pub behind_ok : (r : Option HeldScopes) (f : HeldScopes → Option HeldScopes) (u : HeldScopes) → behind r f ≡ Some u → (t : HeldScopes) × (r ≡ Some t) × (f t ≡ Some u)
+pub behind_ok : (r : Option HeldScopes) (f : HeldScopes → Option HeldScopes) (u : HeldScopes) → behind r f ≡ Some u
+    → (t : HeldScopes) × (r ≡ Some t) × (f t ≡ Some u)
 behind_ok None f u e = absurd cc
 behind_ok (Some t) f u e = (t, refl, e)
 
-pub behind_same : (r : Option HeldScopes) (f g : HeldScopes → Option HeldScopes) → ((t : HeldScopes) → f t ≡ g t) → behind r f ≡ behind r g
+pub behind_same : (r : Option HeldScopes) (f g : HeldScopes → Option HeldScopes) → ((t : HeldScopes) → f t ≡ g t)
+    → behind r f ≡ behind r g
 behind_same None f g h = refl
 behind_same (Some t) f g h = h t
 
@@ -78,21 +82,26 @@ lexeme_is : (t : Lexeme) (kind : TokenKind) → t.kind ≡ kind → t ≡ record
 lexeme_is t kind e = ap (λ (kind : TokenKind). record { kind = kind; at = t.at }) e
 
 module _ (all : List Lexeme) where
-  took_first : (kind : TokenKind) (s : HeldScopes) (t : Lexeme) (ts : List Lexeme) → IsTail all (t ∷ ts) → t.kind ≡ kind → Took all kind s (t ∷ ts) (found t.at s ts)
+  took_first : (kind : TokenKind) (s : HeldScopes) (t : Lexeme) (ts : List Lexeme) → IsTail all (t ∷ ts) → t.kind ≡ kind
+      → Took all kind s (t ∷ ts) (found t.at s ts)
   took_first kind s t ts tail is = record { spelled = ap (λ (t : Lexeme). t ∷ ts) (lexeme_is t kind is); same = refl; left = tail_of all t ts tail }
 
   -- the first token, whose kind is known
-  pub took : (kind : TokenKind) (s : HeldScopes) (ts : List Lexeme) (x : Found ℕ) → IsTail all ts → kind_at ts ≡ kind → take_one s ts ≡ done x → Took all kind s ts x
+  pub took : (kind : TokenKind) (s : HeldScopes) (ts : List Lexeme) (x : Found ℕ) → IsTail all ts → kind_at ts ≡ kind
+      → take_one s ts ≡ done x → Took all kind s ts x
   took kind s [] x tail is e = absurd cc
   took kind s (t ∷ ts) x tail is e = at_end (Took all kind s (t ∷ ts)) e (took_first kind s t ts tail is)
 
   -- the first token, which passed a test that one kind alone passes
-  pub took_token : (test : TokenKind → Bool) (kind : TokenKind) → ((other : TokenKind) → test other ≡ true → other ≡ kind) →
-      (s : HeldScopes) (ts : List Lexeme) (x : Found ℕ) → IsTail all ts → token_at test s ts ≡ done x → Took all kind s ts x
+  pub took_token : (test : TokenKind → Bool) (kind : TokenKind)
+      → ((other : TokenKind) → test other ≡ true → other ≡ kind) →
+      (s : HeldScopes) (ts : List Lexeme) (x : Found ℕ) → IsTail all ts → token_at test s ts ≡ done x
+      → Took all kind s ts x
   took_token test kind only s [] x tail e = absurd cc
   took_token test kind only s (t ∷ ts) x tail e = by_test (test t.kind) refl e
     where
-      by_test : (b : Bool) → test t.kind ≡ b → (if b then ends t.at s ts else refuses Unexpected (t ∷ ts)) ≡ done x → Took all kind s (t ∷ ts) x
+      by_test : (b : Bool) → test t.kind ≡ b → (if b then ends t.at s ts else refuses Unexpected (t ∷ ts)) ≡ done x
+          → Took all kind s (t ∷ ts) x
       by_test true is e = at_end (Took all kind s (t ∷ ts)) e (took_first kind s t ts tail (only t.kind is))
       by_test false is e = absurd cc
 
@@ -106,7 +115,8 @@ module _ (all : List Lexeme) where
   name_kind (kinds.Name n) name e = cc
   name_kind kind name e = absurd cc
 
-  pub took_name : (s : HeldScopes) (ts : List Lexeme) (x : Found Identifier) → IsTail all ts → name_at s ts ≡ done x → TookName s ts x
+  pub took_name : (s : HeldScopes) (ts : List Lexeme) (x : Found Identifier) → IsTail all ts → name_at s ts ≡ done x
+      → TookName s ts x
   took_name s [] x tail e = absurd cc
   took_name s (t ∷ ts) x tail e = by_name (spelled_name t.kind) refl e
     where
@@ -121,7 +131,8 @@ module _ (all : List Lexeme) where
     pub same : x.scopes ≡ s
     pub left : IsTail all x.rest
 
-  pub took_tag : (s : HeldScopes) (ts : List Lexeme) (x : Found (Option Identifier)) → IsTail all ts → tag_at s ts ≡ done x → TookTag s ts x
+  pub took_tag : (s : HeldScopes) (ts : List Lexeme) (x : Found (Option Identifier)) → IsTail all ts
+      → tag_at s ts ≡ done x → TookTag s ts x
   took_tag s [] x tail e = at_end (TookTag s []) e (record { spelled = refl; same = refl; left = tail })
   took_tag s (t ∷ ts) x tail e = by_name (spelled_name t.kind) refl e
     where
@@ -130,7 +141,8 @@ module _ (all : List Lexeme) where
       by_name (Some n) is e =
           at_end (TookTag s (t ∷ ts)) e (record { spelled = ap (λ (t : Lexeme). t ∷ ts) (lexeme_is t (kinds.Name n) (name_kind t.kind n is)); same = refl; left = tail_of all t ts tail })
 
-pub name_falls : (s : HeldScopes) (ts : List Lexeme) (x : Found Identifier) → name_at s ts ≡ done x → suc (length x.rest) ≡ length ts
+pub name_falls : (s : HeldScopes) (ts : List Lexeme) (x : Found Identifier) → name_at s ts ≡ done x
+    → suc (length x.rest) ≡ length ts
 name_falls s [] x e = absurd cc
 name_falls s (t ∷ ts) x e = by_name (spelled_name t.kind) e
   where
@@ -138,7 +150,8 @@ name_falls s (t ∷ ts) x e = by_name (spelled_name t.kind) e
     by_name None e = absurd cc
     by_name (Some n) e = ap (λ (x : Found Identifier). suc (length x.rest)) (sym (ok_is e))
 
-pub tag_falls : (s : HeldScopes) (ts : List Lexeme) (x : Found (Option Identifier)) → tag_at s ts ≡ done x → length x.rest ≤ length ts
+pub tag_falls : (s : HeldScopes) (ts : List Lexeme) (x : Found (Option Identifier)) → tag_at s ts ≡ done x
+    → length x.rest ≤ length ts
 tag_falls s [] x e = let is = ap (λ (x : Found (Option Identifier)). length x.rest) (ok_is e) in omega (arith, is)
 tag_falls s (t ∷ ts) x e = by_name (spelled_name t.kind) e
   where
@@ -151,7 +164,8 @@ pub through : (f : HeldScopes → Option HeldScopes) {a b t u : HeldScopes} → 
 through f p e q = rw (← p, q) e
 
 -- what begins with a token that was taken
-pub behind_token : (all : List Lexeme) {T : Type 0} (form : Form T) (room : ℕ) (kind : TokenKind) (s : HeldScopes) (ts : List Lexeme) (y : Found ℕ) (x : Found T) → Took all kind s ts y →
+pub behind_token : (all : List Lexeme) {T : Type 0} (form : Form T) (room : ℕ) (kind : TokenKind) (s : HeldScopes) (ts : List Lexeme) (y : Found ℕ) (x : Found T)
+    → Took all kind s ts y →
     Takes all form room y.scopes (plain_text kind y.tree y.rest) x → Takes all form room s ts x
 behind_token all form room kind s ts y x o h = record {
   spelled = o.spelled ∙ h.spelled;

@@ -28,21 +28,26 @@ use Rattle.c_reading.proofs.Aims.{group_form}
 bracket_shrinks : TurnShrinks bracket_turn
 bracket_shrinks state s ts x e = by_brackets state.brackets ts e
   where
-    by_inside : (i : Inside) (b : Bracket) (bs : List Bracket) (t : Lexeme) (ts : List Lexeme) → bracket_by i b bs t s ts ≡ done x → length x.rest < length (t ∷ ts)
+    by_inside : (i : Inside) (b : Bracket) (bs : List Bracket) (t : Lexeme) (ts : List Lexeme)
+        → bracket_by i b bs t s ts ≡ done x → length x.rest < length (t ∷ ts)
     by_inside (Opens other) b bs t ts e = let is = ap (λ (x : Found Opened). length x.rest) (ok_is e) in omega (arith, is)
     by_inside (Closes other) b bs t ts e = by_same (is_same other b) e
       where
-        by_same : (c : Bool) → (if c then ends (record { brackets = bs; last = t.at }) s ts else refuses Unexpected (t ∷ ts)) ≡ done x → length x.rest < length (t ∷ ts)
+        by_same : (c : Bool)
+            → (if c then ends (record { brackets = bs; last = t.at }) s ts else refuses Unexpected (t ∷ ts)) ≡ done x
+            → length x.rest < length (t ∷ ts)
         by_same true e = let is = ap (λ (x : Found Opened). length x.rest) (ok_is e) in omega (arith, is)
         by_same false e = absurd cc
     by_inside Plain b bs t ts e = let is = ap (λ (x : Found Opened). length x.rest) (ok_is e) in omega (arith, is)
     by_inside Stops b bs t ts e = absurd cc
 
-    by_step : (b : Bracket) (bs : List Bracket) (ts : List Lexeme) → bracket_step b bs s ts ≡ done x → length x.rest < length ts
+    by_step : (b : Bracket) (bs : List Bracket) (ts : List Lexeme) → bracket_step b bs s ts ≡ done x
+        → length x.rest < length ts
     by_step b bs [] e = absurd cc
     by_step b bs (t ∷ ts) e = by_inside (inside_of t.kind) b bs t ts e
 
-    by_brackets : (bs : List Bracket) (ts : List Lexeme) → bracket_turn_by bs s ts ≡ Some (done x) → length x.rest < length ts
+    by_brackets : (bs : List Bracket) (ts : List Lexeme) → bracket_turn_by bs s ts ≡ Some (done x)
+        → length x.rest < length ts
     by_brackets [] ts e = absurd cc
     by_brackets (b ∷ bs) ts e = by_step b bs ts cc
 
@@ -99,7 +104,8 @@ says (kinds.Punct puncts.CloseBrace) = refl
 says kinds.End = refl
 says kind = refl
 
-matched : (b : Bracket) (opening closing : TokenKind) → opens_with b opening → closes_with b closing → are_brackets opening closing ≡ true
+matched : (b : Bracket) (opening closing : TokenKind) → opens_with b opening → closes_with b closing
+    → are_brackets opening closing ≡ true
 matched Paren opening closing o c = rw (o, c) refl
 matched Square opening closing o c = rw (o, c) refl
 matched Brace opening closing o c = rw (o, c) refl
@@ -110,29 +116,36 @@ same_is Square Square e = refl
 same_is Brace Brace e = refl
 same_is _ _ e = absurd cc
 
--- What was read behind a group's parenthesis, with the brackets that are open, the innermost first: none where the group
+-- What was read behind a group's parenthesis, with the brackets that are open, the innermost first: none where the
+-- group
 -- is closed, by the token with this number.
 pub data Nest : List Bracket → ℕ → List Lexeme → Type 0 where
-  closed : (inside : List Lexeme) (closing : Lexeme) → closing.kind ≡ kinds.Punct puncts.CloseParen → IsBalanced inside → Nest [] closing.at (inside ++ closing ∷ [])
+  closed : (inside : List Lexeme) (closing : Lexeme) → closing.kind ≡ kinds.Punct puncts.CloseParen → IsBalanced inside
+      → Nest [] closing.at (inside ++ closing ∷ [])
   outermost : (last : ℕ) (inside : List Lexeme) → IsBalanced inside → Nest (Paren ∷ []) last inside
-  deeper : (last : ℕ) (b b' : Bracket) (bs : List Bracket) (outer : List Lexeme) (opening : Lexeme) (inside : List Lexeme) → Nest (b' ∷ bs) last outer → opens_with b opening.kind → IsBalanced inside →
+  deeper : (last : ℕ) (b b' : Bracket) (bs : List Bracket) (outer : List Lexeme) (opening : Lexeme) (inside : List Lexeme)
+      → Nest (b' ∷ bs) last outer → opens_with b opening.kind → IsBalanced inside →
       Nest (b ∷ b' ∷ bs) last (outer ++ opening ∷ inside)
 
 -- another number, where the group is not closed
-nest_at : {b : Bracket} {bs : List Bracket} {last : ℕ} {xs : List Lexeme} (n : ℕ) → Nest (b ∷ bs) last xs → Nest (b ∷ bs) n xs
+nest_at : {b : Bracket} {bs : List Bracket} {last : ℕ} {xs : List Lexeme} (n : ℕ) → Nest (b ∷ bs) last xs
+    → Nest (b ∷ bs) n xs
 nest_at n (outermost last inside h) = outermost n inside h
 nest_at n (deeper last b b' bs outer opening inside m o h) = deeper n b b' bs outer opening inside (nest_at n m) o h
 
 -- balanced tokens behind it
-nest_more : {b : Bracket} {bs : List Bracket} {last : ℕ} {xs : List Lexeme} (ys : List Lexeme) → Nest (b ∷ bs) last xs → IsBalanced ys → Nest (b ∷ bs) last (xs ++ ys)
+nest_more : {b : Bracket} {bs : List Bracket} {last : ℕ} {xs : List Lexeme} (ys : List Lexeme) → Nest (b ∷ bs) last xs
+    → IsBalanced ys → Nest (b ∷ bs) last (xs ++ ys)
 nest_more ys (outermost last inside h) g = outermost last (inside ++ ys) (balanced_append ys h g)
 nest_more ys (deeper last b b' bs outer opening inside n o h) g =
     subst (Nest (b ∷ b' ∷ bs) last) (sym (append_assoc outer (opening ∷ inside) ys)) (deeper last b b' bs outer opening (inside ++ ys) n o (balanced_append ys h g))
 
-nest_open : {b : Bracket} {bs : List Bracket} {last : ℕ} {xs : List Lexeme} (other : Bracket) (t : Lexeme) → Nest (b ∷ bs) last xs → opens_with other t.kind → Nest (other ∷ b ∷ bs) t.at (xs ++ t ∷ [])
+nest_open : {b : Bracket} {bs : List Bracket} {last : ℕ} {xs : List Lexeme} (other : Bracket) (t : Lexeme)
+    → Nest (b ∷ bs) last xs → opens_with other t.kind → Nest (other ∷ b ∷ bs) t.at (xs ++ t ∷ [])
 nest_open {b = b} {bs = bs} {last = last} {xs = xs} other t n o = deeper t.at other b bs xs t [] (nest_at t.at n) o nothing
 
-nest_close : {b : Bracket} {bs : List Bracket} {last : ℕ} {xs : List Lexeme} (t : Lexeme) → Nest (b ∷ bs) last xs → closes_with b t.kind → Nest bs t.at (xs ++ t ∷ [])
+nest_close : {b : Bracket} {bs : List Bracket} {last : ℕ} {xs : List Lexeme} (t : Lexeme) → Nest (b ∷ bs) last xs
+    → closes_with b t.kind → Nest bs t.at (xs ++ t ∷ [])
 nest_close t (outermost last inside h) c = closed inside t c h
 nest_close t (deeper last b b' bs outer opening inside n o h) c =
     subst (Nest (b' ∷ bs) t.at) (sym (append_assoc outer (opening ∷ inside) (t ∷ [])))
@@ -149,20 +162,23 @@ drop_next (u ∷ us) (suc m) t ts h = drop_next us m t ts h
 
 -- the end of a loop: its turn is over
 module _ {S : Type 0} (turn : Turn S) (shrinks : TurnShrinks turn) where
-  stops_below : (n : ℕ) (a : S) (s : HeldScopes) (ts : List Lexeme) (y : Found S) → length ts < n → run turn a s ts ≡ done y → turn y.tree y.scopes y.rest ≡ None
+  stops_below : (n : ℕ) (a : S) (s : HeldScopes) (ts : List Lexeme) (y : Found S) → length ts < n
+      → run turn a s ts ≡ done y → turn y.tree y.scopes y.rest ≡ None
   unfolding and_then
   stops_below zero a s ts y h e = absurd (omega (arith, h))
   stops_below (suc n) a s ts y h e = by_turn (λ a s ts. stops_below n a s ts y) (turn a s ts) refl (sym (run_is turn shrinks a s ts) ∙ e)
     where
       by_turn : ((a : S) (s : HeldScopes) (ts : List Lexeme) → length ts < n → run turn a s ts ≡ done y → turn y.tree y.scopes y.rest ≡ None) →
-          (r : Option (Read S)) → turn a s ts ≡ r → after r a s ts (run turn) ≡ done y → turn y.tree y.scopes y.rest ≡ None
+          (r : Option (Read S)) → turn a s ts ≡ r → after r a s ts (run turn) ≡ done y
+          → turn y.tree y.scopes y.rest ≡ None
       by_turn again None is e = subst (λ (y : Found S). turn y.tree y.scopes y.rest ≡ None) (ok_is e) is
       by_turn again (Some (Err f)) is e = absurd cc
       by_turn again (Some (Ok x)) is e =
           let less : length x.rest < length ts = shrinks a s ts x is in
           again x.tree x.scopes x.rest (omega (arith, h)) e
 
-  pub run_stops : (a : S) (s : HeldScopes) (ts : List Lexeme) (y : Found S) → run turn a s ts ≡ done y → turn y.tree y.scopes y.rest ≡ None
+  pub run_stops : (a : S) (s : HeldScopes) (ts : List Lexeme) (y : Found S) → run turn a s ts ≡ done y
+      → turn y.tree y.scopes y.rest ≡ None
   run_stops a s ts y e = stops_below (suc (length ts)) a s ts y (omega arith) e
 
 module _ (all : List Lexeme) (numbered : IsNumbered all) where
@@ -176,7 +192,8 @@ module _ (all : List Lexeme) (numbered : IsNumbered all) where
     pub same : t ≡ s
 
   -- one more token
-  going_on : (n : ℕ) (ts : List Lexeme) (s : HeldScopes) (state : Opened) (t : HeldScopes) (u : Lexeme) (k : List Lexeme) (brackets : List Bracket) → (h : Going n ts s state t (u ∷ k)) →
+  going_on : (n : ℕ) (ts : List Lexeme) (s : HeldScopes) (state : Opened) (t : HeldScopes) (u : Lexeme) (k : List Lexeme) (brackets : List Bracket)
+      → (h : Going n ts s state t (u ∷ k)) →
       Nest brackets u.at (h.taken ++ u ∷ []) → Going n ts s (record { brackets = brackets; last = u.at }) t k
   going_on n ts s state t u k brackets h nest =
       let tail : IsTail all (u ∷ k) = (suc (n + length h.taken), h.left) in
@@ -206,7 +223,9 @@ module _ (all : List Lexeme) (numbered : IsNumbered all) where
       at_end (λ (x : Found Opened). Going n ts s x.tree x.scopes x.rest) e (going_on n ts s (with_brackets (b ∷ bs) m) t u k (other ∷ b ∷ bs) h (nest_open other u h.nest is))
   inside_keeps n ts s t b bs m (Closes other) u k x h is e = by_same (is_same other b) refl e
     where
-      by_same : (c : Bool) → is_same other b ≡ c → (if c then ends (record { brackets = bs; last = u.at }) t k else refuses Unexpected (u ∷ k)) ≡ done x → Going n ts s x.tree x.scopes x.rest
+      by_same : (c : Bool) → is_same other b ≡ c
+          → (if c then ends (record { brackets = bs; last = u.at }) t k else refuses Unexpected (u ∷ k)) ≡ done x
+          → Going n ts s x.tree x.scopes x.rest
       by_same true same e =
           at_end (λ (x : Found Opened). Going n ts s x.tree x.scopes x.rest) e
           (going_on n ts s (with_brackets (b ∷ bs) m) t u k bs h (nest_close u h.nest (subst (λ (b : Bracket). closes_with b u.kind) (same_is other b same) is)))
@@ -216,13 +235,15 @@ module _ (all : List Lexeme) (numbered : IsNumbered all) where
       (going_on n ts s (with_brackets (b ∷ bs) m) t u k (b ∷ bs) h (nest_more (u ∷ []) (nest_at u.at h.nest) (balanced_one u is)))
   inside_keeps n ts s t b bs m Stops u k x h is e = absurd cc
 
-  brackets_keep : (n : ℕ) (ts : List Lexeme) (s t : HeldScopes) (bs : List Bracket) (m : ℕ) (k : List Lexeme) (x : Found Opened) → Going n ts s (with_brackets bs m) t k →
+  brackets_keep : (n : ℕ) (ts : List Lexeme) (s t : HeldScopes) (bs : List Bracket) (m : ℕ) (k : List Lexeme) (x : Found Opened)
+      → Going n ts s (with_brackets bs m) t k →
       bracket_turn_by bs t k ≡ Some (done x) → Going n ts s x.tree x.scopes x.rest
   brackets_keep n ts s t [] m k x h e = absurd cc
   brackets_keep n ts s t (b ∷ bs) m [] x h e = absurd cc
   brackets_keep n ts s t (b ∷ bs) m (u ∷ k) x h e = inside_keeps n ts s t b bs m (inside_of u.kind) u k x h (says u.kind) cc
 
-  run_keeps : (n : ℕ) (ts : List Lexeme) (s : HeldScopes) (start : Opened) (x : Found Opened) → Going n ts s start s ts → run bracket_turn start s ts ≡ done x → Going n ts s x.tree x.scopes x.rest
+  run_keeps : (n : ℕ) (ts : List Lexeme) (s : HeldScopes) (start : Opened) (x : Found Opened) → Going n ts s start s ts
+      → run bracket_turn start s ts ≡ done x → Going n ts s x.tree x.scopes x.rest
   run_keeps n ts s start x h e =
       run-keep bracket_turn (λ state t k. Going n ts s state t k) (λ state t k x h e. brackets_keep n ts s t state.brackets state.last k x h e) start s ts x h e
 
@@ -231,12 +252,14 @@ module _ (all : List Lexeme) (numbered : IsNumbered all) where
   no_brackets (b ∷ bs) s k e = absurd cc
 
   -- what a group took is its tokens
-  take_all : (n m : ℕ) (opening : Lexeme) (taken k : List Lexeme) → opening ∷ (taken ++ k) ≡ drop n all → m ≡ n + length taken → tokens_between all n m ≡ opening ∷ taken
+  take_all : (n m : ℕ) (opening : Lexeme) (taken k : List Lexeme) → opening ∷ (taken ++ k) ≡ drop n all
+      → m ≡ n + length taken → tokens_between all n m ≡ opening ∷ taken
   take_all n m opening taken k is at =
       let count : m + 1 - n ≡ suc (length taken) = omega (arith, at) in
       ap (λ (c : ℕ). take c (drop n all)) count ∙ ap (λ (ts : List Lexeme). take (suc (length taken)) ts) (sym is) ∙ ap (λ (ts : List Lexeme). opening ∷ ts) (take-append_seam taken k)
 
-  first_last : (opening : Lexeme) (inside : List Lexeme) (closing : Lexeme) → opening.kind ≡ kinds.Punct puncts.OpenParen → closing.kind ≡ kinds.Punct puncts.CloseParen →
+  first_last : (opening : Lexeme) (inside : List Lexeme) (closing : Lexeme)
+      → opening.kind ≡ kinds.Punct puncts.OpenParen → closing.kind ≡ kinds.Punct puncts.CloseParen →
       opening ∷ (inside ++ closing ∷ []) ≡ record { kind = kinds.Punct puncts.OpenParen; at = opening.at } ∷ (inside ++ record { kind = kinds.Punct puncts.CloseParen; at = closing.at } ∷ [])
   first_last opening inside closing o c =
       ap (λ (kind : TokenKind). record { kind = kind; at = opening.at } ∷ (inside ++ closing ∷ [])) o ∙
@@ -249,7 +272,8 @@ module _ (all : List Lexeme) (numbered : IsNumbered all) where
     pub same : t ≡ s
     pub left : IsTail all k
 
-  by_nest : (s t : HeldScopes) (opening : Lexeme) (ts : List Lexeme) (k : List Lexeme) (n m : ℕ) (taken : List Lexeme) → opening.kind ≡ kinds.Punct puncts.OpenParen → opening.at ≡ n →
+  by_nest : (s t : HeldScopes) (opening : Lexeme) (ts : List Lexeme) (k : List Lexeme) (n m : ℕ) (taken : List Lexeme)
+      → opening.kind ≡ kinds.Punct puncts.OpenParen → opening.at ≡ n →
       opening ∷ ts ≡ drop n all → ts ≡ taken ++ k → m ≡ n + length taken → k ≡ drop (suc (n + length taken)) all → t ≡ s → Nest [] m taken →
       TookGroup s (opening ∷ ts) (record { first = n; last = m }) t k
   by_nest s t opening ts k n m taken o at here parts count left same (closed inside closing c b) =
@@ -266,20 +290,23 @@ module _ (all : List Lexeme) (numbered : IsNumbered all) where
         left = (suc (n + length taken), left);
       }
 
-  read_group : (s : HeldScopes) (ts : List Lexeme) (x : Found Group) → IsTail all ts → group_at s ts ≡ done x → TookGroup s ts x.tree x.scopes x.rest
+  read_group : (s : HeldScopes) (ts : List Lexeme) (x : Found Group) → IsTail all ts → group_at s ts ≡ done x
+      → TookGroup s ts x.tree x.scopes x.rest
   unfolding group_at
   read_group s ts x tail e =
       let a = bind_ok e in
       let b = bind_ok a.2 in
       by_first ts tail a.0 a.1 b.0 b.1 (ok_is b.2)
     where
-      by_first : (ts : List Lexeme) → IsTail all ts → (y : Found ℕ) → token_at is_open_paren s ts ≡ done y → (z : Found Opened) →
+      by_first : (ts : List Lexeme) → IsTail all ts → (y : Found ℕ) → token_at is_open_paren s ts ≡ done y
+          → (z : Found Opened) →
           run bracket_turn (record { brackets = Paren ∷ []; last = y.tree }) y.scopes y.rest ≡ done z → found (record { first = y.tree; last = z.tree.last }) z.scopes z.rest ≡ x →
           TookGroup s ts x.tree x.scopes x.rest
       by_first [] tail y e z r is = absurd cc
       by_first (t ∷ us) tail y e z r is = by_test (is_open_paren t.kind) refl e
         where
-          opened : is_open_paren t.kind ≡ true → (y : Found ℕ) → found t.at s us ≡ y → run bracket_turn (record { brackets = Paren ∷ []; last = y.tree }) y.scopes y.rest ≡ done z →
+          opened : is_open_paren t.kind ≡ true → (y : Found ℕ) → found t.at s us ≡ y
+              → run bracket_turn (record { brackets = Paren ∷ []; last = y.tree }) y.scopes y.rest ≡ done z →
               found (record { first = y.tree; last = z.tree.last }) z.scopes z.rest ≡ x → TookGroup s (t ∷ us) x.tree x.scopes x.rest
           opened test y same r is =
               let at : t.at ≡ tail.0 = number_is all numbered t us tail in
@@ -305,11 +332,14 @@ module _ (all : List Lexeme) (numbered : IsNumbered all) where
               next_is : (a b : ℕ) → a ≡ b → suc b ≡ suc (a + 0)
               next_is a b e = omega (arith, e)
 
-          by_test : (b : Bool) → is_open_paren t.kind ≡ b → (if b then ends t.at s us else refuses Unexpected (t ∷ us)) ≡ done y → TookGroup s (t ∷ us) x.tree x.scopes x.rest
+          by_test : (b : Bool) → is_open_paren t.kind ≡ b
+              → (if b then ends t.at s us else refuses Unexpected (t ∷ us)) ≡ done y
+              → TookGroup s (t ∷ us) x.tree x.scopes x.rest
           by_test true test e = opened test y (ok_is e) r is
           by_test false test e = absurd cc
 
-  pub took_group : (s : HeldScopes) (ts : List Lexeme) (x : Found Group) → IsTail all ts → group_at s ts ≡ done x → TookGroup s ts x.tree x.scopes x.rest
+  pub took_group : (s : HeldScopes) (ts : List Lexeme) (x : Found Group) → IsTail all ts → group_at s ts ≡ done x
+      → TookGroup s ts x.tree x.scopes x.rest
   took_group s ts x tail e = read_group s ts x tail e
 
   pub group_sound : (room : ℕ) → IsSound all (group_form all) room group_at
@@ -319,7 +349,8 @@ module _ (all : List Lexeme) (numbered : IsNumbered all) where
 
 -- a group is read as it is spelled
 
-inside_opens : (opening closing : TokenKind) → are_brackets opening closing ≡ true → (b : Bracket) × (inside_of opening ≡ Opens b) × (inside_of closing ≡ Closes b)
+inside_opens : (opening closing : TokenKind) → are_brackets opening closing ≡ true
+    → (b : Bracket) × (inside_of opening ≡ Opens b) × (inside_of closing ≡ Closes b)
 inside_opens (kinds.Punct puncts.OpenParen) (kinds.Punct puncts.CloseParen) e = (Paren, refl, refl)
 inside_opens (kinds.Punct puncts.OpenBracket) (kinds.Punct puncts.CloseBracket) e = (Square, refl, refl)
 inside_opens (kinds.Punct puncts.OpenBrace) (kinds.Punct puncts.CloseBrace) e = (Brace, refl, refl)
@@ -343,20 +374,24 @@ same_self Brace = refl
 abbrev state_of : List Bracket → ℕ → Opened
 state_of bs m = record { brackets = bs; last = m }
 
-one_turn : (b : Bracket) (bs : List Bracket) (m : ℕ) (s : HeldScopes) (t : Lexeme) (k : List Lexeme) (x : Found Opened) → bracket_by (inside_of t.kind) b bs t s k ≡ done x →
+one_turn : (b : Bracket) (bs : List Bracket) (m : ℕ) (s : HeldScopes) (t : Lexeme) (k : List Lexeme) (x : Found Opened)
+    → bracket_by (inside_of t.kind) b bs t s k ≡ done x →
     run bracket_turn (state_of (b ∷ bs) m) s (t ∷ k) ≡ run bracket_turn x.tree x.scopes x.rest
 one_turn b bs m s t k x e = run_on bracket_turn bracket_shrinks (state_of (b ∷ bs) m) s (t ∷ k) x (ap Some e)
 
-by_inside_of : (i j : Inside) (b : Bracket) (bs : List Bracket) (t : Lexeme) (s : HeldScopes) (k : List Lexeme) (x : Found Opened) → i ≡ j → bracket_by j b bs t s k ≡ done x → bracket_by i b bs t s k ≡ done x
+by_inside_of : (i j : Inside) (b : Bracket) (bs : List Bracket) (t : Lexeme) (s : HeldScopes) (k : List Lexeme) (x : Found Opened)
+    → i ≡ j → bracket_by j b bs t s k ≡ done x → bracket_by i b bs t s k ≡ done x
 by_inside_of i j b bs t s k x is e = rw is e
 
-closes : (b : Bracket) (bs : List Bracket) (m : ℕ) (s : HeldScopes) (t : Lexeme) (k : List Lexeme) → inside_of t.kind ≡ Closes b →
+closes : (b : Bracket) (bs : List Bracket) (m : ℕ) (s : HeldScopes) (t : Lexeme) (k : List Lexeme)
+    → inside_of t.kind ≡ Closes b →
     run bracket_turn (state_of (b ∷ bs) m) s (t ∷ k) ≡ run bracket_turn (state_of bs t.at) s k
 closes b bs m s t k is =
     one_turn b bs m s t k (found (state_of bs t.at) s k) (by_inside_of (inside_of t.kind) (Closes b) b bs t s k (found (state_of bs t.at) s k) is (rw (same_self b) refl))
 
 -- balanced tokens are gone through
-balanced_run : {xs : List Lexeme} → IsBalanced xs → (b : Bracket) (bs : List Bracket) (m : ℕ) (s : HeldScopes) (k : List Lexeme) →
+balanced_run : {xs : List Lexeme} → IsBalanced xs
+    → (b : Bracket) (bs : List Bracket) (m : ℕ) (s : HeldScopes) (k : List Lexeme) →
     (n : ℕ) × (run bracket_turn (state_of (b ∷ bs) m) s (xs ++ k) ≡ run bracket_turn (state_of (b ∷ bs) n) s k)
 balanced_run nothing b bs m s k = (m, refl)
 balanced_run (inner t xs is h) b bs m s k =
@@ -376,10 +411,12 @@ balanced_run (bracketed opening closing inside xs is h g) b bs m s k =
           i.1 ∙ closes o.0 (b ∷ bs) i.0 s closing (xs ++ k) o.2 ∙ r.1,
     )
 
-run_over : (m : ℕ) (s : HeldScopes) (k : List Lexeme) → run bracket_turn (state_of [] m) s k ≡ done (found (state_of [] m) s k)
+run_over : (m : ℕ) (s : HeldScopes) (k : List Lexeme)
+    → run bracket_turn (state_of [] m) s k ≡ done (found (state_of [] m) s k)
 run_over m s k = run_ends bracket_turn bracket_shrinks (state_of [] m) s k refl
 
-pub group_read : (all : List Lexeme) (g : Group) (s : HeldScopes) (k : List Lexeme) → IsGroup all g → group_at s (group_text all g k) ≡ done (found g s k)
+pub group_read : (all : List Lexeme) (g : Group) (s : HeldScopes) (k : List Lexeme) → IsGroup all g
+    → group_at s (group_text all g k) ≡ done (found g s k)
 unfolding group_at
 group_read all g s k h =
     let paren : ℕ → Lexeme = λ n. record { kind = kinds.Punct puncts.OpenParen; at = n } in

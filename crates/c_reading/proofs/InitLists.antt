@@ -29,15 +29,18 @@ abbrev pub comma_ending : Ending ℕ
 comma_ending = record { text = sign_text puncts.Comma; Fits = λ token. Unit {0} }
 
 module _ (all : List Lexeme) where
-  other_items_are : (xs : List ListItem) (k : List Lexeme) → others_text (list_item_form all) comma_ending xs k ≡ other_init_items_text all (init_items_from xs) k
+  other_items_are : (xs : List ListItem) (k : List Lexeme)
+      → others_text (list_item_form all) comma_ending xs k ≡ other_init_items_text all (init_items_from xs) k
   other_items_are [] k = refl
   other_items_are (x ∷ xs) k = ap (λ (k : List Lexeme). separated (desigs_text all x.desigs (some_sign_text puncts.Equal x.equal (init_text all x.init k)))) (other_items_are xs k)
 
-  pub items_are : (xs : List ListItem) (k : List Lexeme) → commas_text (list_item_form all) comma_ending xs k ≡ init_items_text all (init_items_from xs) k
+  pub items_are : (xs : List ListItem) (k : List Lexeme)
+      → commas_text (list_item_form all) comma_ending xs k ≡ init_items_text all (init_items_from xs) k
   items_are [] k = refl
   items_are (x ∷ xs) k = ap (λ (k : List Lexeme). desigs_text all x.desigs (some_sign_text puncts.Equal x.equal (init_text all x.init k))) (other_items_are xs k)
 
-  pub comma_end_is : (xs : List ListItem) (last : Option ℕ) (k : List Lexeme) → ending_text (list_item_form all) comma_ending last k ≡ some_sign_text puncts.Comma last k
+  pub comma_end_is : (xs : List ListItem) (last : Option ℕ) (k : List Lexeme)
+      → ending_text (list_item_form all) comma_ending last k ≡ some_sign_text puncts.Comma last k
   comma_end_is xs None k = refl
   comma_end_is xs (Some token) k = refl
 
@@ -49,7 +52,8 @@ module _ (all : List Lexeme) where
   items_fit_back no_init_items h = tt
   items_fit_back (more_init_items ds equal init items) h = ((h.0, h.1, h.2), items_fit_back items h.3)
 
-  pub items_named : (xs : List ListItem) (s : HeldScopes) → row_scopes (list_item_form all) xs s ≡ init_items_scopes (init_items_from xs) s
+  pub items_named : (xs : List ListItem) (s : HeldScopes)
+      → row_scopes (list_item_form all) xs s ≡ init_items_scopes (init_items_from xs) s
   items_named [] s = refl
   items_named (x ∷ xs) s = behind_same (behind (desigs_scopes x.desigs s) (init_scopes x.init)) _ _ (λ t. items_named xs t)
 
@@ -57,7 +61,8 @@ module _ (all : List Lexeme) where
   items_high [] = refl
   items_high (x ∷ xs) = ap (max (max (desigs_height x.desigs) (init_height x.init) + 1)) (items_high xs)
 
-  pub desigs_are : (ds : List Desig) (k : List Lexeme) → row_text (desig_form all) ds k ≡ desigs_text all (desigs_from ds) k
+  pub desigs_are : (ds : List Desig) (k : List Lexeme)
+      → row_text (desig_form all) ds k ≡ desigs_text all (desigs_from ds) k
   desigs_are [] k = refl
   desigs_are (d ∷ ds) k = ap (desig_text all d) (desigs_are ds k)
 
@@ -73,14 +78,16 @@ module _ (all : List Lexeme) where
   desigs_no_old (range_desig opening e dots e2 closing ∷ ds) h = desigs_no_old ds h.1
   desigs_no_old (old_desig name colon ∷ ds) h = let wrong : true ≡ false = h.0.1 in absurd cc
 
-  pub desigs_fit_back : (ds : Desigs) → AreDesigs all ds → has_no_old ds ≡ true → AllFit (desig_form all) (desigs_items ds)
+  pub desigs_fit_back : (ds : Desigs) → AreDesigs all ds → has_no_old ds ≡ true
+      → AllFit (desig_form all) (desigs_items ds)
   desigs_fit_back no_desigs h plain = tt
   desigs_fit_back (more_desigs (member_desig token name) ds) h plain = ((h.0, refl), desigs_fit_back ds h.1 plain)
   desigs_fit_back (more_desigs (index_desig opening e closing) ds) h plain = ((h.0, refl), desigs_fit_back ds h.1 plain)
   desigs_fit_back (more_desigs (range_desig opening e dots e2 closing) ds) h plain = ((h.0, refl), desigs_fit_back ds h.1 plain)
   desigs_fit_back (more_desigs (old_desig name colon) ds) h plain = absurd cc
 
-  pub desigs_named : (ds : List Desig) (s : HeldScopes) → row_scopes (desig_form all) ds s ≡ desigs_scopes (desigs_from ds) s
+  pub desigs_named : (ds : List Desig) (s : HeldScopes)
+      → row_scopes (desig_form all) ds s ≡ desigs_scopes (desigs_from ds) s
   desigs_named [] s = refl
   desigs_named (d ∷ ds) s = behind_same (desig_scopes d s) _ _ (λ t. desigs_named ds t)
 

@@ -188,7 +188,9 @@ module _ (all : List Lexeme) (numbered : IsNumbered all) (tokens : TokenLaws all
     low : desig_height x.tree ≤ room - 1
     left : IsTail all x.rest
 
-  index_sound : (opening : ℕ) (v : Expr) (room : ℕ) (s t : HeldScopes) (ts : List Lexeme) (x : Found Desig) → IsTail all ts → IsExpr all v → 2 ≤ expr_level v → expr_scopes v s ≡ Some t → expr_height v ≤ room - 2 → 3 ≤ room →
+  index_sound : (opening : ℕ) (v : Expr) (room : ℕ) (s t : HeldScopes) (ts : List Lexeme) (x : Found Desig)
+      → IsTail all ts → IsExpr all v → 2 ≤ expr_level v → expr_scopes v s ≡ Some t → expr_height v ≤ room - 2
+      → 3 ≤ room →
       index_behind inner opening v room t ts ≡ done x → TookIndex opening v s room ts t x
   unfolding index_behind range_behind
   index_sound opening v room s t ts x tail f l named low least e =
@@ -220,7 +222,9 @@ module _ (all : List Lexeme) (numbered : IsNumbered all) (tokens : TokenLaws all
       }))
 
   -- a designator, at a token that begins one
-  desig_sound : (room : ℕ) (s : HeldScopes) (ts : List Lexeme) (x : Found Desig) → IsTail all ts → begins_desig (kind_at ts) ≡ true → desig_with inner room s ts ≡ done x → Takes all (desig_form all) (room - 1) s ts x
+  desig_sound : (room : ℕ) (s : HeldScopes) (ts : List Lexeme) (x : Found Desig) → IsTail all ts
+      → begins_desig (kind_at ts) ≡ true → desig_with inner room s ts ≡ done x
+      → Takes all (desig_form all) (room - 1) s ts x
   unfolding desig_with member_desig_with index_desig_with
   desig_sound room s ts x tail begun e =
       if_ok (is_dot (kind_at ts)) e (λ is e.
@@ -252,13 +256,15 @@ module _ (all : List Lexeme) (numbered : IsNumbered all) (tokens : TokenLaws all
     left : IsTail all x.rest
 
   -- such a row may stand before a sign
-  designated : (d : Desig) (ds : Desigs) (equal : ℕ) → has_no_old (more_desigs d ds) ≡ true → IsDesignated (more_desigs d ds) (Some equal)
+  designated : (d : Desig) (ds : Desigs) (equal : ℕ) → has_no_old (more_desigs d ds) ≡ true
+      → IsDesignated (more_desigs d ds) (Some equal)
   designated (member_desig token name) ds equal plain = plain
   designated (index_desig opening e closing) ds equal plain = plain
   designated (range_desig opening e dots e2 closing) ds equal plain = plain
   designated (old_desig name colon) ds equal plain = absurd cc
 
-  equal_sound : (ds : Desigs) → has_no_old ds ≡ true → (s : HeldScopes) (ts : List Lexeme) (x : Found (Option ℕ)) → IsTail all ts → equal_behind ds s ts ≡ done x → TookEqual ds s ts x
+  equal_sound : (ds : Desigs) → has_no_old ds ≡ true → (s : HeldScopes) (ts : List Lexeme) (x : Found (Option ℕ))
+      → IsTail all ts → equal_behind ds s ts ≡ done x → TookEqual ds s ts x
   equal_sound no_desigs plain s ts x tail e = at_end (TookEqual no_desigs s ts) e (record { spelled = refl; fits = tt; same = refl; left = tail })
   equal_sound (more_desigs d ds) plain s ts x tail e =
       let a = bind_ok e in
@@ -285,7 +291,8 @@ module _ (all : List Lexeme) (numbered : IsNumbered all) (tokens : TokenLaws all
       })) (λ is e. absurd cc)
 
   -- a name with a colon, in wider C
-  old_item_sound : (room : ℕ) (s : HeldScopes) (ts : List Lexeme) (x : Found ListItem) → is_wide s ≡ true → IsTail all ts → old_item inner room s ts ≡ done x → Takes all (list_item_form all) room s ts x
+  old_item_sound : (room : ℕ) (s : HeldScopes) (ts : List Lexeme) (x : Found ListItem) → is_wide s ≡ true
+      → IsTail all ts → old_item inner room s ts ≡ done x → Takes all (list_item_form all) room s ts x
   unfolding old_item init_here
   old_item_sound room s ts x wide tail e =
       let a = bind_ok e in
@@ -316,7 +323,8 @@ module _ (all : List Lexeme) (numbered : IsNumbered all) (tokens : TokenLaws all
           if_ok (is_colon (kind_at (behind_first ts))) (fits_ok _ _ _ e).1 (λ is e. old_item_sound room s ts x wide tail e) (λ is e.
           if_ok (names_type s name) e (λ typed e. absurd cc) (λ typed e. plain_item_sound room s ts x tail e))) (λ wide e. plain_item_sound room s ts x tail e)
 
-  next_item_sound : (room token : ℕ) (s : HeldScopes) (ts : List Lexeme) (x : Found (Next ListItem ℕ)) → IsTail all ts → next_init_item inner room token s ts ≡ done x →
+  next_item_sound : (room token : ℕ) (s : HeldScopes) (ts : List Lexeme) (x : Found (Next ListItem ℕ)) → IsTail all ts
+      → next_init_item inner room token s ts ≡ done x →
       NextTakes all (list_item_form all) comma_ending room token s ts x.tree x.scopes x.rest
   unfolding next_init_item
   next_item_sound room token s ts x tail e =
@@ -333,12 +341,14 @@ module _ (all : List Lexeme) (numbered : IsNumbered all) (tokens : TokenLaws all
     low : init_items_height (init_items_from x.tree.items) ≤ room
     left : IsTail all x.rest
 
-  items_end : (xs : List ListItem) (last : Option ℕ) → HasItem (list_item_form all) comma_ending xs → IsItemsEnd (init_items_from xs) last
+  items_end : (xs : List ListItem) (last : Option ℕ) → HasItem (list_item_form all) comma_ending xs
+      → IsItemsEnd (init_items_from xs) last
   items_end [] last h = absurd h
   items_end (x ∷ xs) None h = tt
   items_end (x ∷ xs) (Some token) h = tt
 
-  init_items_sound : (room : ℕ) (s : HeldScopes) (ts : List Lexeme) (x : Found (CommaList ListItem ℕ)) → IsTail all ts → init_items_with inner room s ts ≡ done x → TookItems room s ts x
+  init_items_sound : (room : ℕ) (s : HeldScopes) (ts : List Lexeme) (x : Found (CommaList ListItem ℕ)) → IsTail all ts
+      → init_items_with inner room s ts ≡ done x → TookItems room s ts x
   unfolding init_items_with
   init_items_sound room s ts x tail e =
       if_ok (is_close_brace (kind_at ts)) e (λ is e. at_end (TookItems room s ts) e (record { spelled = refl; fits = tt; ended = tt; named = refl; low = omega arith; left = tail })) (λ is e.
@@ -372,7 +382,9 @@ module _ (all : List Lexeme) (numbered : IsNumbered all) (tokens : TokenLaws all
       })) (λ is e. absurd cc)
 
   module _ (firsts : FirstLaws all) where
-    desigs_read : (room : ℕ) → room ≤ n → (ds : Desigs) (s s' : HeldScopes) (k : List Lexeme) → AreDesigs all ds → has_no_old ds ≡ true → desigs_scopes ds s ≡ Some s' → desigs_height ds ≤ room - 1 → begins_desig (kind_at k) ≡ false →
+    desigs_read : (room : ℕ) → room ≤ n → (ds : Desigs) (s s' : HeldScopes) (k : List Lexeme) → AreDesigs all ds
+        → has_no_old ds ≡ true → desigs_scopes ds s ≡ Some s' → desigs_height ds ≤ room - 1
+        → begins_desig (kind_at k) ≡ false →
         repeated begins_desig (desig_with inner room) s (desigs_text all ds k) ≡ done (found (desigs_items ds) s' k)
     unfolding desig_with member_desig_with index_desig_with index_behind range_behind
     desigs_read room less ds s s' k h plain named low ended =
@@ -393,7 +405,9 @@ module _ (all : List Lexeme) (numbered : IsNumbered all) (tokens : TokenLaws all
         right_low : (h k room : ℕ) → max h k + 1 ≤ room - 1 → k + 1 ≤ room - 1
         right_low h k room a = omega (arith, a)
 
-        one : (x : Desig) (s t : HeldScopes) (k : List Lexeme) → IsDesig all x × (is_old x ≡ false) → desig_scopes x s ≡ Some t → desig_height x ≤ room - 1 → true ≡ true → desig_with inner room s (desig_text all x k) ≡ done (found x t k)
+        one : (x : Desig) (s t : HeldScopes) (k : List Lexeme) → IsDesig all x × (is_old x ≡ false)
+            → desig_scopes x s ≡ Some t → desig_height x ≤ room - 1 → true ≡ true
+            → desig_with inner room s (desig_text all x k) ≡ done (found x t k)
         one (member_desig token name) s t k h named low e =
             fits_is 2 room (sign_text puncts.Dot token (identifier_text name k)) _ (member_asks room low) ∙ bind_is _ refl (bind_is _ refl (ap (λ (t : HeldScopes). done (found (member_desig token name) t k)) (same_scopes s t named)))
         one (index_desig opening e closing) s t k h named low is =
@@ -413,34 +427,42 @@ module _ (all : List Lexeme) (numbered : IsNumbered all) (tokens : TokenLaws all
             (rw p.0 (bind_is _ refl (bind_is _ (laws.exprs.complete Conditional (room - 2) (index_less (expr_height e2) room n less right) e2 c.0 t end (h.0.2, h.0.3) (rw p.1 b.2) (index_room (expr_height e2) room right) refl) (bind_is _ refl refl)))))
         one (old_desig name colon) s t k h named low is = let wrong : true ≡ false = h.1 in absurd cc
 
-        starts : (x : Desig) (s t : HeldScopes) (k : List Lexeme) → IsDesig all x × (is_old x ≡ false) → desig_scopes x s ≡ Some t → begins_desig (kind_at (desig_text all x k)) ≡ true
+        starts : (x : Desig) (s t : HeldScopes) (k : List Lexeme) → IsDesig all x × (is_old x ≡ false)
+            → desig_scopes x s ≡ Some t → begins_desig (kind_at (desig_text all x k)) ≡ true
         starts (member_desig token name) s t k h named = refl
         starts (index_desig opening e closing) s t k h named = refl
         starts (range_desig opening e dots e2 closing) s t k h named = refl
         starts (old_desig name colon) s t k h named = let wrong : true ≡ false = h.1 in absurd cc
 
     -- a row of designators is not without a sign
-    not_without : (d : Desig) (ds : Desigs) → has_no_old (more_desigs d ds) ≡ true → IsDesignated (more_desigs d ds) None → ⊥
+    not_without : (d : Desig) (ds : Desigs) → has_no_old (more_desigs d ds) ≡ true
+        → IsDesignated (more_desigs d ds) None → ⊥
     not_without (member_desig token name) ds plain h = h
     not_without (index_desig opening e closing) ds plain h = h
     not_without (range_desig opening e dots e2 closing) ds plain h = h
     not_without (old_desig name colon) ds plain h = absurd cc
 
-    equal_read : (ds : Desigs) (equal : Option ℕ) (s : HeldScopes) (k : List Lexeme) → has_no_old ds ≡ true → IsDesignated ds equal → equal_behind ds s (some_sign_text puncts.Equal equal k) ≡ done (found equal s k)
+    equal_read : (ds : Desigs) (equal : Option ℕ) (s : HeldScopes) (k : List Lexeme) → has_no_old ds ≡ true
+        → IsDesignated ds equal → equal_behind ds s (some_sign_text puncts.Equal equal k) ≡ done (found equal s k)
     equal_read no_desigs None s k plain h = refl
     equal_read no_desigs (Some token) s k plain h = absurd h
     equal_read (more_desigs d ds) None s k plain h = absurd (not_without d ds plain h)
     equal_read (more_desigs d ds) (Some token) s k plain h = bind_is _ refl refl
 
     -- what stands behind designators begins none
-    no_desig_next : (ds : Desigs) (equal : Option ℕ) (i : Init) (s s' : HeldScopes) (k : List Lexeme) → has_no_old ds ≡ true → IsDesignated ds equal → IsInit all i → init_scopes i s ≡ Some s' → begins_desig (kind_at (some_sign_text puncts.Equal equal (init_text all i k))) ≡ false
+    no_desig_next : (ds : Desigs) (equal : Option ℕ) (i : Init) (s s' : HeldScopes) (k : List Lexeme)
+        → has_no_old ds ≡ true → IsDesignated ds equal → IsInit all i → init_scopes i s ≡ Some s'
+        → begins_desig (kind_at (some_sign_text puncts.Equal equal (init_text all i k))) ≡ false
     no_desig_next no_desigs None i s s' k plain h f named = init_no_desig s (kind_at (init_text all i k)) (init_begins all n inner laws firsts i s s' k f named)
     no_desig_next no_desigs (Some token) i s s' k plain h f named = absurd h
     no_desig_next (more_desigs d ds) None i s s' k plain h f named = absurd (not_without d ds plain h)
     no_desig_next (more_desigs d ds) (Some token) i s s' k plain h f named = refl
 
-    plain_item_read : (room : ℕ) → room ≤ n → (x : ListItem) → has_no_old x.desigs ≡ true → (s s' : HeldScopes) (k : List Lexeme) → (list_item_form all).Fits x → (list_item_form all).scopes x s ≡ Some s' →
-        (list_item_form all).height x ≤ room → ends_expr Assigned (kind_at k) ≡ true → plain_item inner room s ((list_item_form all).text x k) ≡ done (found x s' k)
+    plain_item_read : (room : ℕ) → room ≤ n → (x : ListItem) → has_no_old x.desigs ≡ true
+        → (s s' : HeldScopes) (k : List Lexeme) → (list_item_form all).Fits x
+        → (list_item_form all).scopes x s ≡ Some s' →
+        (list_item_form all).height x ≤ room → ends_expr Assigned (kind_at k) ≡ true
+        → plain_item inner room s ((list_item_form all).text x k) ≡ done (found x s' k)
     unfolding plain_item init_here
     plain_item_read room less x plain s s' k h named low ended =
         let b = behind_ok (desigs_scopes x.desigs s) (init_scopes x.init) s' named in
@@ -456,7 +478,8 @@ module _ (all : List Lexeme) (numbered : IsNumbered all) (tokens : TokenLaws all
         inside h k room n a b = omega (arith, a, b)
 
     -- a name with a colon
-    old_item_read : (room : ℕ) → room ≤ n → (name : Identifier) (colon : ℕ) (i : Init) (s s' : HeldScopes) (k : List Lexeme) → IsInit all i →
+    old_item_read : (room : ℕ) → room ≤ n
+        → (name : Identifier) (colon : ℕ) (i : Init) (s s' : HeldScopes) (k : List Lexeme) → IsInit all i →
         behind (behind (where_true (is_wide s) s) (desigs_scopes no_desigs)) (init_scopes i) ≡ Some s' → max 1 (init_height i) + 1 ≤ room → ends_expr Assigned (kind_at k) ≡ true →
         init_item_with inner room s (identifier_text name (sign_text puncts.Colon colon (init_text all i k))) ≡ done (found (record { desigs = more_desigs (old_desig name colon) no_desigs; equal = None; init = i }) s' k)
     unfolding init_item_with named_init_item old_item init_here
@@ -481,7 +504,8 @@ module _ (all : List Lexeme) (numbered : IsNumbered all) (tokens : TokenLaws all
         inside h k room n a b = omega (arith, a, b)
 
     -- a name that an item begins with is no typedef name, and no colon stands behind it
-    name_untyped : (s : HeldScopes) (kind : TokenKind) (name : ℕ) → begins_expr s kind ≡ true → spelled_name kind ≡ Some name → names_type s name ≡ false
+    name_untyped : (s : HeldScopes) (kind : TokenKind) (name : ℕ) → begins_expr s kind ≡ true
+        → spelled_name kind ≡ Some name → names_type s name ≡ false
     name_untyped s (kinds.Name other) name begun e = not_true (subst (λ (m : ℕ). not (names_type s m) ≡ true) (some_name other name e) begun)
       where
         some_name : (a b : ℕ) → Some a ≡ Some b → a ≡ b
@@ -492,7 +516,8 @@ module _ (all : List Lexeme) (numbered : IsNumbered all) (tokens : TokenLaws all
       untyped : names_type s name ≡ false
       no_colon : is_colon (kind_at (behind_first ts)) ≡ false
 
-    named_start : (ds : Desigs) (equal : Option ℕ) (i : Init) (s s' : HeldScopes) (k : List Lexeme) (name : ℕ) → has_no_old ds ≡ true → IsDesignated ds equal → IsInit all i →
+    named_start : (ds : Desigs) (equal : Option ℕ) (i : Init) (s s' : HeldScopes) (k : List Lexeme) (name : ℕ)
+        → has_no_old ds ≡ true → IsDesignated ds equal → IsInit all i →
         behind (desigs_scopes ds s) (init_scopes i) ≡ Some s' → is_colon (kind_at k) ≡ false → spelled_name (kind_at (desigs_text all ds (some_sign_text puncts.Equal equal (init_text all i k)))) ≡ Some name →
         NamedStart s name (desigs_text all ds (some_sign_text puncts.Equal equal (init_text all i k)))
     named_start no_desigs None (init_value e) s s' k name plain d f named ended is = record {
@@ -507,8 +532,11 @@ module _ (all : List Lexeme) (numbered : IsNumbered all) (tokens : TokenLaws all
     named_start (more_desigs (old_desig member colon) ds) equal i s s' k name plain d f named ended is = absurd cc
 
     -- an item without a name and a colon
-    new_item_read : (room : ℕ) → room ≤ n → (x : ListItem) → has_no_old x.desigs ≡ true → (s s' : HeldScopes) (k : List Lexeme) → (list_item_form all).Fits x → (list_item_form all).scopes x s ≡ Some s' →
-        (list_item_form all).height x ≤ room → ends_item (kind_at k) ≡ true → init_item_with inner room s ((list_item_form all).text x k) ≡ done (found x s' k)
+    new_item_read : (room : ℕ) → room ≤ n → (x : ListItem) → has_no_old x.desigs ≡ true
+        → (s s' : HeldScopes) (k : List Lexeme) → (list_item_form all).Fits x
+        → (list_item_form all).scopes x s ≡ Some s' →
+        (list_item_form all).height x ≤ room → ends_item (kind_at k) ≡ true
+        → init_item_with inner room s ((list_item_form all).text x k) ≡ done (found x s' k)
     unfolding init_item_with named_init_item
     new_item_read room less x plain s s' k h named low ended = by_name (spelled_name (kind_at ((list_item_form all).text x k))) refl
       where
@@ -521,15 +549,18 @@ module _ (all : List Lexeme) (numbered : IsNumbered all) (tokens : TokenLaws all
         by_wide true name wide start =
             fits_is 2 room ((list_item_form all).text x k) _ (init_two (desigs_height x.desigs) (init_height x.init) room low (init_high x.init)) ∙ rw (start.no_colon, start.untyped) read
 
-        by_name : (o : Option ℕ) → spelled_name (kind_at ((list_item_form all).text x k)) ≡ o → init_item_by inner o room s ((list_item_form all).text x k) ≡ done (found x s' k)
+        by_name : (o : Option ℕ) → spelled_name (kind_at ((list_item_form all).text x k)) ≡ o
+            → init_item_by inner o room s ((list_item_form all).text x k) ≡ done (found x s' k)
         by_name None is = read
         by_name (Some name) is =
             by_wide (is_wide s) name refl (named_start x.desigs x.equal x.init s s' k name plain h.1 h.2 named (not_true (both_right (ends_expr Assigned (kind_at k)) (not (is_colon (kind_at k))) ended)) is)
 
-    init_item_read : (room : ℕ) → room ≤ n → IsComplete (list_item_form all) (λ x. ends_item) room (init_item_with inner room)
+    init_item_read : (room : ℕ) → room ≤ n
+        → IsComplete (list_item_form all) (λ x. ends_item) room (init_item_with inner room)
     init_item_read room less x s s' k h named low ended = by_desigs x.desigs x.equal h named low
       where
-        by_desigs : (ds : Desigs) (equal : Option ℕ) → AreDesigs all ds × IsDesignated ds equal × IsInit all x.init → behind (desigs_scopes ds s) (init_scopes x.init) ≡ Some s' →
+        by_desigs : (ds : Desigs) (equal : Option ℕ) → AreDesigs all ds × IsDesignated ds equal × IsInit all x.init
+            → behind (desigs_scopes ds s) (init_scopes x.init) ≡ Some s' →
             max (desigs_height ds) (init_height x.init) + 1 ≤ room →
             init_item_with inner room s (desigs_text all ds (some_sign_text puncts.Equal equal (init_text all x.init k))) ≡ done (found (record { desigs = ds; equal = equal; init = x.init }) s' k)
         by_desigs no_desigs None h named low = new_item_read room less (record { desigs = no_desigs; equal = None; init = x.init }) refl s s' k h named low ended
@@ -547,11 +578,15 @@ module _ (all : List Lexeme) (numbered : IsNumbered all) (tokens : TokenLaws all
         by_desigs (more_desigs (range_desig a b c d e) ds) None h named low = absurd h.1
 
     -- the first token of an item is no closing brace
-    item_begins : (x : ListItem) (s s' : HeldScopes) (k : List Lexeme) → AreDesigs all x.desigs → IsDesignated x.desigs x.equal → IsInit all x.init → behind (desigs_scopes x.desigs s) (init_scopes x.init) ≡ Some s' →
+    item_begins : (x : ListItem) (s s' : HeldScopes) (k : List Lexeme) → AreDesigs all x.desigs
+        → IsDesignated x.desigs x.equal → IsInit all x.init
+        → behind (desigs_scopes x.desigs s) (init_scopes x.init) ≡ Some s' →
         is_close_brace (kind_at (desigs_text all x.desigs (some_sign_text puncts.Equal x.equal (init_text all x.init k)))) ≡ false
     item_begins x s s' k h d f named = by_desigs x.desigs x.equal d named
       where
-        by_desigs : (ds : Desigs) (equal : Option ℕ) → IsDesignated ds equal → behind (desigs_scopes ds s) (init_scopes x.init) ≡ Some s' → is_close_brace (kind_at (desigs_text all ds (some_sign_text puncts.Equal equal (init_text all x.init k)))) ≡ false
+        by_desigs : (ds : Desigs) (equal : Option ℕ) → IsDesignated ds equal
+            → behind (desigs_scopes ds s) (init_scopes x.init) ≡ Some s'
+            → is_close_brace (kind_at (desigs_text all ds (some_sign_text puncts.Equal equal (init_text all x.init k)))) ≡ false
         by_desigs no_desigs None d named = init_no_close s (kind_at (init_text all x.init k)) (init_begins all n inner laws firsts x.init s s' k f named)
         by_desigs no_desigs (Some token) d named = absurd d
         by_desigs (more_desigs (member_desig token name) ds) equal d named = refl
@@ -559,13 +594,18 @@ module _ (all : List Lexeme) (numbered : IsNumbered all) (tokens : TokenLaws all
         by_desigs (more_desigs (range_desig opening e dots e2 closing) ds) equal d named = refl
         by_desigs (more_desigs (old_desig name colon) ds) equal d named = refl
 
-    next_item_read : (room : ℕ) → room ≤ n → (token : ℕ) (x : ListItem) (s s' : HeldScopes) (k : List Lexeme) → AreDesigs all x.desigs × IsDesignated x.desigs x.equal × IsInit all x.init → behind (desigs_scopes x.desigs s) (init_scopes x.init) ≡ Some s' →
+    next_item_read : (room : ℕ) → room ≤ n → (token : ℕ) (x : ListItem) (s s' : HeldScopes) (k : List Lexeme)
+        → AreDesigs all x.desigs × IsDesignated x.desigs x.equal × IsInit all x.init
+        → behind (desigs_scopes x.desigs s) (init_scopes x.init) ≡ Some s' →
         max (desigs_height x.desigs) (init_height x.init) + 1 ≤ room → ends_item (kind_at k) ≡ true →
         next_init_item inner room token s (desigs_text all x.desigs (some_sign_text puncts.Equal x.equal (init_text all x.init k))) ≡ done (found (one_more x) s' k)
     unfolding next_init_item
     next_item_read room less token x s s' k h named low ended = rw (item_begins x s s' k h.0 h.1 h.2 named) (bind_is _ (init_item_read room less x s s' k h named low ended) refl)
 
-    init_items_read : (room : ℕ) → room ≤ n → (items : InitItems) (last : Option ℕ) (s s' : HeldScopes) (closing : ℕ) (k : List Lexeme) → AreInitItems all items → IsItemsEnd items last → init_items_scopes items s ≡ Some s' → init_items_height items ≤ room →
+    init_items_read : (room : ℕ) → room ≤ n
+        → (items : InitItems) (last : Option ℕ) (s s' : HeldScopes) (closing : ℕ) (k : List Lexeme)
+        → AreInitItems all items → IsItemsEnd items last → init_items_scopes items s ≡ Some s'
+        → init_items_height items ≤ room →
         init_items_with inner room s (init_items_text all items (some_sign_text puncts.Comma last (sign_text puncts.CloseBrace closing k))) ≡ done (found (record { items = init_items_items items; ending = last }) s' (sign_text puncts.CloseBrace closing k))
     unfolding init_items_with next_init_item
     init_items_read room less no_init_items None s s' closing k h d named low = ap (λ (o : Option HeldScopes). done (found (record { items = []; ending = None }) (from o) (sign_text puncts.CloseBrace closing k))) named
@@ -587,7 +627,8 @@ module _ (all : List Lexeme) (numbered : IsNumbered all) (tokens : TokenLaws all
         (record { items = init_items_items whole; ending = last }) s s' end tt (items_fit_back all whole h) (items_named all (init_items_items whole) s ∙ ap (λ (xs : InitItems). init_items_scopes xs s) (init_items_back whole) ∙ named)
         (subst (λ (m : ℕ). m ≤ room) (sym (items_high all (init_items_items whole) ∙ ap init_items_height (init_items_back whole))) low) (ended last))
       where
-        ended : (last : Option ℕ) → IsListEnd (init_item_with inner room) (next_init_item inner room) (list_item_form all) comma_ending (λ x. ends_item) room (next_item_falls room)
+        ended : (last : Option ℕ)
+            → IsListEnd (init_item_with inner room) (next_init_item inner room) (list_item_form all) comma_ending (λ x. ends_item) room (next_item_falls room)
             (λ x s t k h n l e. init_item_read room less x s t k h n l e) (λ token x s t k h n l e. next_item_read room less token x s t k h n l e) (λ x. refl) last s' (sign_text puncts.CloseBrace closing k)
         ended None = (refl, λ x. refl)
         ended (Some token) = (token, sign_text puncts.CloseBrace closing k, refl, refl)
@@ -608,7 +649,8 @@ module _ (all : List Lexeme) (numbered : IsNumbered all) (tokens : TokenLaws all
 within : (room n : ℕ) → room < suc n → room ≤ n
 within room n h = omega (arith, h)
 
-pub init_list_laws : (all : List Lexeme) → IsNumbered all → TokenLaws all → FirstLaws all → (n : ℕ) (inner : Inner) → Laws all n inner → InitListLaws all (suc n) (init_list_with inner)
+pub init_list_laws : (all : List Lexeme) → IsNumbered all → TokenLaws all → FirstLaws all → (n : ℕ) (inner : Inner)
+    → Laws all n inner → InitListLaws all (suc n) (init_list_with inner)
 init_list_laws all numbered tokens firsts n inner laws = record {
   shrinks = init_list_shrinks all numbered tokens n inner laws;
   sound = init_list_sound all numbered tokens n inner laws;

@@ -1,6 +1,6 @@
 -- Items are read from their text.
-use Rattle.std.proofs.Common.{inl, inr, ◌≡◌, ℕ, suc, ◌<◌, ◌≤◌, Bool, true, false, List, [], ◌∷◌, Option, Some, None, refl, sym, ◌∙◌, ap, subst, arith}
-use Rattle.std.specs.Prelude.{not, All, is_some, ◌+◌, ◌-◌, max, if◌then◌else◌, option_map, Contains}
+use Rattle.std.proofs.Common.{inl, ◌≡◌, ℕ, suc, ◌<◌, ◌≤◌, Bool, true, false, List, [], ◌∷◌, Option, Some, None, refl, sym, ◌∙◌, ap, subst, arith}
+use Rattle.std.specs.Prelude.{not, All, is_some, ◌+◌, ◌-◌, max, if◌then◌else◌, option_map}
 use Rattle.c_words.specs.declared.kinds.TokenKind.{TokenKind}
 use Rattle.std.proofs.lemmas.List.Elements.{All-head, All-tail}
 use Rattle.c_words.specs.declared.kinds.TokenKind.TheVariants as kinds
@@ -10,11 +10,11 @@ use Rattle.c_words.specs.declared.kinds.Punct.TheVariants as puncts
 use Rattle.c_tree.specs.declared.lexeme.Lexeme.{Lexeme}
 use Rattle.c_syntax.specs.declared.parts.Attr.{Attr}
 use Rattle.c_syntax.specs.declared.parts.AsmLabel.{AsmLabel}
-use Rattle.c_tree.specs.Tree.{SpecWord, SpecWords, attribute, qualifier, typeof_type, no_params, Declr, pointer, declr_name, declr_paren, array, params, abs_pointer, abs_paren, abs_array, abs_params, identifiers, base_name, SomeDeclr, some_declr, SomeInit, no_init, some_init, InitDeclrs, no_init_declrs, more_init_declrs, Declaration, declaration, decl_declaration, decl_assert, BlockItems, more_words, no_words}
+use Rattle.c_tree.specs.Tree.{SpecWord, SpecWords, attribute, qualifier, typeof_type, Declr, pointer, declr_name, declr_paren, array, params, abs_pointer, abs_paren, abs_array, abs_params, identifiers, base_name, some_declr, SomeInit, no_init, some_init, InitDeclrs, no_init_declrs, more_init_declrs, Declaration, declaration, decl_declaration, decl_assert, BlockItems, more_words, no_words}
 use Rattle.c_tree.specs.Text.{spec_word_text, declaration_text, sign_text, attrs_text, label_text, declr_text, extensions_text, spec_words_text, init_declrs_text, other_init_declrs_text, block_items_text, some_init_text}
 use Rattle.c_tree.specs.Height.{attrs_height, label_height, declr_height, specs_height, init_declrs_height, block_height, some_init_height}
 use Rattle.c_tree.specs.Specifiers.{IsMix, storage_words}
-use Rattle.c_tree.specs.WellFormed.{AreSpecWords, AreAttrs, IsDeclr, is_named, IsLabel, IsSomeInit, IsInitStart, IsSpecWord, IsDeclaration, is_bare_name, AreInitDeclrs, AreBlockItems, AreLabelsFirst, has_auto, lists_identifiers, IsAutoWhere, IsBaseStart}
+use Rattle.c_tree.specs.WellFormed.{AreSpecWords, AreAttrs, IsDeclr, is_named, IsLabel, IsSomeInit, IsInitStart, IsSpecWord, IsDeclaration, is_bare_name, AreInitDeclrs, AreBlockItems, AreLabelsFirst, has_auto, lists_identifiers, IsAutoWhere}
 use Rattle.c_tree.specs.Unit.{declarations_text, declarations_height, begins_attribute, Item, IsItem, item_text, item_height, function_item, old_function_item, decl_item, asm_item, semi_item, is_round_name, declares_function}
 use Rattle.typedef_scope.specs.declared.kind.Kind.{Kind}
 use Rattle.typedef_scope.specs.declared.kind.Kind.TheVariants.{Value}
@@ -34,7 +34,7 @@ use Rattle.c_reading.specs.Items.{as_decl, goes_on_declared, function_with, attr
 use Rattle.c_reading.proofs.Binding.{found, done, bind_is, fits_is}
 use Rattle.c_reading.proofs.Forms.{IsComplete, always, behind_ok}
 use Rattle.c_reading.proofs.KindFacts.{attribute_kind, specs_no_open_brace, named_no_semicolon, named_ends_specs, specs_no_semicolon, specs_no_asm, specs_no_static_assert, specs_no_extension, not_false}
-use Rattle.c_reading.proofs.Aims.{EndsWords, least_with, ends_suffix, ends_init_declr, declr_item_form, declaration_form, item_form, closed_of, declr_room, declared_as, TokenLaws, FirstLaws, Laws, own_scope_in}
+use Rattle.c_reading.proofs.Aims.{EndsWords, least_with, ends_suffix, declr_item_form, declaration_form, item_form, closed_of, declr_room, TokenLaws, FirstLaws, Laws, own_scope_in}
 use Rattle.c_reading.proofs.Shared.{named_ends, specs_here_ended}
 use Rattle.c_syntax.specs.declared.parts.Qual.TheVariants as quals
 use Rattle.c_reading.specs.declared.kinds.SpecStart.TheVariants as starts
@@ -91,9 +91,6 @@ exts_asks : (exts : List ℕ) (h room : ℕ) → 1 ≤ h → h + 1 ≤ room → 
 exts_asks [] h room a b = omega arith
 exts_asks (x ∷ exts) h room a b = omega (arith, a, b)
 
-max_some : (w d : ℕ) → 1 ≤ w → 1 ≤ max w d
-max_some w d h = omega (arith, h)
-
 bare_asks : (h room : ℕ) → max h 0 + 1 ≤ room → 1 + h ≤ room
 bare_asks h room a = omega (arith, a)
 
@@ -103,16 +100,20 @@ some_low w a d l b i room h = omega (arith, h)
 first_low : (w a d l b i r room : ℕ) → max w (max (max a (max d (max l (max b i))) + 1) r) + 1 ≤ room → d ≤ room - 2
 first_low w a d l b i r room h = omega (arith, h)
 
-first_asks : (w a d l b i r room : ℕ) → 1 ≤ d → max w (max (max a (max d (max l (max b i))) + 1) r) + 1 ≤ room → 2 + d ≤ room
+first_asks : (w a d l b i r room : ℕ) → 1 ≤ d → max w (max (max a (max d (max l (max b i))) + 1) r) + 1 ≤ room
+    → 2 + d ≤ room
 first_asks w a d l b i r room o h = omega (arith, o, h)
 
-first_number : (w a d l b i r room n : ℕ) → 1 ≤ d → room ≤ n → max w (max (max a (max d (max l (max b i))) + 1) r) + 1 ≤ room → suc (room - 2) < n
+first_number : (w a d l b i r room n : ℕ) → 1 ≤ d → room ≤ n
+    → max w (max (max a (max d (max l (max b i))) + 1) r) + 1 ≤ room → suc (room - 2) < n
 first_number w a d l b i r room n o less h = omega (arith, o, less, h)
 
-attrs_low : (w a d l b i r room : ℕ) → max w (max (max a (max d (max l (max b i))) + 1) r) + 1 ≤ room → b ≤ (room - 1) - 1
+attrs_low : (w a d l b i r room : ℕ) → max w (max (max a (max d (max l (max b i))) + 1) r) + 1 ≤ room
+    → b ≤ (room - 1) - 1
 attrs_low w a d l b i r room h = omega (arith, h)
 
-init_low : (w a d l b i r room : ℕ) → max w (max (max a (max d (max l (max b i))) + 1) r) + 1 ≤ room → i ≤ (room - 1) - 1
+init_low : (w a d l b i r room : ℕ) → max w (max (max a (max d (max l (max b i))) + 1) r) + 1 ≤ room
+    → i ≤ (room - 1) - 1
 init_low w a d l b i r room h = omega (arith, h)
 
 rest_low : (w a b room : ℕ) → max w (max a b) + 1 ≤ room → b ≤ room - 1
@@ -147,7 +148,8 @@ words_high : (ws : SpecWords) → 1 ≤ specs_height ws
 words_high no_words = omega arith
 words_high (more_words w ws) = let rest : 1 ≤ specs_height ws = words_high ws in omega (arith, rest)
 
-same_found : {A : Type 0} (x : A) (s s' : HeldScopes) (k : List Lexeme) → Some s ≡ Some s' → done (found x s k) ≡ done (found x s' k)
+same_found : {A : Type 0} (x : A) (s s' : HeldScopes) (k : List Lexeme) → Some s ≡ Some s'
+    → done (found x s k) ≡ done (found x s' k)
 same_found x s s' k e = ap (λ (o : Option HeldScopes). done (found x (from o) k)) e
   where
     from : Option HeldScopes → HeldScopes
@@ -194,7 +196,8 @@ listed_not_bare (abs_paren opening attrs d closing) h = refl
 listed_not_bare (abs_array d opening words size closing) h = refl
 listed_not_bare (abs_params d opening ps dots closing) h = refl
 
-listed_closed : (all : List Lexeme) (d : Declr) (s t : HeldScopes) → IsDeclr all d → lists_identifiers d ≡ true → declr_scopes (Some Value) d s ≡ Some t → is_some (closed_of (Some Value) (some_declr d) s) ≡ true
+listed_closed : (all : List Lexeme) (d : Declr) (s t : HeldScopes) → IsDeclr all d → lists_identifiers d ≡ true
+    → declr_scopes (Some Value) d s ≡ Some t → is_some (closed_of (Some Value) (some_declr d) s) ≡ true
 listed_closed all (identifiers d opening names closing) s t fit h named =
     let b = behind_ok (declr_scopes (Some Value) d s) (λ t. behind (where_true (is_wide t) t) (identifiers_scopes names)) t named in
     ap is_some (sym (closed_with_identifiers (Some Value) d opening names closing s b.0 (bare_back d fit.1) b.1))
@@ -213,7 +216,8 @@ listed_closed all (abs_paren opening attrs d closing) s t fit h named = absurd c
 listed_closed all (abs_array d opening words size closing) s t fit h named = absurd cc
 listed_closed all (abs_params d opening ps dots closing) s t fit h named = absurd cc
 
-some_room : (closed : Option HeldScope) (h room : ℕ) → is_some closed ≡ true → h ≤ suc room → h ≤ declr_room true closed room
+some_room : (closed : Option HeldScope) (h room : ℕ) → is_some closed ≡ true → h ≤ suc room
+    → h ≤ declr_room true closed room
 some_room None h room e l = absurd cc
 some_room (Some scope) h room e l = l
 
@@ -238,7 +242,8 @@ old_declarations w d a ds b room h = omega (arith, h)
 old_block : (w d a ds b room : ℕ) → max w (max d (max a (max ds b))) + 1 ≤ room → b ≤ room - 1
 old_block w d a ds b room h = omega (arith, h)
 
-old_number : (w d a ds b room n : ℕ) → 1 ≤ w → room ≤ n → max w (max d (max a (max ds b))) + 1 ≤ room → suc (room - 2) < n
+old_number : (w d a ds b room n : ℕ) → 1 ≤ w → room ≤ n → max w (max d (max a (max ds b))) + 1 ≤ room
+    → suc (room - 2) < n
 old_number w d a ds b room n o less h = omega (arith, o, less, h)
 
 -- the block of a function, in the scope of its parameters
@@ -247,7 +252,8 @@ BodyRead all n inner = (room : ℕ) → room ≤ n → (opening : ℕ) (items : 
     block_body inner room s (sign_text puncts.OpenBrace opening (block_items_text all items (sign_text puncts.CloseBrace closing k))) ≡ done (found (record { opening = opening; items = items; closing = closing }) s' k)
 
 module _ (all : List Lexeme) (numbered : IsNumbered all) (tokens : TokenLaws all) (firsts : FirstLaws all) (n : ℕ) (inner : Inner) (laws : Laws all n inner) (whole_are : WholeAreMixes) (goes : MixesGoOn) where
-  as_decl_read : (r : Read Declaration) (d : Declaration) (s : HeldScopes) (k : List Lexeme) → r ≡ done (found d s k) → as_decl r ≡ done (found (decl_item (decl_declaration d)) s k)
+  as_decl_read : (r : Read Declaration) (d : Declaration) (s : HeldScopes) (k : List Lexeme) → r ≡ done (found d s k)
+      → as_decl r ≡ done (found (decl_item (decl_declaration d)) s k)
   as_decl_read r d s k is = bind_is _ is refl
 
   -- behind a function's declarator and attributes goes on a declaration
@@ -271,7 +277,9 @@ module _ (all : List Lexeme) (numbered : IsNumbered all) (tokens : TokenLaws all
     init_low : some_init_height i ≤ (room - 1) - 1
     rest_low : init_declrs_height ds ≤ room - 1
 
-  declr_goes : (exts : List ℕ) (words : SpecWords) (room : ℕ) → room ≤ n → (d : Declr) (l : Option AsmLabel) (attrs : List Attr) (i : SomeInit) (ds : InitDeclrs) (semi : ℕ) (u v s' : HeldScopes) (k : List Lexeme) → Goes exts words room d l attrs i ds u v s' →
+  declr_goes : (exts : List ℕ) (words : SpecWords) (room : ℕ) → room ≤ n
+      → (d : Declr) (l : Option AsmLabel) (attrs : List Attr) (i : SomeInit) (ds : InitDeclrs) (semi : ℕ) (u v s' : HeldScopes) (k : List Lexeme)
+      → Goes exts words room d l attrs i ds u v s' →
       as_decl (declrs_with inner exts words Value room (declr_behind inner [] d (room - 1)) (release Value u) (label_text all l (attrs_text all attrs (some_init_text all i (other_init_declrs_text all ds (sign_text puncts.Semicolon semi k)))))) ≡
       done (found (decl_item (decl_declaration (declaration exts words (more_init_declrs [] d l attrs i ds) semi))) s' k)
   declr_goes exts words room less d l attrs i ds semi u v s' k g =
@@ -282,7 +290,9 @@ module _ (all : List Lexeme) (numbered : IsNumbered all) (tokens : TokenLaws all
       (other_init_declrs_text all ds (sign_text puncts.Semicolon semi k)) g.label_fit g.attrs_fit g.init_fit g.init_named g.attrs_low g.init_low (others_end all numbered tokens firsts n inner laws ds semi k))
       g.rest_fit g.rest_named g.rest_low)
 
-  attrs_goes : (exts : List ℕ) (words : SpecWords) (room : ℕ) → room ≤ n → (d : Declr) (attrs : List Attr) (i : SomeInit) (ds : InitDeclrs) (semi : ℕ) (u v s' : HeldScopes) (k : List Lexeme) → Goes exts words room d None attrs i ds u v s' →
+  attrs_goes : (exts : List ℕ) (words : SpecWords) (room : ℕ) → room ≤ n
+      → (d : Declr) (attrs : List Attr) (i : SomeInit) (ds : InitDeclrs) (semi : ℕ) (u v s' : HeldScopes) (k : List Lexeme)
+      → Goes exts words room d None attrs i ds u v s' →
       as_decl (declrs_with inner exts words Value room (attrs_behind inner d attrs (room - 1)) (release Value u) (some_init_text all i (other_init_declrs_text all ds (sign_text puncts.Semicolon semi k)))) ≡
       done (found (decl_item (decl_declaration (declaration exts words (more_init_declrs [] d None attrs i ds) semi))) s' k)
   unfolding attrs_behind
@@ -294,7 +304,8 @@ module _ (all : List Lexeme) (numbered : IsNumbered all) (tokens : TokenLaws all
       (ends_value (kind_at (other_init_declrs_text all ds (sign_text puncts.Semicolon semi k))) (others_end all numbered tokens firsts n inner laws ds semi k))) refl)
       g.rest_fit g.rest_named g.rest_low)
 
-  behind_goes : (exts : List ℕ) (words : SpecWords) (room : ℕ) → room ≤ n → (d : Declr) (closed : Option HeldScope) (l : Option AsmLabel) (attrs : List Attr) (i : SomeInit) (ds : InitDeclrs) (semi : ℕ) (u v s' : HeldScopes) (k : List Lexeme) →
+  behind_goes : (exts : List ℕ) (words : SpecWords) (room : ℕ) → room ≤ n
+      → (d : Declr) (closed : Option HeldScope) (l : Option AsmLabel) (attrs : List Attr) (i : SomeInit) (ds : InitDeclrs) (semi : ℕ) (u v s' : HeldScopes) (k : List Lexeme) →
       Goes exts words room d l attrs i ds u v s' →
       behind_declr inner exts words d closed room (release Value u) (label_text all l (attrs_text all attrs (some_init_text all i (other_init_declrs_text all ds (sign_text puncts.Semicolon semi k))))) ≡
       done (found (decl_item (decl_declaration (declaration exts words (more_init_declrs [] d l attrs i ds) semi))) s' k)
@@ -312,7 +323,8 @@ module _ (all : List Lexeme) (numbered : IsNumbered all) (tokens : TokenLaws all
       (rw o.0 (rw o.1 (fits_is (2 + declr_height d) room more _ g.asks ∙ attrs_goes exts words room less d attrs i ds semi u v s' k g))))
 
   -- a declaration without `typedef`, behind its words
-  first_declr_goes : (exts : List ℕ) (words : SpecWords) (room : ℕ) → room ≤ n → (d : Declr) (l : Option AsmLabel) (attrs : List Attr) (i : SomeInit) (ds : InitDeclrs) (semi : ℕ) (s u v s' : HeldScopes) (k : List Lexeme) →
+  first_declr_goes : (exts : List ℕ) (words : SpecWords) (room : ℕ) → room ≤ n
+      → (d : Declr) (l : Option AsmLabel) (attrs : List Attr) (i : SomeInit) (ds : InitDeclrs) (semi : ℕ) (s u v s' : HeldScopes) (k : List Lexeme) →
       IsDeclr all d → is_named d ≡ true → lists_identifiers d ≡ false → declr_scopes (Some Value) d s ≡ Some u → declr_height d ≤ room - 2 → suc (room - 2) < n → Goes exts words room d l attrs i ds u v s' →
       first_declr inner exts words room s (declr_text all d (label_text all l (attrs_text all attrs (some_init_text all i (other_init_declrs_text all ds (sign_text puncts.Semicolon semi k)))))) ≡
       done (found (decl_item (decl_declaration (declaration exts words (more_init_declrs [] d l attrs i ds) semi))) s' k)
@@ -333,7 +345,9 @@ module _ (all : List Lexeme) (numbered : IsNumbered all) (tokens : TokenLaws all
       else first_declr inner exts words room t ts
 
   -- a declaration behind its words, by its first token and by `typedef`
-  plain_goes : (exts : List ℕ) (words : SpecWords) (room : ℕ) → room ≤ n → (ds : InitDeclrs) (semi : ℕ) (s s' : HeldScopes) (k : List Lexeme) → IsInitStart ds → AreInitDeclrs all ds → IsAutoWhere false words ds → has_auto words ≡ false → init_declrs_scopes (declared_kind words) ds s ≡ Some s' →
+  plain_goes : (exts : List ℕ) (words : SpecWords) (room : ℕ) → room ≤ n
+      → (ds : InitDeclrs) (semi : ℕ) (s s' : HeldScopes) (k : List Lexeme) → IsInitStart ds → AreInitDeclrs all ds
+      → IsAutoWhere false words ds → has_auto words ≡ false → init_declrs_scopes (declared_kind words) ds s ≡ Some s' →
       max (specs_height words) (init_declrs_height ds) + 1 ≤ room →
       (if is_semicolon (kind_at (init_declrs_text all ds (sign_text puncts.Semicolon semi k))) then as_decl (bare_declaration inner exts words room s (init_declrs_text all ds (sign_text puncts.Semicolon semi k)))
       else if has_typedef_word (storage_words words) then as_decl (declaration_behind inner exts words room s (init_declrs_text all ds (sign_text puncts.Semicolon semi k)))
@@ -351,7 +365,8 @@ module _ (all : List Lexeme) (numbered : IsNumbered all) (tokens : TokenLaws all
       high : 1 ≤ declr_height d
       high = declr_high d
 
-      by_value : init_declrs_scopes Value (more_init_declrs [] d l attrs2 i ds) s ≡ Some s' → first_declr inner exts words room s (init_declrs_text all (more_init_declrs [] d l attrs2 i ds) (sign_text puncts.Semicolon semi k)) ≡
+      by_value : init_declrs_scopes Value (more_init_declrs [] d l attrs2 i ds) s ≡ Some s'
+          → first_declr inner exts words room s (init_declrs_text all (more_init_declrs [] d l attrs2 i ds) (sign_text puncts.Semicolon semi k)) ≡
           done (found (decl_item (decl_declaration (declaration exts words (more_init_declrs [] d l attrs2 i ds) semi))) s' k)
       by_value named =
           let x : DeclrItem = record { before = []; declr = d; label = l; attrs = attrs2; init = i } in
@@ -379,12 +394,15 @@ module _ (all : List Lexeme) (numbered : IsNumbered all) (tokens : TokenLaws all
           (rw plain auto) (rw plain named) low)
       by_word false is = by_value (subst (λ (kind : Kind). init_declrs_scopes kind (more_init_declrs [] d l attrs2 i ds) s ≡ Some s') (value_kind is) named)
 
-  declaration_goes : (exts : List ℕ) (words : SpecWords) (room : ℕ) → room ≤ n → (ds : InitDeclrs) (semi : ℕ) (s s' : HeldScopes) (k : List Lexeme) → IsInitStart ds → AreInitDeclrs all ds → IsAutoWhere (has_auto words) words ds →
+  declaration_goes : (exts : List ℕ) (words : SpecWords) (room : ℕ) → room ≤ n
+      → (ds : InitDeclrs) (semi : ℕ) (s s' : HeldScopes) (k : List Lexeme) → IsInitStart ds → AreInitDeclrs all ds
+      → IsAutoWhere (has_auto words) words ds →
       words_declrs_scopes words ds s ≡ Some s' → max (specs_height words) (init_declrs_height ds) + 1 ≤ room →
       behind_words exts words room s (init_declrs_text all ds (sign_text puncts.Semicolon semi k)) ≡ done (found (decl_item (decl_declaration (declaration exts words ds semi))) s' k)
   declaration_goes exts words room less ds semi s s' k start fit auto named low = by_auto (has_auto words) refl auto named
     where
-      by_auto : (b : Bool) → has_auto words ≡ b → IsAutoWhere b words ds → (if b then auto_declrs_scopes ds else init_declrs_scopes (declared_kind words) ds) s ≡ Some s' →
+      by_auto : (b : Bool) → has_auto words ≡ b → IsAutoWhere b words ds
+          → (if b then auto_declrs_scopes ds else init_declrs_scopes (declared_kind words) ds) s ≡ Some s' →
           (if b then as_decl (declaration_behind inner exts words room s (init_declrs_text all ds (sign_text puncts.Semicolon semi k)))
           else if is_semicolon (kind_at (init_declrs_text all ds (sign_text puncts.Semicolon semi k))) then as_decl (bare_declaration inner exts words room s (init_declrs_text all ds (sign_text puncts.Semicolon semi k)))
           else if has_typedef_word (storage_words words) then as_decl (declaration_behind inner exts words room s (init_declrs_text all ds (sign_text puncts.Semicolon semi k)))
@@ -393,7 +411,9 @@ module _ (all : List Lexeme) (numbered : IsNumbered all) (tokens : TokenLaws all
       by_auto false is a m = plain_goes exts words room less ds semi s s' k start fit a is m low
 
   -- `__extension__` and words, at the start of an item
-  declared_goes : (exts : List ℕ) (words : SpecWords) (room : ℕ) → room ≤ n → (s t s' : HeldScopes) (ts k : List Lexeme) (x : Item) → IsMix words → AreSpecWords all words → spec_words_scopes words s ≡ Some t → specs_height words + 1 ≤ room →
+  declared_goes : (exts : List ℕ) (words : SpecWords) (room : ℕ) → room ≤ n
+      → (s t s' : HeldScopes) (ts k : List Lexeme) (x : Item) → IsMix words → AreSpecWords all words
+      → spec_words_scopes words s ≡ Some t → specs_height words + 1 ≤ room →
       EndsWords t words (kind_at ts) →
       behind_words exts words room t ts ≡ done (found x s' k) → item_with inner room s (extensions_text exts (spec_words_text all words ts)) ≡ done (found x s' k)
   unfolding item_with declared_item
@@ -404,12 +424,14 @@ module _ (all : List Lexeme) (numbered : IsNumbered all) (tokens : TokenLaws all
       (bind_is _ (tokens.exts_complete room exts s s (spec_words_text all words ts) tt refl (exts_asks exts (specs_height words) room (words_high words) low) (not_false (specs_no_extension s (kind_at (spec_words_text all words ts)) begun)))
       (bind_is _ (specs_here_ended all n inner laws firsts Declaring room less words s t ts mix fit named low ended) on))))
     where
-      other_first : (exts : List ℕ) → IsOther (kind_at (spec_words_text all words ts)) → IsOther (kind_at (extensions_text exts (spec_words_text all words ts)))
+      other_first : (exts : List ℕ) → IsOther (kind_at (spec_words_text all words ts))
+          → IsOther (kind_at (extensions_text exts (spec_words_text all words ts)))
       other_first [] h = h
       other_first (e ∷ exts) h = (refl, refl, refl)
 
   -- the block of a function, behind the declarator and attributes
-  fn_goes : (body : BodyRead all n inner) (exts : List ℕ) (words : SpecWords) (d : Declr) (attrs : List Attr) (opening : ℕ) (items : BlockItems) (closing : ℕ) (closed : HeldScope) (room : ℕ) → room ≤ n → (u v : HeldScopes) (k : List Lexeme) →
+  fn_goes : (body : BodyRead all n inner) (exts : List ℕ) (words : SpecWords) (d : Declr) (attrs : List Attr) (opening : ℕ) (items : BlockItems) (closing : ℕ) (closed : HeldScope) (room : ℕ)
+      → room ≤ n → (u v : HeldScopes) (k : List Lexeme) →
       AreAttrs all attrs → AreBlockItems all items → AreLabelsFirst items → attrs_height attrs ≤ room - 1 → block_height items ≤ room - 1 → block_items_scopes items (reopen closed (release Value u)) ≡ Some v →
       behind_function inner exts words d closed room (release Value u) (attrs_text all attrs (sign_text puncts.OpenBrace opening (block_items_text all items (sign_text puncts.CloseBrace closing k)))) ≡
       done (found (function_item exts words d attrs opening items closing) (leave v) k)
@@ -419,7 +441,8 @@ module _ (all : List Lexeme) (numbered : IsNumbered all) (tokens : TokenLaws all
       rw (no_asm attrs) (bind_is _ (tokens.attrs_complete room attrs (release Value u) (release Value u) more attrs_fit refl (attrs_asks attrs room attrs_low) refl)
       (bind_is _ (body (room - 1) (one_less room n less) opening items closing (reopen closed (release Value u)) v k items_fit first named items_low) refl))
     where
-      no_asm : (attrs : List Attr) → is_asm (kind_at (attrs_text all attrs (sign_text puncts.OpenBrace opening (block_items_text all items (sign_text puncts.CloseBrace closing k))))) ≡ false
+      no_asm : (attrs : List Attr)
+          → is_asm (kind_at (attrs_text all attrs (sign_text puncts.OpenBrace opening (block_items_text all items (sign_text puncts.CloseBrace closing k))))) ≡ false
       no_asm [] = refl
       no_asm (a ∷ attrs) = refl
 
@@ -430,12 +453,14 @@ module _ (all : List Lexeme) (numbered : IsNumbered all) (tokens : TokenLaws all
   own_closed : (d : Declr) (t w : HeldScopes) → own_scope (own_params d) t ≡ Some w → OwnScope d t w
   own_closed d t w h = record { closed = by_own (own_params d) h }
     where
-      by_own : (o : Option OwnParams) → own_scope o t ≡ Some w → option_map innermost (own_scope_in (Some Value) o t) ≡ Some (innermost w)
+      by_own : (o : Option OwnParams) → own_scope o t ≡ Some w
+          → option_map innermost (own_scope_in (Some Value) o t) ≡ Some (innermost w)
       by_own None h = absurd cc
       by_own (Some p) h = ap (option_map innermost) h
 
   -- a function behind its words
-  function_goes : (body : BodyRead all n inner) (exts : List ℕ) (words : SpecWords) (d : Declr) (attrs : List Attr) (opening : ℕ) (items : BlockItems) (closing : ℕ) (room : ℕ) → room ≤ n → (t u w v : HeldScopes) (k : List Lexeme) →
+  function_goes : (body : BodyRead all n inner) (exts : List ℕ) (words : SpecWords) (d : Declr) (attrs : List Attr) (opening : ℕ) (items : BlockItems) (closing : ℕ) (room : ℕ)
+      → room ≤ n → (t u w v : HeldScopes) (k : List Lexeme) →
       has_auto words ≡ false → has_typedef_word (storage_words words) ≡ false → IsDeclr all d → declares_function d ≡ true → AreAttrs all attrs → AreBlockItems all items → AreLabelsFirst items → declr_scopes (Some Value) d t ≡ Some u →
       own_scope (own_params d) t ≡ Some w →
       block_items_scopes items (reopen (innermost w) (release Value u)) ≡ Some v → max (specs_height words) (max (declr_height d) (max (attrs_height attrs) (block_height items))) + 1 ≤ room →
@@ -452,7 +477,8 @@ module _ (all : List Lexeme) (numbered : IsNumbered all) (tokens : TokenLaws all
       (bind_is _ (laws.declrs.complete Named (Some Value) true (room - 2) (fn_number wh dh ah bh room n high less low) tt (some_declr d) t u more (fit, name) (inl refl) named (rw is (fn_declr wh dh ah bh room high low)) (rw (named_ends all d fit name) (suffix attrs)))
       (bind_is _ refl (rw (round_plain d false round) (rw is (fn_goes body exts words d attrs opening items closing (innermost w) room less u v k attrs_fit items_fit first (fn_attrs wh dh ah bh room low) (fn_block wh dh ah bh room low) inside)))))))
     where
-      suffix : (attrs : List Attr) → ends_suffix (kind_at (attrs_text all attrs (sign_text puncts.OpenBrace opening (block_items_text all items (sign_text puncts.CloseBrace closing k))))) ≡ true
+      suffix : (attrs : List Attr)
+          → ends_suffix (kind_at (attrs_text all attrs (sign_text puncts.OpenBrace opening (block_items_text all items (sign_text puncts.CloseBrace closing k))))) ≡ true
       suffix [] = refl
       suffix (a ∷ attrs) = refl
 
@@ -461,7 +487,8 @@ module _ (all : List Lexeme) (numbered : IsNumbered all) (tokens : TokenLaws all
   rows_fit_back [] h = tt
   rows_fit_back (d ∷ ds) h = (All-head (IsDeclaration all) d ds h, rows_fit_back ds (All-tail (IsDeclaration all) d ds h))
 
-  old_declaration_read : (room : ℕ) → room ≤ n → IsComplete (declaration_form all) always room (old_declaration inner room)
+  old_declaration_read : (room : ℕ) → room ≤ n
+      → IsComplete (declaration_form all) always room (old_declaration inner room)
   unfolding old_declaration
   old_declaration_read room less (declaration exts words ds semi) s s' k fit named low ended =
       let b = behind_ok (spec_words_scopes words s) (words_declrs_scopes words ds) s' named in
@@ -472,7 +499,8 @@ module _ (all : List Lexeme) (numbered : IsNumbered all) (tokens : TokenLaws all
       (bind_is _ (specs_here_ended all n inner laws firsts Declaring room less words s b.0 ts fit.0 fit.1 b.1 words_low (declrs_end all whole_are firsts words ds semi b.0 s' k fit.0 fit.2 fit.3 fit.4 fit.5 b.2))
       (behind_read all numbered tokens firsts n inner laws exts words room less ds semi b.0 s' k fit.2 fit.3 fit.4 b.2 low))
 
-  old_starts : (d : Declaration) (s t : HeldScopes) (k : List Lexeme) → IsDeclaration all d → declaration_scopes d s ≡ Some t → not (is_open_brace (kind_at (declaration_text all d k))) ≡ true
+  old_starts : (d : Declaration) (s t : HeldScopes) (k : List Lexeme) → IsDeclaration all d
+      → declaration_scopes d s ≡ Some t → not (is_open_brace (kind_at (declaration_text all d k))) ≡ true
   old_starts (declaration (x ∷ exts) words ds semi) s t k fit named = refl
   old_starts (declaration [] words ds semi) s t k fit named =
       let b = behind_ok (spec_words_scopes words s) (words_declrs_scopes words ds) t named in
@@ -491,13 +519,16 @@ module _ (all : List Lexeme) (numbered : IsNumbered all) (tokens : TokenLaws all
   attribute_word (typeof_type w opening ws d closing) e = absurd (former_no_attribute w.keyword e)
   attribute_word w e = absurd cc
 
-  word_no_attribute : (s t : HeldScopes) (w : SpecWord) (words : SpecWords) (k : List Lexeme) → IsMix (more_words w words) → IsSpecWord all w → spec_word_scopes w s ≡ Some t → ((a : Attr) → w ≡ attribute a → ⊥) → is_attribute (kind_at (spec_word_text all w k)) ≡ false
+  word_no_attribute : (s t : HeldScopes) (w : SpecWord) (words : SpecWords) (k : List Lexeme)
+      → IsMix (more_words w words) → IsSpecWord all w → spec_word_scopes w s ≡ Some t
+      → ((a : Attr) → w ≡ attribute a → ⊥) → is_attribute (kind_at (spec_word_text all w k)) ≡ false
   word_no_attribute s t w words k mix fit named other = by_test (is_attribute (kind_at (spec_word_text all w k))) refl
     where
       start : start_at s false (kind_at (spec_word_text all w k)) ≡ start_of w
       start = word_starts all numbered goes s t false no_words w k fit named (goes no_words w words mix) (λ is. refl)
 
-      by_test : (b : Bool) → is_attribute (kind_at (spec_word_text all w k)) ≡ b → is_attribute (kind_at (spec_word_text all w k)) ≡ false
+      by_test : (b : Bool) → is_attribute (kind_at (spec_word_text all w k)) ≡ b
+          → is_attribute (kind_at (spec_word_text all w k)) ≡ false
       by_test false is = is
       by_test true is =
           let p = attribute_word w (sym start ∙ ap (start_at s false) (attribute_kind (kind_at (spec_word_text all w k)) is)) in
@@ -508,7 +539,9 @@ module _ (all : List Lexeme) (numbered : IsNumbered all) (tokens : TokenLaws all
     no_attribute : is_attribute (kind_at (declarations_text all ds k)) ≡ false
     suffix : ends_suffix (kind_at (declarations_text all ds k)) ≡ true
 
-  declarations_start : (ds : List Declaration) (opening : ℕ) (k : List Lexeme) (s t : HeldScopes) → All (IsDeclaration all) ds → begins_attribute ds ≡ false → declarations_scopes ds s ≡ Some t → Starts ds (sign_text puncts.OpenBrace opening k)
+  declarations_start : (ds : List Declaration) (opening : ℕ) (k : List Lexeme) (s t : HeldScopes)
+      → All (IsDeclaration all) ds → begins_attribute ds ≡ false → declarations_scopes ds s ≡ Some t
+      → Starts ds (sign_text puncts.OpenBrace opening k)
   declarations_start [] opening k s t fit none named = record { no_attribute = refl; suffix = refl }
   declarations_start (declaration (x ∷ exts) words is semi ∷ ds) opening k s t fit none named = record { no_attribute = refl; suffix = refl }
   declarations_start (declaration [] no_words is semi ∷ ds) opening k s t fit none named =
@@ -527,11 +560,13 @@ module _ (all : List Lexeme) (numbered : IsNumbered all) (tokens : TokenLaws all
         suffix = specs_suffix s (kind_at (spec_words_text all (more_words w words) ts)) (firsts.words_begin (more_words w words) s b.0 ts one.0 one.1 b.1);
       }
     where
-      other : (w : SpecWord) → begins_attribute (declaration [] (more_words w words) is semi ∷ ds) ≡ false → (a : Attr) → w ≡ attribute a → ⊥
+      other : (w : SpecWord) → begins_attribute (declaration [] (more_words w words) is semi ∷ ds) ≡ false → (a : Attr)
+          → w ≡ attribute a → ⊥
       other (attribute b) none a e = absurd cc
       other w none a e = cc
 
-  old_body : (body : BodyRead all n inner) (exts : List ℕ) (words : SpecWords) (d : Declr) (attrs : List Attr) (ds : List Declaration) (opening : ℕ) (items : BlockItems) (closing : ℕ) (room : ℕ) → room ≤ n → (u w v : HeldScopes) (k : List Lexeme) →
+  old_body : (body : BodyRead all n inner) (exts : List ℕ) (words : SpecWords) (d : Declr) (attrs : List Attr) (ds : List Declaration) (opening : ℕ) (items : BlockItems) (closing : ℕ) (room : ℕ)
+      → room ≤ n → (u w v : HeldScopes) (k : List Lexeme) →
       AreAttrs all attrs → All (IsDeclaration all) ds → begins_attribute ds ≡ false → AreBlockItems all items → AreLabelsFirst items → attrs_height attrs ≤ room - 1 → declarations_height ds ≤ room - 1 → block_height items ≤ room - 1 →
       declarations_scopes ds (enter u) ≡ Some w → block_items_scopes items (reopen (innermost w) (release Value (leave w))) ≡ Some v →
       old_function_with inner exts words d room u (attrs_text all attrs (declarations_text all ds (sign_text puncts.OpenBrace opening (block_items_text all items (sign_text puncts.CloseBrace closing k))))) ≡
@@ -548,7 +583,8 @@ module _ (all : List Lexeme) (numbered : IsNumbered all) (tokens : TokenLaws all
       (subst (λ (h : ℕ). h ≤ room - 1) (sym (rows_height all numbered tokens n inner laws goes ds)) ds_low) refl (λ x. refl))
       (bind_is _ (body (room - 1) (one_less room n less) opening items closing (reopen (innermost w) (release Value (leave w))) v k items_fit first inside items_low) refl))
 
-  old_first : (body : BodyRead all n inner) (exts : List ℕ) (words : SpecWords) (d : Declr) (attrs : List Attr) (ds : List Declaration) (opening : ℕ) (items : BlockItems) (closing : ℕ) (room : ℕ) → room ≤ n → (t u w v : HeldScopes) (k : List Lexeme) →
+  old_first : (body : BodyRead all n inner) (exts : List ℕ) (words : SpecWords) (d : Declr) (attrs : List Attr) (ds : List Declaration) (opening : ℕ) (items : BlockItems) (closing : ℕ) (room : ℕ)
+      → room ≤ n → (t u w v : HeldScopes) (k : List Lexeme) →
       IsItem all (old_function_item exts words d attrs ds opening items closing) → declr_scopes (Some Value) d t ≡ Some u → declarations_scopes ds (enter u) ≡ Some w →
       block_items_scopes items (reopen (innermost w) (release Value (leave w))) ≡ Some v → item_height (old_function_item exts words d attrs ds opening items closing) ≤ room →
       behind_words exts words room t (declr_text all d (attrs_text all attrs (declarations_text all ds (sign_text puncts.OpenBrace opening (block_items_text all items (sign_text puncts.CloseBrace closing k)))))) ≡
@@ -567,12 +603,14 @@ module _ (all : List Lexeme) (numbered : IsNumbered all) (tokens : TokenLaws all
       (bind_is _ refl (rw fit.5 (old_body body exts words d attrs ds opening items closing room less u w v k fit.6 fit.7 fit.10 fit.8 fit.9 (old_attrs wh dh ah sh bh room low) (old_declarations wh dh ah sh bh room low)
       (old_block wh dh ah sh bh room low) declared inside))))))
     where
-      suffix : (attrs : List Attr) → ends_suffix (kind_at (declarations_text all ds (sign_text puncts.OpenBrace opening (block_items_text all items (sign_text puncts.CloseBrace closing k))))) ≡ true →
+      suffix : (attrs : List Attr)
+          → ends_suffix (kind_at (declarations_text all ds (sign_text puncts.OpenBrace opening (block_items_text all items (sign_text puncts.CloseBrace closing k))))) ≡ true →
           ends_suffix (kind_at (attrs_text all attrs (declarations_text all ds (sign_text puncts.OpenBrace opening (block_items_text all items (sign_text puncts.CloseBrace closing k)))))) ≡ true
       suffix [] h = h
       suffix (a ∷ attrs) h = refl
 
-  old_function_goes : (body : BodyRead all n inner) (exts : List ℕ) (words : SpecWords) (d : Declr) (attrs : List Attr) (ds : List Declaration) (opening : ℕ) (items : BlockItems) (closing : ℕ) (room : ℕ) → room ≤ n → (s s' : HeldScopes) (k : List Lexeme) →
+  old_function_goes : (body : BodyRead all n inner) (exts : List ℕ) (words : SpecWords) (d : Declr) (attrs : List Attr) (ds : List Declaration) (opening : ℕ) (items : BlockItems) (closing : ℕ) (room : ℕ)
+      → room ≤ n → (s s' : HeldScopes) (k : List Lexeme) →
       IsItem all (old_function_item exts words d attrs ds opening items closing) → item_scopes (old_function_item exts words d attrs ds opening items closing) s ≡ Some s' →
       item_height (old_function_item exts words d attrs ds opening items closing) ≤ room →
       item_with inner room s (item_text all (old_function_item exts words d attrs ds opening items closing) k) ≡ done (found (old_function_item exts words d attrs ds opening items closing) s' k)
@@ -590,7 +628,8 @@ module _ (all : List Lexeme) (numbered : IsNumbered all) (tokens : TokenLaws all
       (inl (named_ends_specs (kind_at (declr_text all d more)) (firsts.named_begins d more fit.4 name) (firsts.named_base d more fit.4 name ∙ not_base (Some Value) d a.0 b.0 refl b.1)))
       (old_first body exts words d attrs ds opening items closing room less a.0 b.0 c.0 e.0 k fit b.1 c.1 e.1 low ∙ same_found _ (leave e.0) s' k e.2)
 
-  pub item_complete : (body : BodyRead all n inner) (room : ℕ) → room ≤ n → IsComplete (item_form all) always room (item_with inner room)
+  pub item_complete : (body : BodyRead all n inner) (room : ℕ) → room ≤ n
+      → IsComplete (item_form all) always room (item_with inner room)
   unfolding item_with asm_item_with
   item_complete body room less (semi_item semi) s s' k fit named low ended = fits_is 1 room _ _ low ∙ bind_is _ refl (same_found (semi_item semi) s s' k named)
   item_complete body room less (asm_item keyword group semi) s s' k fit named low ended =

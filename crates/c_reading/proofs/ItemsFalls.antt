@@ -25,12 +25,15 @@ use Rattle.c_reading.proofs.Shared.{specs_here_shrinks, present_ok}
 use Rattle.c_reading.proofs.StmtFalls.{declr_behind_falls, some_init_falls, declrs_shrinks, bare_shrinks, declaration_behind_shrinks, block_body_shrinks}
 
 module _ (all : List Lexeme) (tokens : TokenLaws all) (n : ℕ) (inner : Inner) (laws : Laws all n inner) where
-  as_decl_shrinks : (r : Read Declaration) (ts : List Lexeme) (x : Found Item) → ((d : Found Declaration) → r ≡ done d → length d.rest < length ts) → as_decl r ≡ done x → length x.rest < length ts
+  as_decl_shrinks : (r : Read Declaration) (ts : List Lexeme) (x : Found Item)
+      → ((d : Found Declaration) → r ≡ done d → length d.rest < length ts) → as_decl r ≡ done x
+      → length x.rest < length ts
   as_decl_shrinks r ts x shrinks e =
       let a = bind_ok e in
       omega (arith, shrinks a.0 a.1, left_is a.2)
 
-  function_shrinks : (exts : List ℕ) (words : SpecWords) (d : Declr) (attrs : List Attr) (closed : HeldScope) (room : ℕ) → Shrinks (function_with inner exts words d attrs closed room)
+  function_shrinks : (exts : List ℕ) (words : SpecWords) (d : Declr) (attrs : List Attr) (closed : HeldScope) (room : ℕ)
+      → Shrinks (function_with inner exts words d attrs closed room)
   unfolding function_with
   function_shrinks exts words d attrs closed room s ts x e =
       let a = bind_ok e in
@@ -42,14 +45,16 @@ module _ (all : List Lexeme) (tokens : TokenLaws all) (n : ℕ) (inner : Inner) 
       let a = bind_ok e in
       omega (arith, some_init_falls all tokens n inner laws room _ _ _ a.1, left_is a.2)
 
-  function_or_not_shrinks : (exts : List ℕ) (words : SpecWords) (d : Declr) (attrs : List Attr) (closed : HeldScope) (room : ℕ) → Shrinks (function_or_not inner exts words d attrs closed room)
+  function_or_not_shrinks : (exts : List ℕ) (words : SpecWords) (d : Declr) (attrs : List Attr) (closed : HeldScope) (room : ℕ)
+      → Shrinks (function_or_not inner exts words d attrs closed room)
   unfolding function_or_not
   function_or_not_shrinks exts words d attrs closed room s ts x e =
       if_ok (is_open_brace (kind_at ts)) e (λ is e. function_shrinks exts words d attrs closed room s ts x e) (λ is e.
       if_ok (goes_on_declared (kind_at ts)) e (λ goes e.
       as_decl_shrinks _ ts x (λ a e. declrs_shrinks all tokens n inner laws exts words Value room (attrs_behind inner d attrs (room - 1)) (attrs_behind_falls d attrs (room - 1)) s ts a e) (fits_ok _ _ _ e).1) (λ goes e. absurd cc))
 
-  behind_function_shrinks : (exts : List ℕ) (words : SpecWords) (d : Declr) (closed : HeldScope) (room : ℕ) → Shrinks (behind_function inner exts words d closed room)
+  behind_function_shrinks : (exts : List ℕ) (words : SpecWords) (d : Declr) (closed : HeldScope) (room : ℕ)
+      → Shrinks (behind_function inner exts words d closed room)
   unfolding behind_function
   behind_function_shrinks exts words d closed room s ts x e =
       if_ok (is_asm (kind_at ts)) e (λ is e.
@@ -57,7 +62,8 @@ module _ (all : List Lexeme) (tokens : TokenLaws all) (n : ℕ) (inner : Inner) 
       let a = bind_ok e in
       omega (arith, tokens.attrs_falls _ _ _ _ a.1, function_or_not_shrinks _ _ _ _ _ _ _ _ _ a.2))
 
-  behind_declr_shrinks : (exts : List ℕ) (words : SpecWords) (d : Declr) (closed : Option HeldScope) (room : ℕ) → Shrinks (behind_declr inner exts words d closed room)
+  behind_declr_shrinks : (exts : List ℕ) (words : SpecWords) (d : Declr) (closed : Option HeldScope) (room : ℕ)
+      → Shrinks (behind_declr inner exts words d closed room)
   behind_declr_shrinks exts words d None room s ts x e =
       as_decl_shrinks _ ts x (λ a e. declrs_shrinks all tokens n inner laws exts words Value room (declr_behind inner [] d (room - 1)) (declr_behind_falls all tokens n inner laws [] d (room - 1)) s ts a e) e
   behind_declr_shrinks exts words d (Some closed) room s ts x e = behind_function_shrinks exts words d closed room s ts x e
@@ -70,7 +76,8 @@ module _ (all : List Lexeme) (tokens : TokenLaws all) (n : ℕ) (inner : Inner) 
       omega (arith, tokens.exts_falls _ _ _ _ a.1, specs_here_shrinks all n inner laws Declaring room _ _ _ b.1, declaration_behind_shrinks all tokens n inner laws _ _ room _ _ x b.2)
 
   -- a function with a list of identifiers
-  old_function_shrinks : (exts : List ℕ) (words : SpecWords) (d : Declr) (room : ℕ) → Shrinks (old_function_with inner exts words d room)
+  old_function_shrinks : (exts : List ℕ) (words : SpecWords) (d : Declr) (room : ℕ)
+      → Shrinks (old_function_with inner exts words d room)
   unfolding old_function_with
   old_function_shrinks exts words d room s ts x e =
       let a = bind_ok e in

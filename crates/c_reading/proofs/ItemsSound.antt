@@ -68,7 +68,8 @@ bare_round (abs_params d opening ps dots closing) name h = absurd cc
 bare_round (identifiers d opening names closing) name h = absurd cc
 bare_round (base_name token) name h = absurd cc
 
-pub own_round : (d : Declr) (p : OwnParams) → lists_identifiers d ≡ false → own_params d ≡ Some p → declares_function d ≡ true
+pub own_round : (d : Declr) (p : OwnParams) → lists_identifiers d ≡ false → own_params d ≡ Some p
+    → declares_function d ≡ true
 own_round (declr_name token n) p plain h = absurd cc
 own_round (declr_paren opening attrs d closing) p plain h = own_round d p plain h
 own_round (pointer star words d) p plain h = own_round d p plain h
@@ -77,7 +78,8 @@ own_round (identifiers d opening names closing) p plain h = absurd cc
 own_round (base_name token) p plain h = absurd cc
 own_round (params d opening ps dots closing) p plain h = by_bare (bare_name d) refl h (λ h. round_more d (own_round d p plain h))
   where
-    by_bare : (o : Option ℕ) → bare_name d ≡ o → or_those_of o ps (own_params d) ≡ Some p → (own_params d ≡ Some p → is_round_name d true ≡ true) → is_round_name d true ≡ true
+    by_bare : (o : Option ℕ) → bare_name d ≡ o → or_those_of o ps (own_params d) ≡ Some p
+        → (own_params d ≡ Some p → is_round_name d true ≡ true) → is_round_name d true ≡ true
     by_bare None is h inside = inside h
     by_bare (Some name) is h inside = bare_round d name is
 own_round (abs_pointer star words d) p plain h = absurd cc
@@ -92,14 +94,17 @@ record Closes (d : Declr) (s : HeldScopes) (closed : HeldScope) : Type 0 where
   same : innermost inside ≡ closed
   round : declares_function d ≡ true
 
-closes : (d : Declr) (s : HeldScopes) (closed : HeldScope) → lists_identifiers d ≡ false → Some closed ≡ option_map innermost (own_scope (own_params d) s) → Closes d s closed
+closes : (d : Declr) (s : HeldScopes) (closed : HeldScope) → lists_identifiers d ≡ false
+    → Some closed ≡ option_map innermost (own_scope (own_params d) s) → Closes d s closed
 closes d s closed plain h = by_own (own_params d) refl h
   where
-    by_scopes : (p : OwnParams) (o : Option HeldScopes) → own_params d ≡ Some p → own_scope (Some p) s ≡ o → Some closed ≡ option_map innermost o → Closes d s closed
+    by_scopes : (p : OwnParams) (o : Option HeldScopes) → own_params d ≡ Some p → own_scope (Some p) s ≡ o
+        → Some closed ≡ option_map innermost o → Closes d s closed
     by_scopes p None is at h = absurd cc
     by_scopes p (Some w) is at h = record { inside = w; is = ap (λ (own : Option OwnParams). own_scope own s) is ∙ at; same = sym cc; round = own_round d p plain is }
 
-    by_own : (o : Option OwnParams) → own_params d ≡ o → Some closed ≡ option_map innermost (own_scope o s) → Closes d s closed
+    by_own : (o : Option OwnParams) → own_params d ≡ o → Some closed ≡ option_map innermost (own_scope o s)
+        → Closes d s closed
     by_own None is h = absurd cc
     by_own (Some p) is h = by_scopes p (own_scope (Some p) s) is refl h
 
@@ -128,11 +133,13 @@ some_inside room a = omega (arith, a)
 one_of_two : (room : ℕ) → 2 ≤ room → 1 ≤ room
 one_of_two room a = omega (arith, a)
 
-bare_item_low : (d b i room : ℕ) → 1 ≤ d → d ≤ (room - 1) - 1 → b ≤ (room - 1) - 1 → i ≤ (room - 1) - 1 → max 0 (max d (max 0 (max b i))) + 1 ≤ room - 1
+bare_item_low : (d b i room : ℕ) → 1 ≤ d → d ≤ (room - 1) - 1 → b ≤ (room - 1) - 1 → i ≤ (room - 1) - 1
+    → max 0 (max d (max 0 (max b i))) + 1 ≤ room - 1
 bare_item_low d b i room o p q r = omega (arith, o, p, q, r)
 
 module _ (all : List Lexeme) (numbered : IsNumbered all) (tokens : TokenLaws all) (n : ℕ) (inner : Inner) (laws : Laws all n inner) (goes : MixesGoOn) where
-  as_decl_sound : (r : Read Declaration) (room : ℕ) (s : HeldScopes) (ts : List Lexeme) (x : Found Item) → ((d : Found Declaration) → r ≡ done d → Takes all (declaration_form all) room s ts d) → as_decl r ≡ done x →
+  as_decl_sound : (r : Read Declaration) (room : ℕ) (s : HeldScopes) (ts : List Lexeme) (x : Found Item)
+      → ((d : Found Declaration) → r ≡ done d → Takes all (declaration_form all) room s ts d) → as_decl r ≡ done x →
       Takes all (item_form all) room s ts x
   as_decl_sound r room s ts x sound e =
       let a = bind_ok e in
@@ -161,8 +168,10 @@ module _ (all : List Lexeme) (numbered : IsNumbered all) (tokens : TokenLaws all
     left : IsTail all us
 
   -- a declaration, of which the first declarator was read
-  declaration_first : (exts : List ℕ) (words : SpecWords) (room : ℕ) (first : Reader DeclrItem) (s₀ s : HeldScopes) (ts₀ ts : List Lexeme) (s₁ : HeldScopes) (ts₁ : List Lexeme) (x : Found Declaration) → Words exts words room s₀ s ts₀ ts →
-      ((a : Found DeclrItem) → first s₁ ts₁ ≡ done a → Takes all (declr_item_form all Value) (room - 1) s ts a) → ((a : Found DeclrItem) → first s₁ ts₁ ≡ done a → a.tree.before ≡ []) →
+  declaration_first : (exts : List ℕ) (words : SpecWords) (room : ℕ) (first : Reader DeclrItem) (s₀ s : HeldScopes) (ts₀ ts : List Lexeme) (s₁ : HeldScopes) (ts₁ : List Lexeme) (x : Found Declaration)
+      → Words exts words room s₀ s ts₀ ts →
+      ((a : Found DeclrItem) → first s₁ ts₁ ≡ done a → Takes all (declr_item_form all Value) (room - 1) s ts a)
+      → ((a : Found DeclrItem) → first s₁ ts₁ ≡ done a → a.tree.before ≡ []) →
       declrs_with inner exts words Value room first s₁ ts₁ ≡ done x → Takes all (declaration_form all) room s₀ ts₀ x
   declaration_first exts words room first s₀ s ts₀ ts s₁ ts₁ x w sound starts e =
       assembled all numbered tokens n inner laws goes exts words room s₀ s ts₀ ts x w.spelled w.mix w.fits w.stops w.named w.low
@@ -171,7 +180,8 @@ module _ (all : List Lexeme) (numbered : IsNumbered all) (tokens : TokenLaws all
       value_kind : has_typedef_word (storage_words words) ≡ false → declared_kind words ≡ Value
       value_kind h = rw h refl
 
-      of_declrs : TookDeclrs all numbered tokens n inner laws exts words Value room s ts x → TookBehind all numbered tokens n inner laws exts words room s ts x
+      of_declrs : TookDeclrs all numbered tokens n inner laws exts words Value room s ts x
+          → TookBehind all numbered tokens n inner laws exts words room s ts x
       of_declrs t = record {
         declrs = t.declrs;
         semi = t.semi;
@@ -188,13 +198,16 @@ module _ (all : List Lexeme) (numbered : IsNumbered all) (tokens : TokenLaws all
       }
 
   -- behind a declarator, with a label
-  declr_behind_first : (d : Declr) (room : ℕ) (s u : HeldScopes) (ts us : List Lexeme) (a : Found DeclrItem) → First d s u ts us → declr_height d ≤ (room - 1) - 1 → declr_behind inner [] d (room - 1) (release Value u) us ≡ done a →
+  declr_behind_first : (d : Declr) (room : ℕ) (s u : HeldScopes) (ts us : List Lexeme) (a : Found DeclrItem)
+      → First d s u ts us → declr_height d ≤ (room - 1) - 1
+      → declr_behind inner [] d (room - 1) (release Value u) us ≡ done a →
       Takes all (declr_item_form all Value) (room - 1) s ts a
   declr_behind_first d room s u ts us a f low e =
       rw f.spelled (declr_behind_sound all numbered tokens n inner laws [] d Value (room - 1) s u us a (no_attrs all) (omega arith) f.fits f.is_name f.plain f.named low f.left e)
 
   -- behind a declarator and attributes
-  attrs_behind_first : (d : Declr) (attrs : List Attr) (room : ℕ) (s u v : HeldScopes) (ts us vs : List Lexeme) (a : Found DeclrItem) → First d s u ts us → us ≡ attrs_text all attrs vs → AreAttrs all attrs → attrs_height attrs ≤ (room - 1) - 1 →
+  attrs_behind_first : (d : Declr) (attrs : List Attr) (room : ℕ) (s u v : HeldScopes) (ts us vs : List Lexeme) (a : Found DeclrItem)
+      → First d s u ts us → us ≡ attrs_text all attrs vs → AreAttrs all attrs → attrs_height attrs ≤ (room - 1) - 1 →
       v ≡ release Value u → IsTail all vs → declr_height d ≤ (room - 1) - 1 → attrs_behind inner d attrs (room - 1) v vs ≡ done a → Takes all (declr_item_form all Value) (room - 1) s ts a
   unfolding attrs_behind
   attrs_behind_first d attrs room s u v ts us vs a f spelled attrs_fit attrs_low same tail low e =
@@ -208,13 +221,15 @@ module _ (all : List Lexeme) (numbered : IsNumbered all) (tokens : TokenLaws all
         left = i.left;
       })
 
-  attrs_behind_bare : (d : Declr) (attrs : List Attr) (room : ℕ) (s : HeldScopes) (ts : List Lexeme) (a : Found DeclrItem) → attrs_behind inner d attrs room s ts ≡ done a → a.tree.before ≡ []
+  attrs_behind_bare : (d : Declr) (attrs : List Attr) (room : ℕ) (s : HeldScopes) (ts : List Lexeme) (a : Found DeclrItem)
+      → attrs_behind inner d attrs room s ts ≡ done a → a.tree.before ≡ []
   unfolding attrs_behind
   attrs_behind_bare d attrs room s ts a e =
       let b = bind_ok e in
       ap (λ (x : Found DeclrItem). x.tree.before) (sym (ok_is b.2))
 
-  function_sound : (exts : List ℕ) (words : SpecWords) (d : Declr) (attrs : List Attr) (closed : HeldScope) (room : ℕ) (s₀ s u v : HeldScopes) (ts₀ ts us vs : List Lexeme) (x : Found Item) → Words exts words room s₀ s ts₀ ts → First d s u ts us →
+  function_sound : (exts : List ℕ) (words : SpecWords) (d : Declr) (attrs : List Attr) (closed : HeldScope) (room : ℕ) (s₀ s u v : HeldScopes) (ts₀ ts us vs : List Lexeme) (x : Found Item)
+      → Words exts words room s₀ s ts₀ ts → First d s u ts us →
       Closes d s closed → declr_height d ≤ room - 1 → us ≡ attrs_text all attrs vs → AreAttrs all attrs → attrs_height attrs ≤ room - 1 → v ≡ release Value u → IsTail all vs → kind_at vs ≡ kinds.Punct puncts.OpenBrace →
       function_with inner exts words d attrs closed room v vs ≡ done x → Takes all (item_form all) room s₀ ts₀ x
   unfolding function_with
@@ -235,7 +250,8 @@ module _ (all : List Lexeme) (numbered : IsNumbered all) (tokens : TokenLaws all
         left = i.left;
       })
 
-  function_or_not_sound : (exts : List ℕ) (words : SpecWords) (d : Declr) (attrs : List Attr) (closed : HeldScope) (room : ℕ) (s₀ s u v : HeldScopes) (ts₀ ts us vs : List Lexeme) (x : Found Item) → Words exts words room s₀ s ts₀ ts → First d s u ts us →
+  function_or_not_sound : (exts : List ℕ) (words : SpecWords) (d : Declr) (attrs : List Attr) (closed : HeldScope) (room : ℕ) (s₀ s u v : HeldScopes) (ts₀ ts us vs : List Lexeme) (x : Found Item)
+      → Words exts words room s₀ s ts₀ ts → First d s u ts us →
       Closes d s closed → declr_height d ≤ room - 1 → us ≡ attrs_text all attrs vs → AreAttrs all attrs → least_with attrs ≤ room → v ≡ release Value u → IsTail all vs →
       function_or_not inner exts words d attrs closed room v vs ≡ done x → Takes all (item_form all) room s₀ ts₀ x
   unfolding function_or_not
@@ -249,11 +265,13 @@ module _ (all : List Lexeme) (numbered : IsNumbered all) (tokens : TokenLaws all
       (λ a e. declaration_first exts words room (attrs_behind inner d attrs (room - 1)) s₀ s ts₀ ts v vs a w
       (λ b e. attrs_behind_first d attrs room s u v ts us vs b f spelled attrs_fit (attrs_least attrs room (declr_height d) (declr_high d) r.0 attrs_low) same tail high e) (λ b e. attrs_behind_bare d attrs (room - 1) v vs b e) e) r.1) (λ on e. absurd cc))
     where
-      attrs_least : (attrs : List Attr) (room d : ℕ) → 1 ≤ d → 2 + d ≤ room → least_with attrs ≤ room → attrs_height attrs ≤ (room - 1) - 1
+      attrs_least : (attrs : List Attr) (room d : ℕ) → 1 ≤ d → 2 + d ≤ room → least_with attrs ≤ room
+          → attrs_height attrs ≤ (room - 1) - 1
       attrs_least [] room d a b c = omega arith
       attrs_least (x ∷ attrs) room d a b c = omega (arith, a, b)
 
-  behind_function_sound : (exts : List ℕ) (words : SpecWords) (d : Declr) (closed : HeldScope) (room : ℕ) (s₀ s u : HeldScopes) (ts₀ ts us : List Lexeme) (x : Found Item) → Words exts words room s₀ s ts₀ ts → First d s u ts us →
+  behind_function_sound : (exts : List ℕ) (words : SpecWords) (d : Declr) (closed : HeldScope) (room : ℕ) (s₀ s u : HeldScopes) (ts₀ ts us : List Lexeme) (x : Found Item)
+      → Words exts words room s₀ s ts₀ ts → First d s u ts us →
       Closes d s closed → declr_height d ≤ room - 1 → behind_function inner exts words d closed room (release Value u) us ≡ done x → Takes all (item_form all) room s₀ ts₀ x
   unfolding behind_function
   behind_function_sound exts words d closed room s₀ s u ts₀ ts us x w f c low e =
@@ -267,7 +285,8 @@ module _ (all : List Lexeme) (numbered : IsNumbered all) (tokens : TokenLaws all
       let i = tokens.attrs_sound room (release Value u) us a.0 f.left a.1 in
       function_or_not_sound exts words d a.0.tree closed room s₀ s u a.0.scopes ts₀ ts us a.0.rest x w f c low i.spelled i.fits i.low (some_scopes (release Value u) a.0.scopes i.named) i.left a.2)
 
-  behind_declr_sound : (exts : List ℕ) (words : SpecWords) (d : Declr) (closed : Option HeldScope) (room : ℕ) (s₀ s u : HeldScopes) (ts₀ ts us : List Lexeme) (x : Found Item) → Words exts words room s₀ s ts₀ ts → First d s u ts us →
+  behind_declr_sound : (exts : List ℕ) (words : SpecWords) (d : Declr) (closed : Option HeldScope) (room : ℕ) (s₀ s u : HeldScopes) (ts₀ ts us : List Lexeme) (x : Found Item)
+      → Words exts words room s₀ s ts₀ ts → First d s u ts us →
       closed ≡ option_map innermost (own_scope (own_params d) s) → declr_height d ≤ declr_room true closed (room - 2) → behind_declr inner exts words d closed room (release Value u) us ≡ done x → Takes all (item_form all) room s₀ ts₀ x
   behind_declr_sound exts words d None room s₀ s u ts₀ ts us x w f is low e =
       as_decl_sound (declrs_with inner exts words Value room (declr_behind inner [] d (room - 1)) (release Value u) us) room s₀ ts₀ x
@@ -279,11 +298,13 @@ module _ (all : List Lexeme) (numbered : IsNumbered all) (tokens : TokenLaws all
 
   -- Functions with a list of identifiers.
 
-  pub rows_text : (ds : List Declaration) (k : List Lexeme) → row_text (declaration_form all) ds k ≡ declarations_text all ds k
+  pub rows_text : (ds : List Declaration) (k : List Lexeme)
+      → row_text (declaration_form all) ds k ≡ declarations_text all ds k
   rows_text [] k = refl
   rows_text (d ∷ ds) k = ap (declaration_text all d) (rows_text ds k)
 
-  pub rows_scopes : (ds : List Declaration) (s : HeldScopes) → row_scopes (declaration_form all) ds s ≡ declarations_scopes ds s
+  pub rows_scopes : (ds : List Declaration) (s : HeldScopes)
+      → row_scopes (declaration_form all) ds s ≡ declarations_scopes ds s
   rows_scopes [] s = refl
   rows_scopes (d ∷ ds) s = behind_same (declaration_scopes d s) _ _ (rows_scopes ds)
 
@@ -309,21 +330,24 @@ module _ (all : List Lexeme) (numbered : IsNumbered all) (tokens : TokenLaws all
       (behind_sound all numbered tokens n inner laws a.0.tree b.0.tree room b.0.scopes b.0.rest x j.left b.2)
 
   -- attributes before the first declaration are the function's
-  no_attribute_first : (ds : List Declaration) (k : List Lexeme) → is_attribute (kind_at (declarations_text all ds k)) ≡ false → begins_attribute ds ≡ false
+  no_attribute_first : (ds : List Declaration) (k : List Lexeme)
+      → is_attribute (kind_at (declarations_text all ds k)) ≡ false → begins_attribute ds ≡ false
   no_attribute_first [] k none = refl
   no_attribute_first (declaration [] no_words ds semi ∷ rest) k none = refl
   no_attribute_first (declaration [] (more_words (attribute a) ws) ds semi ∷ rest) k none = absurd cc
   no_attribute_first (declaration [] (more_words w ws) ds semi ∷ rest) k none = refl
   no_attribute_first (declaration (x ∷ exts) ws ds semi ∷ rest) k none = refl
 
-  five_up : (w d a ds b room : ℕ) → 2 ≤ room → w ≤ room - 1 → d ≤ room - 1 → a ≤ room - 1 → ds ≤ room - 1 → b ≤ room - 1 → max w (max d (max a (max ds b))) + 1 ≤ room
+  five_up : (w d a ds b room : ℕ) → 2 ≤ room → w ≤ room - 1 → d ≤ room - 1 → a ≤ room - 1 → ds ≤ room - 1 → b ≤ room - 1
+      → max w (max d (max a (max ds b))) + 1 ≤ room
   five_up w d a ds b room o p q r s t = omega (arith, o, p, q, r, s, t)
 
   brace_is : (b : Bool) → not b ≡ false → b ≡ true
   brace_is true e = refl
   brace_is false e = absurd cc
 
-  old_function_sound : (exts : List ℕ) (words : SpecWords) (d : Declr) (room : ℕ) (s₀ s u : HeldScopes) (ts₀ ts us : List Lexeme) (x : Found Item) → Words exts words room s₀ s ts₀ ts → ts ≡ declr_text all d us → IsDeclr all d →
+  old_function_sound : (exts : List ℕ) (words : SpecWords) (d : Declr) (room : ℕ) (s₀ s u : HeldScopes) (ts₀ ts us : List Lexeme) (x : Found Item)
+      → Words exts words room s₀ s ts₀ ts → ts ≡ declr_text all d us → IsDeclr all d →
       lists_identifiers d ≡ true → declr_scopes (Some Value) d s ≡ Some u → declr_height d ≤ room - 1 → IsTail all us → old_function_with inner exts words d room u us ≡ done x → Takes all (item_form all) room s₀ ts₀ x
   unfolding old_function_with
   old_function_sound exts words d room s₀ s u ts₀ ts us x w spelled fit lists named low tail e =
@@ -363,7 +387,8 @@ module _ (all : List Lexeme) (numbered : IsNumbered all) (tokens : TokenLaws all
         left = l.left;
       })
 
-  first_declr_sound : (exts : List ℕ) (words : SpecWords) (room : ℕ) (s₀ s : HeldScopes) (ts₀ ts : List Lexeme) (x : Found Item) → Words exts words room s₀ s ts₀ ts → IsTail all ts → first_declr inner exts words room s ts ≡ done x →
+  first_declr_sound : (exts : List ℕ) (words : SpecWords) (room : ℕ) (s₀ s : HeldScopes) (ts₀ ts : List Lexeme) (x : Found Item)
+      → Words exts words room s₀ s ts₀ ts → IsTail all ts → first_declr inner exts words room s ts ≡ done x →
       Takes all (item_form all) room s₀ ts₀ x
   unfolding first_declr
   first_declr_sound exts words room s₀ s ts₀ ts x w tail e =
@@ -371,7 +396,8 @@ module _ (all : List Lexeme) (numbered : IsNumbered all) (tokens : TokenLaws all
       let b = bind_ok a.2 in
       of_declr a.0 b.0 (laws.declrs.sound Named (Some Value) true (room - 2) s ts a.0 tail a.1) (present_ok a.0.tree.declr a.0.scopes a.0.rest b.0 b.1) b.2
     where
-      of_found : (d : Declr) (declared : Found Declared) → TakesDeclr all Named (Some Value) true (room - 2) s ts declared → declared.tree.declr ≡ some_declr d →
+      of_found : (d : Declr) (declared : Found Declared)
+          → TakesDeclr all Named (Some Value) true (room - 2) s ts declared → declared.tree.declr ≡ some_declr d →
           (if lists_identifiers d then old_function_with inner exts words d room declared.scopes declared.rest
           else behind_declr inner exts words d declared.tree.closed room (release Value declared.scopes) declared.rest) ≡ done x → Takes all (item_form all) room s₀ ts₀ x
       of_found d a t is e =
@@ -381,7 +407,8 @@ module _ (all : List Lexeme) (numbered : IsNumbered all) (tokens : TokenLaws all
           (record { spelled = rw is at t.spelled; fits = (rw is at t.fits).0; is_name = (rw is at t.fits).1; plain = plain; named = rw is at t.named; left = t.left })
           (rw is at t.closed) (rw is at t.low) e)
 
-      of_declr : (a : Found Declared) (b : Found Declr) → TakesDeclr all Named (Some Value) true (room - 2) s ts a → (a.tree.declr ≡ some_declr b.tree) × (found b.tree a.scopes a.rest ≡ b) →
+      of_declr : (a : Found Declared) (b : Found Declr) → TakesDeclr all Named (Some Value) true (room - 2) s ts a
+          → (a.tree.declr ≡ some_declr b.tree) × (found b.tree a.scopes a.rest ≡ b) →
           (if lists_identifiers b.tree then old_function_with inner exts words b.tree room b.scopes b.rest
           else behind_declr inner exts words b.tree a.tree.closed room (release Value b.scopes) b.rest) ≡ done x → Takes all (item_form all) room s₀ ts₀ x
       of_declr a b t p e = of_found b.tree a t p.0 (subst (λ (b' : Found Declr). (if lists_identifiers b.tree then old_function_with inner exts words b.tree room b'.scopes b'.rest

@@ -26,11 +26,8 @@ pub expr_no_close_paren : (s : HeldScopes) (kind : TokenKind) → begins_expr s 
 expr_no_close_paren s (kinds.Punct puncts.CloseParen) e = absurd cc
 expr_no_close_paren s kind e = refl
 
-pub expr_no_open_bracket : (s : HeldScopes) (kind : TokenKind) → begins_expr s kind ≡ true → is_open_bracket kind ≡ false
-expr_no_open_bracket s (kinds.Punct puncts.OpenBracket) e = absurd cc
-expr_no_open_bracket s kind e = refl
-
-pub expr_no_close_bracket : (s : HeldScopes) (kind : TokenKind) → begins_expr s kind ≡ true → is_close_bracket kind ≡ false
+pub expr_no_close_bracket : (s : HeldScopes) (kind : TokenKind) → begins_expr s kind ≡ true
+    → is_close_bracket kind ≡ false
 expr_no_close_bracket s (kinds.Punct puncts.CloseBracket) e = absurd cc
 expr_no_close_bracket s kind e = refl
 
@@ -42,88 +39,48 @@ pub expr_no_colon : (s : HeldScopes) (kind : TokenKind) → begins_expr s kind �
 expr_no_colon s (kinds.Punct puncts.Colon) e = absurd cc
 expr_no_colon s kind e = refl
 
-pub expr_no_comma : (s : HeldScopes) (kind : TokenKind) → begins_expr s kind ≡ true → is_comma kind ≡ false
-expr_no_comma s (kinds.Punct puncts.Comma) e = absurd cc
-expr_no_comma s kind e = refl
-
 pub expr_no_equal : (s : HeldScopes) (kind : TokenKind) → begins_expr s kind ≡ true → is_equal kind ≡ false
 expr_no_equal s (kinds.Punct puncts.Equal) e = absurd cc
 expr_no_equal s kind e = refl
-
-pub expr_no_dots : (s : HeldScopes) (kind : TokenKind) → begins_expr s kind ≡ true → is_dots kind ≡ false
-expr_no_dots s (kinds.Punct puncts.Ellipsis) e = absurd cc
-expr_no_dots s kind e = refl
 
 pub expr_no_attribute : (s : HeldScopes) (kind : TokenKind) → begins_expr s kind ≡ true → is_attribute kind ≡ false
 expr_no_attribute s (kinds.Keyword keywords.Attribute) e = absurd cc
 expr_no_attribute s kind e = refl
 
-pub expr_no_static_assert : (s : HeldScopes) (kind : TokenKind) → begins_expr s kind ≡ true → is_static_assert kind ≡ false
+pub expr_no_static_assert : (s : HeldScopes) (kind : TokenKind) → begins_expr s kind ≡ true
+    → is_static_assert kind ≡ false
 expr_no_static_assert s (kinds.Keyword keywords.StaticAssert) e = absurd cc
 expr_no_static_assert s kind e = refl
-
-pub expr_no_asm : (s : HeldScopes) (kind : TokenKind) → begins_expr s kind ≡ true → is_asm kind ≡ false
-expr_no_asm s (kinds.Keyword keywords.Asm) e = absurd cc
-expr_no_asm s kind e = refl
 
 pub expr_no_else : (s : HeldScopes) (kind : TokenKind) → begins_expr s kind ≡ true → is_else kind ≡ false
 expr_no_else s (kinds.Keyword keywords.Else) e = absurd cc
 expr_no_else s kind e = refl
-
-pub expr_no_while : (s : HeldScopes) (kind : TokenKind) → begins_expr s kind ≡ true → is_while kind ≡ false
-expr_no_while s (kinds.Keyword keywords.While) e = absurd cc
-expr_no_while s kind e = refl
 
 -- specifiers begin
 pub specs_no_open_brace : (s : HeldScopes) (kind : TokenKind) → begins_specs s kind ≡ true → is_open_brace kind ≡ false
 specs_no_open_brace s (kinds.Punct puncts.OpenBrace) e = absurd cc
 specs_no_open_brace s kind e = refl
 
-pub specs_no_close_brace : (s : HeldScopes) (kind : TokenKind) → begins_specs s kind ≡ true → is_close_brace kind ≡ false
+pub specs_no_close_brace : (s : HeldScopes) (kind : TokenKind) → begins_specs s kind ≡ true
+    → is_close_brace kind ≡ false
 specs_no_close_brace s (kinds.Punct puncts.CloseBrace) e = absurd cc
 specs_no_close_brace s kind e = refl
 
-pub specs_no_open_paren : (s : HeldScopes) (kind : TokenKind) → begins_specs s kind ≡ true → is_open_paren kind ≡ false
-specs_no_open_paren s (kinds.Punct puncts.OpenParen) e = absurd cc
-specs_no_open_paren s kind e = refl
-
-pub specs_no_close_paren : (s : HeldScopes) (kind : TokenKind) → begins_specs s kind ≡ true → is_close_paren kind ≡ false
+pub specs_no_close_paren : (s : HeldScopes) (kind : TokenKind) → begins_specs s kind ≡ true
+    → is_close_paren kind ≡ false
 specs_no_close_paren s (kinds.Punct puncts.CloseParen) e = absurd cc
 specs_no_close_paren s kind e = refl
-
-pub specs_no_open_bracket : (s : HeldScopes) (kind : TokenKind) → begins_specs s kind ≡ true → is_open_bracket kind ≡ false
-specs_no_open_bracket s (kinds.Punct puncts.OpenBracket) e = absurd cc
-specs_no_open_bracket s kind e = refl
-
-pub specs_no_close_bracket : (s : HeldScopes) (kind : TokenKind) → begins_specs s kind ≡ true → is_close_bracket kind ≡ false
-specs_no_close_bracket s (kinds.Punct puncts.CloseBracket) e = absurd cc
-specs_no_close_bracket s kind e = refl
 
 pub specs_no_semicolon : (s : HeldScopes) (kind : TokenKind) → begins_specs s kind ≡ true → is_semicolon kind ≡ false
 specs_no_semicolon s (kinds.Punct puncts.Semicolon) e = absurd cc
 specs_no_semicolon s kind e = refl
 
-pub specs_no_colon : (s : HeldScopes) (kind : TokenKind) → begins_specs s kind ≡ true → is_colon kind ≡ false
-specs_no_colon s (kinds.Punct puncts.Colon) e = absurd cc
-specs_no_colon s kind e = refl
-
-pub specs_no_comma : (s : HeldScopes) (kind : TokenKind) → begins_specs s kind ≡ true → is_comma kind ≡ false
-specs_no_comma s (kinds.Punct puncts.Comma) e = absurd cc
-specs_no_comma s kind e = refl
-
-pub specs_no_equal : (s : HeldScopes) (kind : TokenKind) → begins_specs s kind ≡ true → is_equal kind ≡ false
-specs_no_equal s (kinds.Punct puncts.Equal) e = absurd cc
-specs_no_equal s kind e = refl
-
-pub specs_no_star : (s : HeldScopes) (kind : TokenKind) → begins_specs s kind ≡ true → is_star kind ≡ false
-specs_no_star s (kinds.Punct puncts.Star) e = absurd cc
-specs_no_star s kind e = refl
-
 pub specs_no_dots : (s : HeldScopes) (kind : TokenKind) → begins_specs s kind ≡ true → is_dots kind ≡ false
 specs_no_dots s (kinds.Punct puncts.Ellipsis) e = absurd cc
 specs_no_dots s kind e = refl
 
-pub specs_no_static_assert : (s : HeldScopes) (kind : TokenKind) → begins_specs s kind ≡ true → is_static_assert kind ≡ false
+pub specs_no_static_assert : (s : HeldScopes) (kind : TokenKind) → begins_specs s kind ≡ true
+    → is_static_assert kind ≡ false
 specs_no_static_assert s (kinds.Keyword keywords.StaticAssert) e = absurd cc
 specs_no_static_assert s kind e = refl
 
@@ -143,26 +100,9 @@ pub specs_no_else : (s : HeldScopes) (kind : TokenKind) → begins_specs s kind 
 specs_no_else s (kinds.Keyword keywords.Else) e = absurd cc
 specs_no_else s kind e = refl
 
--- a declarator with a name begins
-pub named_no_open_brace : (kind : TokenKind) → begins_named kind ≡ true → is_open_brace kind ≡ false
-named_no_open_brace (kinds.Punct puncts.OpenBrace) e = absurd cc
-named_no_open_brace kind e = refl
-
-pub named_no_close_brace : (kind : TokenKind) → begins_named kind ≡ true → is_close_brace kind ≡ false
-named_no_close_brace (kinds.Punct puncts.CloseBrace) e = absurd cc
-named_no_close_brace kind e = refl
-
 pub named_no_close_paren : (kind : TokenKind) → begins_named kind ≡ true → is_close_paren kind ≡ false
 named_no_close_paren (kinds.Punct puncts.CloseParen) e = absurd cc
 named_no_close_paren kind e = refl
-
-pub named_no_open_bracket : (kind : TokenKind) → begins_named kind ≡ true → is_open_bracket kind ≡ false
-named_no_open_bracket (kinds.Punct puncts.OpenBracket) e = absurd cc
-named_no_open_bracket kind e = refl
-
-pub named_no_close_bracket : (kind : TokenKind) → begins_named kind ≡ true → is_close_bracket kind ≡ false
-named_no_close_bracket (kinds.Punct puncts.CloseBracket) e = absurd cc
-named_no_close_bracket kind e = refl
 
 pub named_no_semicolon : (kind : TokenKind) → begins_named kind ≡ true → is_semicolon kind ≡ false
 named_no_semicolon (kinds.Punct puncts.Semicolon) e = absurd cc
@@ -172,70 +112,13 @@ pub named_no_colon : (kind : TokenKind) → begins_named kind ≡ true → is_co
 named_no_colon (kinds.Punct puncts.Colon) e = absurd cc
 named_no_colon kind e = refl
 
-pub named_no_comma : (kind : TokenKind) → begins_named kind ≡ true → is_comma kind ≡ false
-named_no_comma (kinds.Punct puncts.Comma) e = absurd cc
-named_no_comma kind e = refl
-
-pub named_no_equal : (kind : TokenKind) → begins_named kind ≡ true → is_equal kind ≡ false
-named_no_equal (kinds.Punct puncts.Equal) e = absurd cc
-named_no_equal kind e = refl
-
-pub named_no_dots : (kind : TokenKind) → begins_named kind ≡ true → is_dots kind ≡ false
-named_no_dots (kinds.Punct puncts.Ellipsis) e = absurd cc
-named_no_dots kind e = refl
-
 pub named_no_attribute : (kind : TokenKind) → begins_named kind ≡ true → is_attribute kind ≡ false
 named_no_attribute (kinds.Keyword keywords.Attribute) e = absurd cc
 named_no_attribute kind e = refl
 
-pub named_no_static_assert : (kind : TokenKind) → begins_named kind ≡ true → is_static_assert kind ≡ false
-named_no_static_assert (kinds.Keyword keywords.StaticAssert) e = absurd cc
-named_no_static_assert kind e = refl
-
-pub named_no_extension : (kind : TokenKind) → begins_named kind ≡ true → is_extension kind ≡ false
-named_no_extension (kinds.Keyword keywords.Extension) e = absurd cc
-named_no_extension kind e = refl
-
-pub named_no_asm : (kind : TokenKind) → begins_named kind ≡ true → is_asm kind ≡ false
-named_no_asm (kinds.Keyword keywords.Asm) e = absurd cc
-named_no_asm kind e = refl
-
--- a declarator without a name begins
-pub abstract_no_open_brace : (kind : TokenKind) → begins_abstract kind ≡ true → is_open_brace kind ≡ false
-abstract_no_open_brace (kinds.Punct puncts.OpenBrace) e = absurd cc
-abstract_no_open_brace kind e = refl
-
-pub abstract_no_close_brace : (kind : TokenKind) → begins_abstract kind ≡ true → is_close_brace kind ≡ false
-abstract_no_close_brace (kinds.Punct puncts.CloseBrace) e = absurd cc
-abstract_no_close_brace kind e = refl
-
 pub abstract_no_close_paren : (kind : TokenKind) → begins_abstract kind ≡ true → is_close_paren kind ≡ false
 abstract_no_close_paren (kinds.Punct puncts.CloseParen) e = absurd cc
 abstract_no_close_paren kind e = refl
-
-pub abstract_no_close_bracket : (kind : TokenKind) → begins_abstract kind ≡ true → is_close_bracket kind ≡ false
-abstract_no_close_bracket (kinds.Punct puncts.CloseBracket) e = absurd cc
-abstract_no_close_bracket kind e = refl
-
-pub abstract_no_semicolon : (kind : TokenKind) → begins_abstract kind ≡ true → is_semicolon kind ≡ false
-abstract_no_semicolon (kinds.Punct puncts.Semicolon) e = absurd cc
-abstract_no_semicolon kind e = refl
-
-pub abstract_no_colon : (kind : TokenKind) → begins_abstract kind ≡ true → is_colon kind ≡ false
-abstract_no_colon (kinds.Punct puncts.Colon) e = absurd cc
-abstract_no_colon kind e = refl
-
-pub abstract_no_comma : (kind : TokenKind) → begins_abstract kind ≡ true → is_comma kind ≡ false
-abstract_no_comma (kinds.Punct puncts.Comma) e = absurd cc
-abstract_no_comma kind e = refl
-
-pub abstract_no_equal : (kind : TokenKind) → begins_abstract kind ≡ true → is_equal kind ≡ false
-abstract_no_equal (kinds.Punct puncts.Equal) e = absurd cc
-abstract_no_equal kind e = refl
-
-pub abstract_no_dots : (kind : TokenKind) → begins_abstract kind ≡ true → is_dots kind ≡ false
-abstract_no_dots (kinds.Punct puncts.Ellipsis) e = absurd cc
-abstract_no_dots kind e = refl
 
 pub abstract_no_attribute : (kind : TokenKind) → begins_abstract kind ≡ true → is_attribute kind ≡ false
 abstract_no_attribute (kinds.Keyword keywords.Attribute) e = absurd cc
@@ -276,7 +159,8 @@ pub name_begins_not : (s : HeldScopes) (name : ℕ) → names_type s name ≡ fa
 name_begins_not s name is = rw is refl
 
 -- where a type stands, what begins a word does not rest on the scopes
-typed_start_same : (s : HeldScopes) (start : SpecStart) → is_start (typed_start s true start) ≡ is_start (typed_start [] true start)
+typed_start_same : (s : HeldScopes) (start : SpecStart)
+    → is_start (typed_start s true start) ≡ is_start (typed_start [] true start)
 typed_start_same s (starts.Name name) = by_kind (names_type s name) refl
   where
     by_kind : (b : Bool) → names_type s name ≡ b → is_start (typed_start s true (starts.Name name)) ≡ false
@@ -284,11 +168,13 @@ typed_start_same s (starts.Name name) = by_kind (names_type s name) refl
     by_kind false is = rw is refl
 typed_start_same s start = refl
 
-pub typed_same : (s : HeldScopes) (kind : TokenKind) → is_start (start_at s true kind) ≡ is_start (start_at [] true kind)
+pub typed_same : (s : HeldScopes) (kind : TokenKind)
+    → is_start (start_at s true kind) ≡ is_start (start_at [] true kind)
 typed_same s kind = typed_start_same s (kind_start kind)
 
 -- behind specifiers may stand a declarator
-pub named_ends_specs : (kind : TokenKind) → begins_named kind ≡ true → is_base_word kind ≡ false → ends_specs kind ≡ true
+pub named_ends_specs : (kind : TokenKind) → begins_named kind ≡ true → is_base_word kind ≡ false
+    → ends_specs kind ≡ true
 named_ends_specs (kinds.Punct puncts.Star) e base = refl
 named_ends_specs (kinds.Punct puncts.OpenParen) e base = refl
 named_ends_specs (kinds.Name name) e base = refl

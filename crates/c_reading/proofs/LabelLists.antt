@@ -45,12 +45,14 @@ module _ (all : List Lexeme) where
 
   -- the items of a block, the labels first
 
-  pub items_text : (xs ys : List BlockItem) (k : List Lexeme) → row_text labels_form xs (row_text plain_form ys k) ≡ block_items_text all (block_items_from (xs ++ ys)) k
+  pub items_text : (xs ys : List BlockItem) (k : List Lexeme)
+      → row_text labels_form xs (row_text plain_form ys k) ≡ block_items_text all (block_items_from (xs ++ ys)) k
   items_text [] [] k = refl
   items_text [] (y ∷ ys) k = ap (block_item_text all y) (items_text [] ys k)
   items_text (x ∷ xs) ys k = ap (block_item_text all x) (items_text xs ys k)
 
-  pub items_fit : (xs ys : List BlockItem) → AllFit labels_form xs → AllFit plain_form ys → AreBlockItems all (block_items_from (xs ++ ys))
+  pub items_fit : (xs ys : List BlockItem) → AllFit labels_form xs → AllFit plain_form ys
+      → AreBlockItems all (block_items_from (xs ++ ys))
   items_fit [] [] h g = tt
   items_fit [] (y ∷ ys) h g = (g.0.0, items_fit [] ys h g.1)
   items_fit (x ∷ xs) ys h g = (h.0.0, items_fit xs ys h.1 g)
@@ -59,11 +61,13 @@ module _ (all : List Lexeme) where
   none_of_plain [] g = refl
   none_of_plain (y ∷ ys) g = by_item (is_labels y) g.0.1 (none_of_plain ys g.1)
     where
-      by_item : (b : Bool) → b ≡ false → has_no_labels (block_items_from ys) ≡ true → (not b && has_no_labels (block_items_from ys)) ≡ true
+      by_item : (b : Bool) → b ≡ false → has_no_labels (block_items_from ys) ≡ true
+          → (not b && has_no_labels (block_items_from ys)) ≡ true
       by_item true e h = absurd cc
       by_item false e h = h
 
-  pub items_first : (xs ys : List BlockItem) → AllFit labels_form xs → AllFit plain_form ys → AreLabelsFirst (block_items_from (xs ++ ys))
+  pub items_first : (xs ys : List BlockItem) → AllFit labels_form xs → AllFit plain_form ys
+      → AreLabelsFirst (block_items_from (xs ++ ys))
   items_first [] [] h g = tt
   items_first [] (block_labels keyword names semi ∷ ys) h g = absurd cc
   items_first [] (block_decl d ∷ ys) h g = none_of_plain ys g.1
@@ -72,7 +76,8 @@ module _ (all : List Lexeme) where
   items_first (block_decl d ∷ xs) ys h g = absurd cc
   items_first (block_stmt t ∷ xs) ys h g = absurd cc
 
-  pub items_named : (xs ys : List BlockItem) (s t u : HeldScopes) → row_scopes labels_form xs s ≡ Some t → row_scopes plain_form ys t ≡ Some u → block_items_scopes (block_items_from (xs ++ ys)) s ≡ Some u
+  pub items_named : (xs ys : List BlockItem) (s t u : HeldScopes) → row_scopes labels_form xs s ≡ Some t
+      → row_scopes plain_form ys t ≡ Some u → block_items_scopes (block_items_from (xs ++ ys)) s ≡ Some u
   items_named [] [] s t u h g = h ∙ g
   items_named [] (y ∷ ys) s t u h g =
       let same : s ≡ t = cc in
@@ -83,7 +88,8 @@ module _ (all : List Lexeme) where
       behind_is (block_items_scopes (block_items_from (xs ++ ys))) b.1 (items_named xs ys b.0 t u b.2 g)
 
   -- of a block with these items, which counts itself
-  pub items_high : (xs ys : List BlockItem) (room : ℕ) → 1 ≤ room → row_height labels_form xs ≤ room - 1 → row_height plain_form ys ≤ room - 1 → block_height (block_items_from (xs ++ ys)) ≤ room
+  pub items_high : (xs ys : List BlockItem) (room : ℕ) → 1 ≤ room → row_height labels_form xs ≤ room - 1
+      → row_height plain_form ys ≤ room - 1 → block_height (block_items_from (xs ++ ys)) ≤ room
   items_high [] [] room a h g = omega (arith, a)
   items_high [] (y ∷ ys) room a h g =
       let rest : block_height (block_items_from ys) ≤ room = items_high [] ys room a h (omega (arith, g)) in
@@ -93,7 +99,8 @@ module _ (all : List Lexeme) where
       omega (arith, a, h, rest)
 
   -- and back
-  pub scopes_parted : (xs ys : List BlockItem) (s t : HeldScopes) → block_items_scopes (block_items_from (xs ++ ys)) s ≡ Some t →
+  pub scopes_parted : (xs ys : List BlockItem) (s t : HeldScopes)
+      → block_items_scopes (block_items_from (xs ++ ys)) s ≡ Some t →
       (u : HeldScopes) × (row_scopes labels_form xs s ≡ Some u) × (row_scopes plain_form ys u ≡ Some t)
   scopes_parted [] [] s t h = (s, refl, h)
   scopes_parted [] (y ∷ ys) s t h =
@@ -109,13 +116,15 @@ module _ (all : List Lexeme) where
       let rest = scopes_parted xs ys b.0 t b.2 in
       (rest.0, behind_is (row_scopes labels_form xs) b.1 rest.1, rest.2)
 
-  pub labels_low : (xs ys : List BlockItem) (room : ℕ) → block_height (block_items_from (xs ++ ys)) ≤ room → row_height labels_form xs ≤ room - 1
+  pub labels_low : (xs ys : List BlockItem) (room : ℕ) → block_height (block_items_from (xs ++ ys)) ≤ room
+      → row_height labels_form xs ≤ room - 1
   labels_low [] ys room h = omega arith
   labels_low (x ∷ xs) ys room h =
       let rest : row_height labels_form xs ≤ room - 1 = labels_low xs ys room (omega (arith, h)) in
       omega (arith, h, rest)
 
-  pub others_low : (xs ys : List BlockItem) (room : ℕ) → block_height (block_items_from (xs ++ ys)) ≤ room → row_height plain_form ys ≤ room - 1
+  pub others_low : (xs ys : List BlockItem) (room : ℕ) → block_height (block_items_from (xs ++ ys)) ≤ room
+      → row_height plain_form ys ≤ room - 1
   others_low [] [] room h = omega arith
   others_low [] (y ∷ ys) room h =
       let rest : row_height plain_form ys ≤ room - 1 = others_low [] ys room (omega (arith, h)) in
@@ -142,7 +151,8 @@ module _ (all : List Lexeme) where
   both_hold true b e = absurd cc
   both_hold false b e = (refl, e)
 
-  others_fit_back : (items : BlockItems) → AreBlockItems all items → has_no_labels items ≡ true → AllFit plain_form (others_of items)
+  others_fit_back : (items : BlockItems) → AreBlockItems all items → has_no_labels items ≡ true
+      → AllFit plain_form (others_of items)
   others_fit_back no_block_items h e = tt
   others_fit_back (more_block_items item items) h e =
       let b = both_hold (is_labels item) (has_no_labels items) e in
@@ -180,7 +190,8 @@ module _ (all : List Lexeme) where
         let t = took_name all s ts x tail e in
         record { spelled = t.spelled; fits = tt; named = ap Some (sym t.same); low = omega arith; left = t.left }
 
-    pub labels_sound : (room : ℕ) (s : HeldScopes) (ts : List Lexeme) (x : Found BlockItem) → IsTail all ts → is_label_word (kind_at ts) ≡ true → labels_with inner room s ts ≡ done x →
+    pub labels_sound : (room : ℕ) (s : HeldScopes) (ts : List Lexeme) (x : Found BlockItem) → IsTail all ts
+        → is_label_word (kind_at ts) ≡ true → labels_with inner room s ts ≡ done x →
         Takes all labels_form room s ts x
     unfolding labels_with
     labels_sound room s ts x tail is e =
@@ -200,7 +211,8 @@ module _ (all : List Lexeme) where
           left = q.left;
         })
 
-    pub labels_complete : (room : ℕ) (x : BlockItem) (s t : HeldScopes) (k : List Lexeme) → IsBlockItem all x → is_labels x ≡ true → block_item_scopes x s ≡ Some t → block_item_height x ≤ room →
+    pub labels_complete : (room : ℕ) (x : BlockItem) (s t : HeldScopes) (k : List Lexeme) → IsBlockItem all x
+        → is_labels x ≡ true → block_item_scopes x s ≡ Some t → block_item_height x ≤ room →
         labels_with inner room s (block_item_text all x k) ≡ done (found x t k)
     unfolding labels_with
     labels_complete room (block_decl d) s t k fit is named low = absurd cc

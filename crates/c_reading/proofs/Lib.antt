@@ -62,6 +62,8 @@ pub mod ItemsFalls
 pub mod ItemsSound
 pub mod ItemsComplete
 pub mod UnitsRead
+pub mod Never
+pub mod Tied
 pub mod KnotLaws
 pub mod TurnsShown
 pub mod Examples

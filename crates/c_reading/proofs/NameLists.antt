@@ -16,7 +16,8 @@ abbrev pub name_form : (Identifier → HeldScopes → Option HeldScopes) → For
 name_form scopes = record { text = identifier_text; Fits = λ x. Unit {0}; scopes = scopes; height = λ x. 0 }
 
 module _ (scopes : Identifier → HeldScopes → Option HeldScopes) where
-  others_are : (xs : List Identifier) (k : List Lexeme) → others_text (name_form scopes) no_ending xs k ≡ other_names_text xs k
+  others_are : (xs : List Identifier) (k : List Lexeme)
+      → others_text (name_form scopes) no_ending xs k ≡ other_names_text xs k
   others_are [] k = refl
   others_are (x ∷ xs) k = ap (λ (k : List Lexeme). separated (identifier_text x k)) (others_are xs k)
 
@@ -52,13 +53,15 @@ module _ (scopes : Identifier → HeldScopes → Option HeldScopes) where
         omega (arith, listed_shrinks name (next_name name) next_falls shrinks s ts a.0 a.1, ap (λ (x : Found (List Identifier)). length x.rest) (ok_is a.2))
 
     module _ (all : List Lexeme) (numbered : IsNumbered all) (sound : IsSound all (name_form scopes) 0 name) where
-      next_sound : (comma : ℕ) (s : HeldScopes) (ts : List Lexeme) (x : Found (Next Identifier ⊥)) → IsTail all ts → next_name name comma s ts ≡ done x →
+      next_sound : (comma : ℕ) (s : HeldScopes) (ts : List Lexeme) (x : Found (Next Identifier ⊥)) → IsTail all ts
+          → next_name name comma s ts ≡ done x →
           NextTakes all (name_form scopes) no_ending 0 comma s ts x.tree x.scopes x.rest
       next_sound comma s ts x tail e =
           let a = bind_ok e in
           at_end (λ (x : Found (Next Identifier ⊥)). NextTakes all (name_form scopes) no_ending 0 comma s ts x.tree x.scopes x.rest) a.2 (sound s ts a.0 tail a.1, shrinks s ts a.0 a.1)
 
-      pub names_sound : (s : HeldScopes) (ts : List Lexeme) (x : Found (List Identifier)) → IsTail all ts → names_list name s ts ≡ done x → TookNames all s ts x
+      pub names_sound : (s : HeldScopes) (ts : List Lexeme) (x : Found (List Identifier)) → IsTail all ts
+          → names_list name s ts ≡ done x → TookNames all s ts x
       unfolding names_list
       names_sound s ts x tail e =
           let a = bind_ok e in
@@ -69,15 +72,19 @@ module _ (scopes : Identifier → HeldScopes → Option HeldScopes) where
           has_some [] h = absurd h
           has_some (x ∷ xs) h = λ e. absurd cc
 
-          of_list : (l : Found (CommaList Identifier ⊥)) → Takes all (list_form (name_form scopes) no_ending) 0 s ts l → TookNames all s ts (found l.tree.items l.scopes l.rest)
+          of_list : (l : Found (CommaList Identifier ⊥)) → Takes all (list_form (name_form scopes) no_ending) 0 s ts l
+              → TookNames all s ts (found l.tree.items l.scopes l.rest)
           of_list l t = record { spelled = by_ending l.tree.ending t.spelled; some = has_some l.tree.items t.fits.0; named = t.named; left = t.left }
             where
-              by_ending : (o : Option ⊥) → ts ≡ (list_form (name_form scopes) no_ending).text (record { items = l.tree.items; ending = o }) l.rest → ts ≡ names_text l.tree.items l.rest
+              by_ending : (o : Option ⊥)
+                  → ts ≡ (list_form (name_form scopes) no_ending).text (record { items = l.tree.items; ending = o }) l.rest
+                  → ts ≡ names_text l.tree.items l.rest
               by_ending None is = is ∙ names_are l.tree.items l.rest
               by_ending (Some e) is = absurd e
 
     module _ (complete : (x : Identifier) (s t : HeldScopes) (k : List Lexeme) → scopes x s ≡ Some t → name s (identifier_text x k) ≡ done (found x t k)) where
-      pub names_complete : (xs : List Identifier) (s t : HeldScopes) (k : List Lexeme) → xs ≢ [] → row_scopes (name_form scopes) xs s ≡ Some t → is_comma (kind_at k) ≡ false →
+      pub names_complete : (xs : List Identifier) (s t : HeldScopes) (k : List Lexeme) → xs ≢ []
+          → row_scopes (name_form scopes) xs s ≡ Some t → is_comma (kind_at k) ≡ false →
           names_list name s (names_text xs k) ≡ done (found xs t k)
       unfolding names_list
       names_complete xs s t k some named no_comma =

@@ -43,13 +43,15 @@ module _ {T : Type 0} (form : Form T) where
   fit_push [] x h f = (f, tt)
   fit_push (y ∷ xs) x h f = (h.0, fit_push xs x h.1 f)
 
-  pub scopes_push : (xs : List T) (x : T) (s t u : HeldScopes) → row_scopes xs s ≡ Some t → form.scopes x t ≡ Some u → row_scopes (xs ++ x ∷ []) s ≡ Some u
+  pub scopes_push : (xs : List T) (x : T) (s t u : HeldScopes) → row_scopes xs s ≡ Some t → form.scopes x t ≡ Some u
+      → row_scopes (xs ++ x ∷ []) s ≡ Some u
   scopes_push [] x s t u h f = behind_is (row_scopes []) (subst (λ (t : HeldScopes). form.scopes x t ≡ Some u) (sym cc) f) refl
   scopes_push (y ∷ xs) x s t u h f =
       let b = behind_ok (form.scopes y s) (row_scopes xs) t h in
       behind_is (row_scopes (xs ++ x ∷ [])) b.1 (scopes_push xs x b.0 t u b.2 f)
 
-  pub height_push : (xs : List T) (x : T) (room : ℕ) → row_height xs ≤ room → form.height x ≤ room → row_height (xs ++ x ∷ []) ≤ room
+  pub height_push : (xs : List T) (x : T) (room : ℕ) → row_height xs ≤ room → form.height x ≤ room
+      → row_height (xs ++ x ∷ []) ≤ room
   height_push [] x room h f = omega (arith, f)
   height_push (y ∷ xs) x room h f =
       let rest : row_height (xs ++ x ∷ []) ≤ room = height_push xs x room (omega (arith, h)) f in
@@ -57,11 +59,13 @@ module _ {T : Type 0} (form : Form T) where
 
 module _ {T : Type 0} (begins : TokenKind → Bool) (read : Reader T) where
   -- what one turn read
-  turn_parts : (xs : List T) (s : HeldScopes) (ts : List Lexeme) (x : Found (List T)) → repeated_turn begins read xs s ts ≡ Some (done x) →
+  turn_parts : (xs : List T) (s : HeldScopes) (ts : List Lexeme) (x : Found (List T))
+      → repeated_turn begins read xs s ts ≡ Some (done x) →
       (y : Found T) × (read s ts ≡ done y) × (found (xs ++ y.tree ∷ []) y.scopes y.rest ≡ x)
   turn_parts xs s ts x e = by_test (begins (kind_at ts)) e
     where
-      by_test : (b : Bool) → (if b then Some (and_then (read s ts) (λ y. ends (xs ++ y.tree ∷ []) y.scopes y.rest)) else None) ≡ Some (done x) →
+      by_test : (b : Bool)
+          → (if b then Some (and_then (read s ts) (λ y. ends (xs ++ y.tree ∷ []) y.scopes y.rest)) else None) ≡ Some (done x) →
           (y : Found T) × (read s ts ≡ done y) × (found (xs ++ y.tree ∷ []) y.scopes y.rest ≡ x)
       by_test false e = absurd cc
       by_test true e =
@@ -69,10 +73,13 @@ module _ {T : Type 0} (begins : TokenKind → Bool) (read : Reader T) where
           let b = bind_ok e' in
           (b.0, b.1, ok_is b.2)
 
-  turn_begun : (xs : List T) (s : HeldScopes) (ts : List Lexeme) (x : Found (List T)) → repeated_turn begins read xs s ts ≡ Some (done x) → begins (kind_at ts) ≡ true
+  turn_begun : (xs : List T) (s : HeldScopes) (ts : List Lexeme) (x : Found (List T))
+      → repeated_turn begins read xs s ts ≡ Some (done x) → begins (kind_at ts) ≡ true
   turn_begun xs s ts x e = by_test (begins (kind_at ts)) refl e
     where
-      by_test : (b : Bool) → begins (kind_at ts) ≡ b → (if b then Some (and_then (read s ts) (λ y. ends (xs ++ y.tree ∷ []) y.scopes y.rest)) else None) ≡ Some (done x) → begins (kind_at ts) ≡ true
+      by_test : (b : Bool) → begins (kind_at ts) ≡ b
+          → (if b then Some (and_then (read s ts) (λ y. ends (xs ++ y.tree ∷ []) y.scopes y.rest)) else None) ≡ Some (done x)
+          → begins (kind_at ts) ≡ true
       by_test false is e = absurd cc
       by_test true is e = is
 
@@ -96,7 +103,8 @@ module _ {T : Type 0} (begins : TokenKind → Bool) (read : Reader T) where
         run-keep (repeated_turn begins read) (λ xs t k. Takes all (row_form form) room s ts (found xs t k)) step [] s ts x
         (record { spelled = refl; fits = tt; named = refl; low = omega arith; left = tail }) e
       where
-        step : (xs : List T) (t : HeldScopes) (k : List Lexeme) (x : Found (List T)) → Takes all (row_form form) room s ts (found xs t k) → repeated_turn begins read xs t k ≡ Some (done x) →
+        step : (xs : List T) (t : HeldScopes) (k : List Lexeme) (x : Found (List T))
+            → Takes all (row_form form) room s ts (found xs t k) → repeated_turn begins read xs t k ≡ Some (done x) →
             Takes all (row_form form) room s ts x
         step xs t k x h e =
             let p = turn_parts xs t k x e in
@@ -118,7 +126,8 @@ module _ {T : Type 0} (begins : TokenKind → Bool) (read : Reader T) where
       read s (form.text x k) ≡ done (found x t k))
       (starts : (x : T) (s t : HeldScopes) (k : List Lexeme) → form.Fits x → form.scopes x s ≡ Some t → begins (kind_at (form.text x k)) ≡ true)
       (goes : (x : T) (kind : TokenKind) → begins kind ≡ true → stops x kind ≡ true) where
-    row_read : (xs known : List T) (s t : HeldScopes) (k : List Lexeme) → AllFit form xs → row_scopes form xs s ≡ Some t → row_height form xs ≤ room →
+    row_read : (xs known : List T) (s t : HeldScopes) (k : List Lexeme) → AllFit form xs → row_scopes form xs s ≡ Some t
+        → row_height form xs ≤ room →
         begins (kind_at k) ≡ false → ((x : T) → stops x (kind_at k) ≡ true) → run (repeated_turn begins read) known s (row_text form xs k) ≡ done (found (known ++ xs) t k)
     row_read [] known s t k h n l ended stopped =
         run_ends (repeated_turn begins read) (row_turn_shrinks shrinks) known s k (rw ended refl) ∙
@@ -136,13 +145,15 @@ module _ {T : Type 0} (begins : TokenKind → Bool) (read : Reader T) where
         run_on (repeated_turn begins read) (row_turn_shrinks shrinks) known s (row_text form (x ∷ xs) k) (found (known ++ x ∷ []) b.0 (row_text form xs k))
         (rw begun (ap Some (bind_is _ is refl))) ∙ rest ∙ ap (λ (ys : List T). done (found ys t k)) (append_assoc known (x ∷ []) xs)
       where
-        stops_at : (xs : List T) (s : HeldScopes) → AllFit form xs → row_scopes form xs s ≡ Some t → stops x (kind_at (row_text form xs k)) ≡ true
+        stops_at : (xs : List T) (s : HeldScopes) → AllFit form xs → row_scopes form xs s ≡ Some t
+            → stops x (kind_at (row_text form xs k)) ≡ true
         stops_at [] s h n = stopped x
         stops_at (y ∷ ys) s h n =
             let b = behind_ok (form.scopes y s) (row_scopes form ys) t n in
             goes x (kind_at (form.text y (row_text form ys k))) (starts y s b.0 (row_text form ys k) h.0 b.1)
 
-    pub repeated_complete : (xs : List T) (s t : HeldScopes) (k : List Lexeme) → AllFit form xs → row_scopes form xs s ≡ Some t → row_height form xs ≤ room →
+    pub repeated_complete : (xs : List T) (s t : HeldScopes) (k : List Lexeme) → AllFit form xs
+        → row_scopes form xs s ≡ Some t → row_height form xs ≤ room →
         begins (kind_at k) ≡ false → ((x : T) → stops x (kind_at k) ≡ true) → repeated begins read s (row_text form xs k) ≡ done (found xs t k)
     unfolding repeated
     repeated_complete xs s t k h n l ended stopped = row_read xs [] s t k h n l ended stopped

@@ -43,7 +43,8 @@ named_ends all (abs_array d opening words size closing) h n = refl
 named_ends all (abs_params d opening ps dots closing) h n = refl
 
 -- a declarator that begins with a base word stands where a typedef name is declared
-pub no_base : (wanted : Option Kind) → is_typedef wanted ≡ false → (d : Declr) (s t : HeldScopes) → declr_scopes wanted d s ≡ Some t → begins_base d ≡ false
+pub no_base : (wanted : Option Kind) → is_typedef wanted ≡ false → (d : Declr) (s t : HeldScopes)
+    → declr_scopes wanted d s ≡ Some t → begins_base d ≡ false
 no_base wanted plain (base_name token) s t e = by_wide (is_wide s) (is_typedef wanted) plain e
   where
     by_wide : (a b : Bool) → b ≡ false → where_true (a && b) s ≡ Some t → true ≡ false
@@ -64,7 +65,8 @@ no_base wanted plain (abs_array d opening words size closing) s t e = refl
 no_base wanted plain (abs_params d opening ps dots closing) s t e = refl
 
 -- what a declarator that must be there is
-pub present_ok : (d : SomeDeclr) (s : HeldScopes) (ts : List Lexeme) (x : Found Declr) → present d s ts ≡ done x → (d ≡ some_declr x.tree) × (found x.tree s ts ≡ x)
+pub present_ok : (d : SomeDeclr) (s : HeldScopes) (ts : List Lexeme) (x : Found Declr) → present d s ts ≡ done x
+    → (d ≡ some_declr x.tree) × (found x.tree s ts ≡ x)
 present_ok no_declr s ts x e = absurd cc
 present_ok (some_declr d) s ts x e = at_end (λ x. (some_declr d ≡ some_declr x.tree) × (found x.tree s ts ≡ x)) e (refl, refl)
 
@@ -86,7 +88,8 @@ module _ (all : List Lexeme) where
         if_ok (begins_role role s (kind_at ts)) e (λ is e. laws.words.shrinks role (room - 1) s ts x (fits_ok _ _ _ e).1) (λ is e. absurd cc)
 
     -- before a base word stand words that it does not continue
-    pub specs_here_stops : (role : Role) (room : ℕ) (s : HeldScopes) (ts : List Lexeme) (x : Found SpecWords) → IsTail all ts → specs_here inner role room s ts ≡ done x →
+    pub specs_here_stops : (role : Role) (room : ℕ) (s : HeldScopes) (ts : List Lexeme) (x : Found SpecWords)
+        → IsTail all ts → specs_here inner role room s ts ≡ done x →
         is_base_word (kind_at x.rest) ≡ true → goes_on x.tree (classes.Spells keywords.BaseWord) ≡ false
     unfolding specs_here
     specs_here_stops role room s ts x tail e base =
@@ -112,14 +115,16 @@ module _ (all : List Lexeme) where
             by_low (inl none) = let same : x.tree ≡ no_words = t.words_are ∙ none in rw same (omega (arith, least))
             by_low (inr low) = omega (arith, low, least)
 
-    role_begins : (firsts : FirstLaws all) (role : Role) (ws : SpecWords) (s s' : HeldScopes) (k : List Lexeme) → IsMix ws → FitsRole all role ws → spec_words_scopes ws s ≡ Some s' →
+    role_begins : (firsts : FirstLaws all) (role : Role) (ws : SpecWords) (s s' : HeldScopes) (k : List Lexeme)
+        → IsMix ws → FitsRole all role ws → spec_words_scopes ws s ≡ Some s' →
         begins_specs s (kind_at (spec_words_text all ws k)) ≡ true
     role_begins firsts Declaring ws s s' k mix fits named = firsts.words_begin ws s s' k mix fits named
     role_begins firsts Typed ws s s' k mix fits named = firsts.words_begin ws s s' k mix fits.0 named
     role_begins firsts Naming ws s s' k mix fits named = firsts.type_words_begin ws s s' k mix fits named
 
     -- before a token that does not go on with the words, a base word behind a `typedef` among them
-    pub specs_here_ended : (firsts : FirstLaws all) (role : Role) (room : ℕ) → room ≤ n → (ws : SpecWords) (s s' : HeldScopes) (k : List Lexeme) → IsMix ws → FitsRole all role ws →
+    pub specs_here_ended : (firsts : FirstLaws all) (role : Role) (room : ℕ) → room ≤ n
+        → (ws : SpecWords) (s s' : HeldScopes) (k : List Lexeme) → IsMix ws → FitsRole all role ws →
         spec_words_scopes ws s ≡ Some s' → specs_height ws + 1 ≤ room → EndsWords s' ws (kind_at k) → specs_here inner role room s (spec_words_text all ws k) ≡ done (found ws s' k)
     unfolding specs_here
     specs_here_ended firsts role room less ws s s' k mix fits named low ended =
@@ -128,7 +133,8 @@ module _ (all : List Lexeme) where
         rw (begun, firsts.words_stand role ws s s' k mix fits named) (fits_is 2 room (spec_words_text all ws k) _ (omega (arith, low, high)) ∙
         laws.words.complete role no_words ws (room - 1) (omega (arith, low, high, less)) s s' k mix fits named (inr (omega (arith, low))) ended)
 
-    pub specs_here_complete : (firsts : FirstLaws all) (role : Role) (room : ℕ) → room ≤ n → IsComplete (specs_form role) (λ ws. ends_specs) room (specs_here inner role room)
+    pub specs_here_complete : (firsts : FirstLaws all) (role : Role) (room : ℕ) → room ≤ n
+        → IsComplete (specs_form role) (λ ws. ends_specs) room (specs_here inner role room)
     specs_here_complete firsts role room less ws s s' k fits named low ended = specs_here_ended firsts role room less ws s s' k fits.0 fits.1 named low (inl ended)
 
     pub named_declr_shrinks : (wanted : Option Kind) (room : ℕ) → Shrinks (named_declr inner wanted room)
@@ -139,13 +145,16 @@ module _ (all : List Lexeme) where
         let p = present_ok a.0.tree.declr a.0.scopes a.0.rest x a.2 in
         subst (λ (x : Found Declr). length x.rest < length ts) p.1 less
 
-    pub named_declr_sound : (wanted : Option Kind) (room : ℕ) → IsSound all (named_form wanted) room (named_declr inner wanted room)
+    pub named_declr_sound : (wanted : Option Kind) (room : ℕ)
+        → IsSound all (named_form wanted) room (named_declr inner wanted room)
     unfolding named_declr
     named_declr_sound wanted room s ts x tail e =
         let a = bind_ok e in
         takes a.0 (laws.declrs.sound Named wanted false room s ts a.0 tail a.1) (present_ok a.0.tree.declr a.0.scopes a.0.rest x a.2)
       where
-        takes : (d : Found Declared) → TakesDeclr all Named wanted false room s ts d → (d.tree.declr ≡ some_declr x.tree) × (found x.tree d.scopes d.rest ≡ x) → Takes all (named_form wanted) room s ts x
+        takes : (d : Found Declared) → TakesDeclr all Named wanted false room s ts d
+            → (d.tree.declr ≡ some_declr x.tree) × (found x.tree d.scopes d.rest ≡ x)
+            → Takes all (named_form wanted) room s ts x
         takes d t p = subst (Takes all (named_form wanted) room s ts) p.1 (record {
           spelled = rw p.0 at t.spelled;
           fits = plain (rw p.0 at t.fits) (rw p.0 at t.plain refl);
@@ -154,10 +163,12 @@ module _ (all : List Lexeme) where
           left = t.left;
         })
           where
-            plain : IsDeclr all x.tree × (is_named x.tree ≡ true) → lists_identifiers x.tree ≡ false → IsDeclr all x.tree × (is_named x.tree ≡ true) × (lists_identifiers x.tree ≡ false)
+            plain : IsDeclr all x.tree × (is_named x.tree ≡ true) → lists_identifiers x.tree ≡ false
+                → IsDeclr all x.tree × (is_named x.tree ≡ true) × (lists_identifiers x.tree ≡ false)
             plain f g = (f.0, f.1, g)
 
-    pub named_declr_complete : (wanted : Option Kind) (room : ℕ) → room < n → IsComplete (named_form wanted) (λ d. ends_suffix) room (named_declr inner wanted room)
+    pub named_declr_complete : (wanted : Option Kind) (room : ℕ) → room < n
+        → IsComplete (named_form wanted) (λ d. ends_suffix) room (named_declr inner wanted room)
     unfolding named_declr
     named_declr_complete wanted room less d s s' k fits named low ended =
         bind_is _ (laws.declrs.complete Named wanted false room less tt (some_declr d) s s' k (fits.0, fits.1) (inr fits.2) named low (rw (named_ends all d fits.0 fits.1) ended)) refl
@@ -184,15 +195,18 @@ module _ (all : List Lexeme) where
         let i = laws.exprs.sound Assigned room s ts a.0 tail a.1 in
         at_end (Takes all (init_form all) room s ts) a.2 (record { spelled = i.spelled; fits = i.fits; named = i.named; low = i.low; left = i.left }))
 
-    pub init_begins : (firsts : FirstLaws all) (i : Init) (s s' : HeldScopes) (k : List Lexeme) → IsInit all i → init_scopes i s ≡ Some s' → begins_init s (kind_at (init_text all i k)) ≡ true
+    pub init_begins : (firsts : FirstLaws all) (i : Init) (s s' : HeldScopes) (k : List Lexeme) → IsInit all i
+        → init_scopes i s ≡ Some s' → begins_init s (kind_at (init_text all i k)) ≡ true
     init_begins firsts (init_value e) s s' k h named = by_brace (is_open_brace (kind_at (expr_text all e k))) (firsts.expr_begins e s s' k h.0 named)
       where
-        by_brace : (b : Bool) → begins_expr s (kind_at (expr_text all e k)) ≡ true → (b || begins_expr s (kind_at (expr_text all e k))) ≡ true
+        by_brace : (b : Bool) → begins_expr s (kind_at (expr_text all e k)) ≡ true
+            → (b || begins_expr s (kind_at (expr_text all e k))) ≡ true
         by_brace true begun = refl
         by_brace false begun = begun
     init_begins firsts (init_braced (init_list opening items last closing)) s s' k h named = refl
 
-    pub init_complete : (firsts : FirstLaws all) (room : ℕ) → room < n → IsComplete (init_form all) (λ i. ends_expr Assigned) room (init_with inner room)
+    pub init_complete : (firsts : FirstLaws all) (room : ℕ) → room < n
+        → IsComplete (init_form all) (λ i. ends_expr Assigned) room (init_with inner room)
     unfolding init_with
     init_complete firsts room less (init_value e) s s' k fits named low ended =
         let begun = firsts.expr_begins e s s' k fits.0 named in

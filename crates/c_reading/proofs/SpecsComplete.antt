@@ -76,7 +76,9 @@ typed_is : (ws : SpecWords) → is_typed ws ≡ true → 1 ≤ types_in ws
 typed_is no_words e = absurd cc
 typed_is (more_words w ws) e = by_word (is_type_word w) (types_more w ws) (λ e. typed_is ws e) e
   where
-    by_word : (b : Bool) → types_in (more_words w ws) ≡ types_of b + types_in ws → (is_typed ws ≡ true → 1 ≤ types_in ws) → (if b then true else is_typed ws) ≡ true → 1 ≤ types_in (more_words w ws)
+    by_word : (b : Bool) → types_in (more_words w ws) ≡ types_of b + types_in ws
+        → (is_typed ws ≡ true → 1 ≤ types_in ws) → (if b then true else is_typed ws) ≡ true
+        → 1 ≤ types_in (more_words w ws)
     by_word true sum again e = omega (arith, sum)
     by_word false sum again e = let some = again e in omega (arith, sum, some)
 
@@ -84,12 +86,15 @@ untyped_is : (ws : SpecWords) → is_typed ws ≡ false → types_in ws ≡ 0
 untyped_is no_words e = omega arith
 untyped_is (more_words w ws) e = by_word (is_type_word w) (types_more w ws) (λ e. untyped_is ws e) e
   where
-    by_word : (b : Bool) → types_in (more_words w ws) ≡ types_of b + types_in ws → (is_typed ws ≡ false → types_in ws ≡ 0) → (if b then true else is_typed ws) ≡ false → types_in (more_words w ws) ≡ 0
+    by_word : (b : Bool) → types_in (more_words w ws) ≡ types_of b + types_in ws
+        → (is_typed ws ≡ false → types_in ws ≡ 0) → (if b then true else is_typed ws) ≡ false
+        → types_in (more_words w ws) ≡ 0
     by_word true sum again e = absurd cc
     by_word false sum again e = let none = again e in omega (arith, sum, none)
 
 -- a typedef name stands where no type does
-named_once : (words : SpecWords) (w : SpecWord) (rest : SpecWords) → IsMix (append_words words (more_words w rest)) → is_name w ≡ true → is_typed words ≡ false
+named_once : (words : SpecWords) (w : SpecWord) (rest : SpecWords) → IsMix (append_words words (more_words w rest))
+    → is_name w ≡ true → is_typed words ≡ false
 named_once words (typedef_name name) rest mix is = by_typed (is_typed words) refl mix.0
   where
     total : types_in (append_words words (more_words (typedef_name name) rest)) ≡ types_in words + types_in (more_words (typedef_name name) rest)
@@ -98,7 +103,8 @@ named_once words (typedef_name name) rest mix is = by_typed (is_typed words) ref
     some : type_count (more_words (typedef_name name) rest) ≤ type_count (append_words words (more_words (typedef_name name) rest))
     some = count_append words (more_words (typedef_name name) rest)
 
-    by_typed : (b : Bool) → is_typed words ≡ b → IsOneType (append_words words (more_words (typedef_name name) rest)) → b ≡ false
+    by_typed : (b : Bool) → is_typed words ≡ b → IsOneType (append_words words (more_words (typedef_name name) rest))
+        → b ≡ false
     by_typed false e one = refl
     by_typed true e (inl one) = absurd (omega (arith, some, one.0))
     by_typed true e (inr one) =
@@ -210,7 +216,8 @@ element_no_brace (kinds.Qual lattice elem) h = refl
 element_no_brace kind h = absurd h
 
 module _ (all : List Lexeme) (numbered : IsNumbered all) (tokens : TokenLaws all) (firsts : FirstLaws all) (n : ℕ) (inner : Inner) (laws : Laws all n inner) where
-  word_no_brace : (w : SpecWord) (k : List Lexeme) → IsSpecWord all w → is_open_brace (kind_at (spec_word_text all w k)) ≡ false
+  word_no_brace : (w : SpecWord) (k : List Lexeme) → IsSpecWord all w
+      → is_open_brace (kind_at (spec_word_text all w k)) ≡ false
   word_no_brace (storage w) k fits = refl
   word_no_brace (thread token) k fits = refl
   word_no_brace (inline_word token) k fits = refl
@@ -230,12 +237,14 @@ module _ (all : List Lexeme) (numbered : IsNumbered all) (tokens : TokenLaws all
   word_no_brace (align a) k fits = refl
   word_no_brace (auto_word token) k fits = refl
 
-  no_brace_behind : (role : Role) (ws : SpecWords) (k : List Lexeme) → FitsRole all role ws → is_open_brace (kind_at k) ≡ false → is_open_brace (kind_at (spec_words_text all ws k)) ≡ false
+  no_brace_behind : (role : Role) (ws : SpecWords) (k : List Lexeme) → FitsRole all role ws
+      → is_open_brace (kind_at k) ≡ false → is_open_brace (kind_at (spec_words_text all ws k)) ≡ false
   no_brace_behind role no_words k fits ended = ended
   no_brace_behind role (more_words w ws) k fits ended = word_no_brace w (spec_words_text all ws k) (role_word all role w ws fits)
 
   -- a word is read by what it begins with
-  word_complete : (w : SpecWord) (room : ℕ) → room ≤ n → (s s' : HeldScopes) (k : List Lexeme) → IsSpecWord all w → spec_word_scopes w s ≡ Some s' → spec_word_height w + 1 ≤ room → is_open_brace (kind_at k) ≡ false →
+  word_complete : (w : SpecWord) (room : ℕ) → room ≤ n → (s s' : HeldScopes) (k : List Lexeme) → IsSpecWord all w
+      → spec_word_scopes w s ≡ Some s' → spec_word_height w + 1 ≤ room → is_open_brace (kind_at k) ≡ false →
       word_by inner (start_of w) room s (spec_word_text all w k) ≡ done (found w s' k)
   unfolding word_by
   word_complete (storage w) room less s s' k fits scopes low no_brace = bind_is _ refl (ap (λ (s : HeldScopes). done (found (storage w) s k)) (some_same scopes))
@@ -269,7 +278,8 @@ module _ (all : List Lexeme) (numbered : IsNumbered all) (tokens : TokenLaws all
   word_complete (auto_word token) room less s s' k fits scopes low no_brace = bind_is _ refl (ap (λ (s : HeldScopes). done (found (auto_word token) s k)) (some_same scopes))
 
   -- a word that the others go on with does not end them
-  goes_through : (s : HeldScopes) (words : SpecWords) (start : SpecStart) → goes_on words (class_of_start start) ≡ true → ends_before s words start ≡ false
+  goes_through : (s : HeldScopes) (words : SpecWords) (start : SpecStart) → goes_on words (class_of_start start) ≡ true
+      → ends_before s words start ≡ false
   goes_through s words start on =
       all_false (is_wide s || has_auto words) (is_base_start start) (has_typedef_word (storage_words words)) (is_whole_mix words) (goes_on words (class_of_start start)) on
     where
@@ -285,7 +295,8 @@ module _ (all : List Lexeme) (numbered : IsNumbered all) (tokens : TokenLaws all
   none_either true o = refl
   none_either false o = refl
 
-  end_brace : (s : HeldScopes) (words : SpecWords) (kind : TokenKind) → EndsWords s words kind → is_open_brace kind ≡ false
+  end_brace : (s : HeldScopes) (words : SpecWords) (kind : TokenKind) → EndsWords s words kind
+      → is_open_brace kind ≡ false
   end_brace s words kind (inl ended) = end_no_brace kind ended
   end_brace s words kind (inr base) = base_no_brace kind base.0
     where
@@ -295,7 +306,9 @@ module _ (all : List Lexeme) (numbered : IsNumbered all) (tokens : TokenLaws all
 
   module _ (goes : MixesGoOn) where
     -- behind other words
-    word_is : (role : Role) (words : SpecWords) (w : SpecWord) (room : ℕ) → room ≤ n → (s s' : HeldScopes) (k : List Lexeme) → IsSpecWord all w → spec_word_scopes w s ≡ Some s' → spec_word_height w + 1 ≤ room →
+    word_is : (role : Role) (words : SpecWords) (w : SpecWord) (room : ℕ) → room ≤ n
+        → (s s' : HeldScopes) (k : List Lexeme) → IsSpecWord all w → spec_word_scopes w s ≡ Some s'
+        → spec_word_height w + 1 ≤ room →
         specs_height words ≤ room → is_open_brace (kind_at k) ≡ false → may_stand role (start_of w) ≡ true → goes_on words (class_of w) ≡ true →
         word_with inner role words (start_of w) room s (spec_word_text all w k) ≡ done (found w s' k)
     unfolding word_with
@@ -304,7 +317,9 @@ module _ (all : List Lexeme) (numbered : IsNumbered all) (tokens : TokenLaws all
         rw (stand, on') (fits_is (max (least_of (start_of w)) (specs_height words)) room (spec_word_text all w k) _
         (both_low (least_of (start_of w)) (spec_word_height w) (specs_height words) room (least_high w) low high) ∙ word_complete w room less s s' k fits scopes low no_brace)
 
-    turn_is : (role : Role) (words : SpecWords) (w : SpecWord) (room : ℕ) → room ≤ n → (s s' : HeldScopes) (k : List Lexeme) → IsSpecWord all w → spec_word_scopes w s ≡ Some s' → spec_word_height w + 1 ≤ room →
+    turn_is : (role : Role) (words : SpecWords) (w : SpecWord) (room : ℕ) → room ≤ n
+        → (s s' : HeldScopes) (k : List Lexeme) → IsSpecWord all w → spec_word_scopes w s ≡ Some s'
+        → spec_word_height w + 1 ≤ room →
         specs_height words ≤ room → is_open_brace (kind_at k) ≡ false → may_stand role (start_of w) ≡ true → goes_on words (class_of w) ≡ true → (is_name w ≡ true → is_typed words ≡ false) →
         word_turn inner role room words s (spec_word_text all w k) ≡ Some (done (found (pushed words w) s' k))
     turn_is role words w room less s s' k fits scopes low high no_brace stand on free =
@@ -312,18 +327,24 @@ module _ (all : List Lexeme) (numbered : IsNumbered all) (tokens : TokenLaws all
         ap (λ (start : SpecStart). word_turn_by inner role room start words s (spec_word_text all w k)) (word_starts all numbered goes s s' (is_typed words) words w k fits scopes on free) ∙
         rw (goes_through s words (start_of w) on', starts_some w) (ap Some (bind_is _ (word_is role words w room less s s' k fits scopes low high no_brace stand on) refl))
 
-    turn_ends : (role : Role) (words : SpecWords) (room : ℕ) (s : HeldScopes) (k : List Lexeme) → IsMix words → EndsWords s words (kind_at k) → word_turn inner role room words s k ≡ None
+    turn_ends : (role : Role) (words : SpecWords) (room : ℕ) (s : HeldScopes) (k : List Lexeme) → IsMix words
+        → EndsWords s words (kind_at k) → word_turn inner role room words s k ≡ None
     turn_ends role words room s k mix (inl ended) =
         let no_more : is_start (start_at s (is_typed words) (kind_at k)) ≡ false = ap (λ (b : Bool). is_start (start_at s b (kind_at k))) (mix_typed words mix) ∙ end_no_start s (kind_at k) ended in
         rw no_more (none_either (ends_before s words (start_at s (is_typed words) (kind_at k))) None)
     turn_ends role words room s k mix (inr base) = at_kind (kind_at k) base.0 base.1
       where
-        at_kind : (kind : TokenKind) → is_base_word kind ≡ true → ends_before s words (starts.Basic keywords.BaseWord) ≡ true → word_turn_by inner role room (start_at s (is_typed words) kind) words s k ≡ None
+        at_kind : (kind : TokenKind) → is_base_word kind ≡ true
+            → ends_before s words (starts.Basic keywords.BaseWord) ≡ true
+            → word_turn_by inner role room (start_at s (is_typed words) kind) words s k ≡ None
         at_kind (kinds.Keyword keywords.BaseWord) is e = rw e refl
         at_kind kind is e = absurd cc
 
-    words_complete : (role : Role) (words rest : SpecWords) (room : ℕ) → room ≤ n → (s s' : HeldScopes) (k : List Lexeme) → IsMix (append_words words rest) → FitsRole all role rest → spec_words_scopes rest s ≡ Some s' →
-        (rest ≡ no_words) ⊎ (specs_height (append_words words rest) ≤ room) → EndsWords s' (append_words words rest) (kind_at k) →
+    words_complete : (role : Role) (words rest : SpecWords) (room : ℕ) → room ≤ n
+        → (s s' : HeldScopes) (k : List Lexeme) → IsMix (append_words words rest) → FitsRole all role rest
+        → spec_words_scopes rest s ≡ Some s' →
+        (rest ≡ no_words) ⊎ (specs_height (append_words words rest) ≤ room)
+        → EndsWords s' (append_words words rest) (kind_at k) →
         run (word_turn inner role room) words s (spec_words_text all rest k) ≡ done (found (append_words words rest) s' k)
     words_complete role words no_words room less s s' k mix fits scopes low ended =
         run_ends (word_turn inner role room) (word_turn_shrinks all tokens n inner laws role room) words s k (turn_ends role words room s k (subst IsMix (append_nothing words) mix)
@@ -342,11 +363,13 @@ module _ (all : List Lexeme) (numbered : IsNumbered all) (tokens : TokenLaws all
         (inr (subst (λ (ws : SpecWords). specs_height ws ≤ room) (sym same) high)) (subst (λ (ws : SpecWords). EndsWords s' ws (kind_at k)) (sym same) ended) ∙
         ap (λ (words : SpecWords). done (found words s' k)) same
       where
-        high_of : (more_words w rest ≡ no_words) ⊎ (specs_height (append_words words (more_words w rest)) ≤ room) → specs_height (append_words words (more_words w rest)) ≤ room
+        high_of : (more_words w rest ≡ no_words) ⊎ (specs_height (append_words words (more_words w rest)) ≤ room)
+            → specs_height (append_words words (more_words w rest)) ≤ room
         high_of (inl none) = absurd cc
         high_of (inr high) = high
 
-    pub specs_complete : WholeAreMixes → (role : Role) (words rest : SpecWords) (room : ℕ) → room ≤ n → (s s' : HeldScopes) (k : List Lexeme) → IsMix (append_words words rest) → FitsRole all role rest →
+    pub specs_complete : WholeAreMixes → (role : Role) (words rest : SpecWords) (room : ℕ) → room ≤ n
+        → (s s' : HeldScopes) (k : List Lexeme) → IsMix (append_words words rest) → FitsRole all role rest →
         spec_words_scopes rest s ≡ Some s' → (rest ≡ no_words) ⊎ (specs_height (append_words words rest) ≤ room) → EndsWords s' (append_words words rest) (kind_at k) →
         specs_with inner role words room s (spec_words_text all rest k) ≡ done (found (append_words words rest) s' k)
     unfolding specs_with

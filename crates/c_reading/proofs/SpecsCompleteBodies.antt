@@ -126,7 +126,8 @@ unary_ends_suffix (kinds.Punct puncts.OpenBracket) e = absurd cc
 unary_ends_suffix kind e = refl
 
 -- a test passes behind attributes
-pub attrs_then : (all : List Lexeme) (test : TokenKind → Bool) → test (kinds.Keyword keywords.Attribute) ≡ true → (attrs : List Attr) (k : List Lexeme) → test (kind_at k) ≡ true →
+pub attrs_then : (all : List Lexeme) (test : TokenKind → Bool) → test (kinds.Keyword keywords.Attribute) ≡ true
+    → (attrs : List Attr) (k : List Lexeme) → test (kind_at k) ≡ true →
     test (kind_at (attrs_text all attrs k)) ≡ true
 attrs_then all test is [] k e = e
 attrs_then all test is (a ∷ attrs) k e = is
@@ -148,12 +149,14 @@ some_same e = cc
 
 module _ (all : List Lexeme) (numbered : IsNumbered all) (tokens : TokenLaws all) (firsts : FirstLaws all) (n : ℕ) (inner : Inner) (laws : Laws all n inner) where
   -- attributes leave the scopes as they are
-  pub attrs_read : (attrs : List Attr) (room : ℕ) (s : HeldScopes) (k : List Lexeme) → AreAttrs all attrs → least_with attrs ≤ room → not (is_attribute (kind_at k)) ≡ true →
+  pub attrs_read : (attrs : List Attr) (room : ℕ) (s : HeldScopes) (k : List Lexeme) → AreAttrs all attrs
+      → least_with attrs ≤ room → not (is_attribute (kind_at k)) ≡ true →
       attrs_at room s (attrs_text all attrs k) ≡ done (found attrs s k)
   attrs_read attrs room s k fits low ended = tokens.attrs_complete room attrs s s k fits refl low ended
 
   -- a value, where no mark follows that there is none
-  pub value_complete : (test : TokenKind → Bool) (mark : Punct) → test (kinds.Punct mark) ≡ true → (room : ℕ) → room < n → (v : SomeValue) (s s' : HeldScopes) (k : List Lexeme) → IsSomeValue all v →
+  pub value_complete : (test : TokenKind → Bool) (mark : Punct) → test (kinds.Punct mark) ≡ true → (room : ℕ) → room < n
+      → (v : SomeValue) (s s' : HeldScopes) (k : List Lexeme) → IsSomeValue all v →
       some_value_scopes v s ≡ Some s' → some_value_height v ≤ room - 1 → ends_expr Conditional (kind_at k) ≡ true → not (test (kind_at k)) ≡ true →
       value_with inner test room s (some_value_text all mark v k) ≡ done (found v s' k)
   unfolding value_with
@@ -163,7 +166,8 @@ module _ (all : List Lexeme) (numbered : IsNumbered all) (tokens : TokenLaws all
       rw is (fits_is 2 room (sign_text mark token (expr_text all e k)) _ (asks_two (expr_height e) room (expr_high e) low) ∙ bind_is _ refl
       (bind_is _ (laws.exprs.complete Conditional (room - 1) (inside_less room n less) e s s' k fits scopes low ended) refl))
 
-  width_complete : (colon : ℕ) (e : Expr) (attrs : List Attr) (room : ℕ) → room < n → (s s' : HeldScopes) (k : List Lexeme) → IsMemDeclr all (unnamed colon e attrs) → expr_scopes e s ≡ Some s' →
+  width_complete : (colon : ℕ) (e : Expr) (attrs : List Attr) (room : ℕ) → room < n
+      → (s s' : HeldScopes) (k : List Lexeme) → IsMemDeclr all (unnamed colon e attrs) → expr_scopes e s ≡ Some s' →
       max (expr_height e) (attrs_height attrs) + 1 ≤ room → ends_member (kind_at k) ≡ true → width_with inner room s (mem_declr_text all (unnamed colon e attrs) k) ≡ done (found (unnamed colon e attrs) s' k)
   unfolding width_with
   width_complete colon e attrs room less s s' k fits scopes low ended =
@@ -174,11 +178,13 @@ module _ (all : List Lexeme) (numbered : IsNumbered all) (tokens : TokenLaws all
       (bind_is _ (attrs_read attrs room s' k fits.2 (attrs_room attrs room (right_of_two (expr_height e) (attrs_height attrs) room low)) (member_no_attribute (kind_at k) ended)) refl))
 
   -- behind a declarator
-  suffix_ends : (width : SomeValue) (attrs : List Attr) (k : List Lexeme) → ends_member (kind_at k) ≡ true → ends_suffix (kind_at (some_value_text all puncts.Colon width (attrs_text all attrs k))) ≡ true
+  suffix_ends : (width : SomeValue) (attrs : List Attr) (k : List Lexeme) → ends_member (kind_at k) ≡ true
+      → ends_suffix (kind_at (some_value_text all puncts.Colon width (attrs_text all attrs k))) ≡ true
   suffix_ends no_value attrs k ended = attrs_then all ends_suffix refl attrs k (unary_ends_suffix (kind_at k) (expr_ends_unary (kind_at k) (member_ends_expr (kind_at k) ended)))
   suffix_ends (some_value token e) attrs k ended = refl
 
-  field_complete : (d : Declr) (width : SomeValue) (attrs : List Attr) (room : ℕ) → room < n → (s s' : HeldScopes) (k : List Lexeme) → IsMemDeclr all (named d width attrs) →
+  field_complete : (d : Declr) (width : SomeValue) (attrs : List Attr) (room : ℕ) → room < n
+      → (s s' : HeldScopes) (k : List Lexeme) → IsMemDeclr all (named d width attrs) →
       mem_declr_scopes (named d width attrs) s ≡ Some s' → mem_declr_height (named d width attrs) ≤ room → ends_member (kind_at k) ≡ true →
       field_with inner room s (mem_declr_text all (named d width attrs) k) ≡ done (found (named d width attrs) s' k)
   unfolding field_with
@@ -192,7 +198,8 @@ module _ (all : List Lexeme) (numbered : IsNumbered all) (tokens : TokenLaws all
       (attrs_then all (ends_expr Conditional) refl attrs k (member_ends_expr (kind_at k) ended)) (attrs_then all (λ kind. not (is_colon kind)) refl attrs k (member_no_colon (kind_at k) ended)))
       (bind_is _ (attrs_read attrs room s' k fits.3 (attrs_room attrs room (right_of_two (some_value_height width) (attrs_height attrs) room rest)) (member_no_attribute (kind_at k) ended)) refl))
 
-  mem_declr_complete : (room : ℕ) → room < n → IsComplete (mem_declr_form all) (λ d. ends_member) room (mem_declr_with inner room)
+  mem_declr_complete : (room : ℕ) → room < n
+      → IsComplete (mem_declr_form all) (λ d. ends_member) room (mem_declr_with inner room)
   unfolding mem_declr_with
   mem_declr_complete room less (named d width attrs) s s' k fits scopes low ended =
       rw (named_no_colon (kind_at (declr_text all d (some_value_text all puncts.Colon width (attrs_text all attrs k)))) (firsts.named_begins d (some_value_text all puncts.Colon width (attrs_text all attrs k)) fits.0 fits.1))
@@ -200,17 +207,20 @@ module _ (all : List Lexeme) (numbered : IsNumbered all) (tokens : TokenLaws all
   mem_declr_complete room less (unnamed colon e attrs) s s' k fits scopes low ended = width_complete colon e attrs room less s s' k fits scopes low ended
 
   -- what a declarator of a member begins with
-  declr_no_attribute : (d : MemDeclr) (k : List Lexeme) → IsMemDeclr all d → not (is_attribute (kind_at (mem_declr_text all d k))) ≡ true
+  declr_no_attribute : (d : MemDeclr) (k : List Lexeme) → IsMemDeclr all d
+      → not (is_attribute (kind_at (mem_declr_text all d k))) ≡ true
   declr_no_attribute (named d width attrs) k fits =
       not_false (named_no_attribute (kind_at (declr_text all d (some_value_text all puncts.Colon width (attrs_text all attrs k)))) (firsts.named_begins d (some_value_text all puncts.Colon width (attrs_text all attrs k)) fits.0 fits.1))
   declr_no_attribute (unnamed colon e attrs) k fits = refl
 
-  declr_no_semicolon : (d : MemDeclr) (k : List Lexeme) → IsMemDeclr all d → is_semicolon (kind_at (mem_declr_text all d k)) ≡ false
+  declr_no_semicolon : (d : MemDeclr) (k : List Lexeme) → IsMemDeclr all d
+      → is_semicolon (kind_at (mem_declr_text all d k)) ≡ false
   declr_no_semicolon (named d width attrs) k fits =
       named_no_semicolon (kind_at (declr_text all d (some_value_text all puncts.Colon width (attrs_text all attrs k)))) (firsts.named_begins d (some_value_text all puncts.Colon width (attrs_text all attrs k)) fits.0 fits.1)
   declr_no_semicolon (unnamed colon e attrs) k fits = refl
 
-  declr_ends_specs : (d : MemDeclr) (s s' : HeldScopes) (k : List Lexeme) → IsMemDeclr all d → mem_declr_scopes d s ≡ Some s' → ends_specs (kind_at (mem_declr_text all d k)) ≡ true
+  declr_ends_specs : (d : MemDeclr) (s s' : HeldScopes) (k : List Lexeme) → IsMemDeclr all d
+      → mem_declr_scopes d s ≡ Some s' → ends_specs (kind_at (mem_declr_text all d k)) ≡ true
   declr_ends_specs (named d width attrs) s s' k fits scopes =
       let more = some_value_text all puncts.Colon width (attrs_text all attrs k) in
       let b = behind_ok (declr_scopes None d s) (some_value_scopes width) s' scopes in
@@ -228,7 +238,8 @@ module _ (all : List Lexeme) (numbered : IsNumbered all) (tokens : TokenLaws all
       bind_is _ (attrs_read x.attrs room s (mem_declr_text all x.declr k) fits.0 (attrs_more x.attrs room (left_low (attrs_height x.attrs) (mem_declr_height x.declr) room low) two) (declr_no_attribute x.declr k fits.1))
       (bind_is _ (mem_declr_complete room less x.declr s s' k fits.1 scopes declr ended) refl)
 
-  next_member_complete : (room : ℕ) → room < n → (comma : ℕ) (x : MemberItem) (s s' : HeldScopes) (k : List Lexeme) → (member_form all).Fits x → (member_form all).scopes x s ≡ Some s' → (member_form all).height x ≤ room →
+  next_member_complete : (room : ℕ) → room < n → (comma : ℕ) (x : MemberItem) (s s' : HeldScopes) (k : List Lexeme)
+      → (member_form all).Fits x → (member_form all).scopes x s ≡ Some s' → (member_form all).height x ≤ room →
       ends_member (kind_at k) ≡ true → next_member inner room comma s ((member_form all).text x k) ≡ done (found (one_more x) s' k)
   unfolding next_member
   next_member_complete room less comma x s s' k fits scopes low ended =
@@ -238,15 +249,18 @@ module _ (all : List Lexeme) (numbered : IsNumbered all) (tokens : TokenLaws all
       (bind_is _ (mem_declr_complete room less x.declr s s' k fits.1 scopes declr ended) refl)
 
   -- where no attributes stand, it is the first
-  first_same : (room : ℕ) (s : HeldScopes) (ts : List Lexeme) → not (is_attribute (kind_at ts)) ≡ true → some_member room s ts ≡ first_member inner room s ts
+  first_same : (room : ℕ) (s : HeldScopes) (ts : List Lexeme) → not (is_attribute (kind_at ts)) ≡ true
+      → some_member room s ts ≡ first_member inner room s ts
   unfolding first_member
   first_same room s ts is = bind_is _ (attrs_read [] room s ts (All-nil (λ (a : Attr). IsGroup all a.group)) (omega arith) is) refl
 
-  listed_same : {T E : Type 0} (first other : Reader T) (next : ℕ → Reader (Next T E)) (s : HeldScopes) (ts : List Lexeme) → other s ts ≡ first s ts → listed other next s ts ≡ listed first next s ts
+  listed_same : {T E : Type 0} (first other : Reader T) (next : ℕ → Reader (Next T E)) (s : HeldScopes) (ts : List Lexeme)
+      → other s ts ≡ first s ts → listed other next s ts ≡ listed first next s ts
   unfolding listed
   listed_same first other next s ts e = rw e refl
 
-  mem_declrs_complete : (ds : MemDeclrs) (room : ℕ) → room < n → (s s' : HeldScopes) (semi : ℕ) (k : List Lexeme) → IsMemStart ds → AreMemDeclrs all ds → mem_declrs_scopes ds s ≡ Some s' → mem_declrs_height ds ≤ room →
+  mem_declrs_complete : (ds : MemDeclrs) (room : ℕ) → room < n → (s s' : HeldScopes) (semi : ℕ) (k : List Lexeme)
+      → IsMemStart ds → AreMemDeclrs all ds → mem_declrs_scopes ds s ≡ Some s' → mem_declrs_height ds ≤ room →
       mem_declrs_with inner room s (mem_declrs_text all ds (sign_text puncts.Semicolon semi k)) ≡ done (found (mem_items ds) s' (sign_text puncts.Semicolon semi k))
   unfolding mem_declrs_with
   mem_declrs_complete no_mem_declrs room less s s' semi k start fits scopes low = ap (λ (s : HeldScopes). done (found [] s (sign_text puncts.Semicolon semi k))) (some_same scopes)
@@ -266,7 +280,8 @@ module _ (all : List Lexeme) (numbered : IsNumbered all) (tokens : TokenLaws all
       (first_same room s (mem_declrs_text all (more_mem_declrs [] d ds) (sign_text puncts.Semicolon semi k)) (declr_no_attribute d (other_mem_declrs_text all ds (sign_text puncts.Semicolon semi k)) fits.1))) ∙
       ap (listed (some_member room) (next_member inner room) s) text ∙ list) refl)
 
-  declrs_end_specs : (ds : MemDeclrs) (s s' : HeldScopes) (semi : ℕ) (k : List Lexeme) → IsMemStart ds → AreMemDeclrs all ds → mem_declrs_scopes ds s ≡ Some s' →
+  declrs_end_specs : (ds : MemDeclrs) (s s' : HeldScopes) (semi : ℕ) (k : List Lexeme) → IsMemStart ds
+      → AreMemDeclrs all ds → mem_declrs_scopes ds s ≡ Some s' →
       ends_specs (kind_at (mem_declrs_text all ds (sign_text puncts.Semicolon semi k))) ≡ true
   declrs_end_specs no_mem_declrs s s' semi k start fits scopes = refl
   declrs_end_specs (more_mem_declrs (a ∷ attrs) d ds) s s' semi k start fits scopes = absurd cc
@@ -274,7 +289,8 @@ module _ (all : List Lexeme) (numbered : IsNumbered all) (tokens : TokenLaws all
       let b = behind_ok (mem_declr_scopes d s) (mem_declrs_scopes ds) s' scopes in
       declr_ends_specs d s b.0 (other_mem_declrs_text all ds (sign_text puncts.Semicolon semi k)) fits.1 b.1
 
-  member_complete : (exts : List ℕ) (ws : SpecWords) (ds : MemDeclrs) (semi : ℕ) (room : ℕ) → room < n → (s s' : HeldScopes) (k : List Lexeme) → IsStructItem all (member exts ws ds semi) →
+  member_complete : (exts : List ℕ) (ws : SpecWords) (ds : MemDeclrs) (semi : ℕ) (room : ℕ) → room < n
+      → (s s' : HeldScopes) (k : List Lexeme) → IsStructItem all (member exts ws ds semi) →
       struct_item_scopes (member exts ws ds semi) s ≡ Some s' → struct_item_height (member exts ws ds semi) ≤ room →
       member_with inner room s (struct_item_text all (member exts ws ds semi) k) ≡ done (found (member exts ws ds semi) s' k)
   unfolding member_with
@@ -290,12 +306,14 @@ module _ (all : List Lexeme) (numbered : IsNumbered all) (tokens : TokenLaws all
       (bind_is _ refl (ap (λ (ds : MemDeclrs). done (found (member exts ws ds semi) s' k)) (mem_items_back ds)))))
 
   -- what a member begins with
-  member_begins : (test : TokenKind → Bool) (exts : List ℕ) (ws : SpecWords) (s s' : HeldScopes) (k : List Lexeme) → ((kind : TokenKind) → begins_specs s kind ≡ true → test kind ≡ false) →
+  member_begins : (test : TokenKind → Bool) (exts : List ℕ) (ws : SpecWords) (s s' : HeldScopes) (k : List Lexeme)
+      → ((kind : TokenKind) → begins_specs s kind ≡ true → test kind ≡ false) →
       test (kinds.Keyword keywords.Extension) ≡ false → IsMix ws → AreSpecWords all ws → spec_words_scopes ws s ≡ Some s' → test (kind_at (extensions_text exts (spec_words_text all ws k))) ≡ false
   member_begins test [] ws s s' k free ext mix fits scopes = free (kind_at (spec_words_text all ws k)) (firsts.words_begin ws s s' k mix fits scopes)
   member_begins test (x ∷ xs) ws s s' k free ext mix fits scopes = ext
 
-  struct_item_complete : (room : ℕ) → room < n → IsComplete (struct_item_form all) always room (struct_item_with inner room)
+  struct_item_complete : (room : ℕ) → room < n
+      → IsComplete (struct_item_form all) always room (struct_item_with inner room)
   unfolding struct_item_with
   struct_item_complete room less (member exts ws ds semi) s s' k fits scopes low ended =
       let b = behind_ok (spec_words_scopes ws s) (mem_declrs_scopes ds) s' scopes in
@@ -309,14 +327,16 @@ module _ (all : List Lexeme) (numbered : IsNumbered all) (tokens : TokenLaws all
   struct_item_complete room less (member_assert it) s s' k fits scopes low ended =
       fits_is 1 room (assert_text all it k) _ low ∙ bind_is _ (tokens.assert_complete room it s s' k fits scopes (omega arith) refl) refl
 
-  item_begins : (x : StructItem) (s s' : HeldScopes) (k : List Lexeme) → IsStructItem all x → struct_item_scopes x s ≡ Some s' → not (is_close_brace (kind_at (struct_item_text all x k))) ≡ true
+  item_begins : (x : StructItem) (s s' : HeldScopes) (k : List Lexeme) → IsStructItem all x
+      → struct_item_scopes x s ≡ Some s' → not (is_close_brace (kind_at (struct_item_text all x k))) ≡ true
   item_begins (member exts ws ds semi) s s' k fits scopes =
       let b = behind_ok (spec_words_scopes ws s) (mem_declrs_scopes ds) s' scopes in
       not_false (member_begins is_close_brace exts ws s b.0 (mem_declrs_text all ds (sign_text puncts.Semicolon semi k)) (specs_no_close_brace s) refl fits.0 fits.1 b.1)
   item_begins (member_semi semi) s s' k fits scopes = refl
   item_begins (member_assert it) s s' k fits scopes = refl
 
-  items_complete : (items : StructItems) (room : ℕ) → room < n → (s s' : HeldScopes) (closing : ℕ) (k : List Lexeme) → AreStructItems all items → struct_items_scopes items s ≡ Some s' → struct_items_height items ≤ room →
+  items_complete : (items : StructItems) (room : ℕ) → room < n → (s s' : HeldScopes) (closing : ℕ) (k : List Lexeme)
+      → AreStructItems all items → struct_items_scopes items s ≡ Some s' → struct_items_height items ≤ room →
       repeated (λ kind. not (is_close_brace kind)) (struct_item_with inner room) s (struct_items_text all items (sign_text puncts.CloseBrace closing k)) ≡ done (found (struct_items items) s' (sign_text puncts.CloseBrace closing k))
   items_complete items room less s s' closing k fits scopes low =
       let back : struct_items_from (struct_items items) ≡ items = struct_items_back items in
@@ -327,14 +347,17 @@ module _ (all : List Lexeme) (numbered : IsNumbered all) (tokens : TokenLaws all
       (items_named all (struct_items items) s ∙ ap (λ (items : StructItems). struct_items_scopes items s) back ∙ scopes)
       (subst (λ (h : ℕ). h ≤ room) (sym (items_high all (struct_items items) ∙ ap struct_items_height back)) low) refl (λ x. refl)
 
-  members_complete : (opening : ℕ) (items : StructItems) (closing : ℕ) (room : ℕ) → room < n → (s s' : HeldScopes) (k : List Lexeme) → AreStructItems all items → struct_items_scopes items s ≡ Some s' →
+  members_complete : (opening : ℕ) (items : StructItems) (closing : ℕ) (room : ℕ) → room < n
+      → (s s' : HeldScopes) (k : List Lexeme) → AreStructItems all items → struct_items_scopes items s ≡ Some s' →
       struct_items_height items ≤ room - 1 → members_with inner room s (some_body_text all (some_body opening items closing) k) ≡ done (found (some_body opening items closing) s' k)
   unfolding members_with
   members_complete opening items closing room less s s' k fits scopes low =
       bind_is _ refl (bind_is _ (items_complete items (room - 1) (inside_less room n less) s s' closing k fits scopes low)
       (bind_is _ refl (ap (λ (items : StructItems). done (found (some_body opening items closing) s' k)) (struct_items_back items))))
 
-  body_complete : (tag : Option Identifier) (body : SomeBody) (room : ℕ) → room < n → (s s' : HeldScopes) (k : List Lexeme) → HasTagOrBody tag body → IsBody all body → some_body_scopes body s ≡ Some s' →
+  body_complete : (tag : Option Identifier) (body : SomeBody) (room : ℕ) → room < n
+      → (s s' : HeldScopes) (k : List Lexeme) → HasTagOrBody tag body → IsBody all body
+      → some_body_scopes body s ≡ Some s' →
       some_body_height body ≤ room - 1 → is_open_brace (kind_at k) ≡ false → body_with inner tag room s (some_body_text all body k) ≡ done (found body s' k)
   unfolding body_with
   body_complete None no_body room less s s' k has fits scopes low no_brace = absurd has
@@ -342,18 +365,22 @@ module _ (all : List Lexeme) (numbered : IsNumbered all) (tokens : TokenLaws all
   body_complete tag (some_body opening items closing) room less s s' k has fits scopes low no_brace = members_complete opening items closing room less s s' k fits scopes low
 
   -- behind the word and its attributes
-  tag_begins : (tag : Option Identifier) (body : SomeBody) (k : List Lexeme) → HasTagOrBody tag body → not (is_attribute (kind_at (tag_text tag (some_body_text all body k)))) ≡ true
+  tag_begins : (tag : Option Identifier) (body : SomeBody) (k : List Lexeme) → HasTagOrBody tag body
+      → not (is_attribute (kind_at (tag_text tag (some_body_text all body k)))) ≡ true
   tag_begins None no_body k has = absurd has
   tag_begins None (some_body opening items closing) k has = refl
   tag_begins (Some tag) body k has = refl
 
-  tag_complete : (tag : Option Identifier) (body : SomeBody) (s : HeldScopes) (k : List Lexeme) → HasTagOrBody tag body →
+  tag_complete : (tag : Option Identifier) (body : SomeBody) (s : HeldScopes) (k : List Lexeme)
+      → HasTagOrBody tag body →
       tag_at s (tag_text tag (some_body_text all body k)) ≡ done (found tag s (some_body_text all body k))
   tag_complete None no_body s k has = absurd has
   tag_complete None (some_body opening items closing) s k has = refl
   tag_complete (Some tag) body s k has = refl
 
-  pub struct_complete : (word : Word) (attrs : List Attr) (tag : Option Identifier) (body : SomeBody) (room : ℕ) → room < n → (s s' : HeldScopes) (k : List Lexeme) → AreAttrs all attrs → HasTagOrBody tag body → IsBody all body →
+  pub struct_complete : (word : Word) (attrs : List Attr) (tag : Option Identifier) (body : SomeBody) (room : ℕ)
+      → room < n → (s s' : HeldScopes) (k : List Lexeme) → AreAttrs all attrs → HasTagOrBody tag body
+      → IsBody all body →
       some_body_scopes body s ≡ Some s' → max (attrs_height attrs) (some_body_height body) + 1 ≤ room → is_open_brace (kind_at k) ≡ false →
       struct_with inner word.keyword room s (spec_word_text all (struct_type word attrs tag body) k) ≡ done (found (struct_type word attrs tag body) s' k)
   unfolding struct_with

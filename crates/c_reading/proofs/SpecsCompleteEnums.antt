@@ -29,11 +29,13 @@ use Rattle.c_reading.proofs.SpecsCompleteBodies.{attrs_room, left_of_two, right_
 use Rattle.c_reading.proofs.Aims.{enumerator_form, ends_expr, ends_enumerator, TokenLaws, FirstLaws, Laws}
 
 -- a name that was declared
-declare_parts : (name : ℕ) (s t : HeldScopes) → declare name Constant s ≡ Some t → (may_declare (innermost s) name Constant ≡ true) × (is_name (innermost s).held name ≡ false)
+declare_parts : (name : ℕ) (s t : HeldScopes) → declare name Constant s ≡ Some t
+    → (may_declare (innermost s) name Constant ≡ true) × (is_name (innermost s).held name ≡ false)
 declare_parts name s t e = by_held (is_name (innermost s).held name) (may_declare (innermost s) name Constant) refl refl e
   where
     by_held : (a b : Bool) → is_name (innermost s).held name ≡ a → may_declare (innermost s) name Constant ≡ b →
-        (if a then None else if b then Some (with_name (innermost s) name Constant ∷ leave s) else None) ≡ Some t → (may_declare (innermost s) name Constant ≡ true) × (is_name (innermost s).held name ≡ false)
+        (if a then None else if b then Some (with_name (innermost s) name Constant ∷ leave s) else None) ≡ Some t
+        → (may_declare (innermost s) name Constant ≡ true) × (is_name (innermost s).held name ≡ false)
     by_held true b held may e = absurd cc
     by_held false true held may e = (may, held)
     by_held false false held may e = absurd cc
@@ -57,11 +59,14 @@ module _ (all : List Lexeme) (numbered : IsNumbered all) (tokens : TokenLaws all
   enumerator_no_attribute : (kind : TokenKind) → ends_enumerator kind ≡ true → not (is_attribute kind) ≡ true
   enumerator_no_attribute kind e = both_right (ends_expr Conditional kind) (not (is_attribute kind)) e
 
-  value_no_attribute : (value : SomeValue) (k : List Lexeme) → ends_enumerator (kind_at k) ≡ true → not (is_attribute (kind_at (some_value_text all puncts.Equal value k))) ≡ true
+  value_no_attribute : (value : SomeValue) (k : List Lexeme) → ends_enumerator (kind_at k) ≡ true
+      → not (is_attribute (kind_at (some_value_text all puncts.Equal value k))) ≡ true
   value_no_attribute no_value k ended = enumerator_no_attribute (kind_at k) ended
   value_no_attribute (some_value token e) k ended = refl
 
-  behind_complete : (x : EnumItem) (room : ℕ) → room < n → (s t s' : HeldScopes) (k : List Lexeme) → AreAttrs all x.attrs → IsSomeValue all x.value → some_value_scopes x.value s ≡ Some t → declare x.name.name Constant t ≡ Some s' →
+  behind_complete : (x : EnumItem) (room : ℕ) → room < n → (s t s' : HeldScopes) (k : List Lexeme)
+      → AreAttrs all x.attrs → IsSomeValue all x.value → some_value_scopes x.value s ≡ Some t
+      → declare x.name.name Constant t ≡ Some s' →
       max (attrs_height x.attrs) (some_value_height x.value) + 1 ≤ room → ends_enumerator (kind_at k) ≡ true →
       enumerator_behind inner x.name room s (attrs_text all x.attrs (some_value_text all puncts.Equal x.value k)) ≡ done (found x s' k)
   unfolding enumerator_behind
@@ -73,7 +78,9 @@ module _ (all : List Lexeme) (numbered : IsNumbered all) (tokens : TokenLaws all
       (inside_low (some_value_height x.value) room (right_of_two (attrs_height x.attrs) (some_value_height x.value) room low)) expr_ends (not_false (expr_no_equal (kind_at k) expr_ends)))
       (ap (λ (o : Option HeldScopes). declared x o k) is_declared))
 
-  named_complete : (x : EnumItem) (room : ℕ) → room < n → (at : List Lexeme) (s s' : HeldScopes) (k : List Lexeme) → (enumerator_form all).Fits x → (enumerator_form all).scopes x s ≡ Some s' → (enumerator_form all).height x ≤ room →
+  named_complete : (x : EnumItem) (room : ℕ) → room < n → (at : List Lexeme) (s s' : HeldScopes) (k : List Lexeme)
+      → (enumerator_form all).Fits x → (enumerator_form all).scopes x s ≡ Some s'
+      → (enumerator_form all).height x ≤ room →
       ends_enumerator (kind_at k) ≡ true → enumerator_named inner x.name room at s (attrs_text all x.attrs (some_value_text all puncts.Equal x.value k)) ≡ done (found x s' k)
   unfolding enumerator_named
   named_complete x room less at s s' k fits scopes low ended =
@@ -83,12 +90,15 @@ module _ (all : List Lexeme) (numbered : IsNumbered all) (tokens : TokenLaws all
       rw (d.0, d.1) (fits_is 1 room at _ (one_of_more (max (attrs_height x.attrs) (some_value_height x.value)) room low) ∙
       behind_complete x room less s c.0 s' k fits.0 fits.1 c.1 c.2 low ended)
 
-  enumerator_complete : (room : ℕ) → room < n → IsComplete (enumerator_form all) (λ x. ends_enumerator) room (enumerator_with inner room)
+  enumerator_complete : (room : ℕ) → room < n
+      → IsComplete (enumerator_form all) (λ x. ends_enumerator) room (enumerator_with inner room)
   unfolding enumerator_with
   enumerator_complete room less x s s' k fits scopes low ended =
       bind_is _ refl (named_complete x room less ((enumerator_form all).text x k) s s' k fits scopes low ended)
 
-  next_enumerator_complete : (room : ℕ) → room < n → (comma : ℕ) (x : EnumItem) (s s' : HeldScopes) (k : List Lexeme) → (enumerator_form all).Fits x → (enumerator_form all).scopes x s ≡ Some s' → (enumerator_form all).height x ≤ room →
+  next_enumerator_complete : (room : ℕ) → room < n → (comma : ℕ) (x : EnumItem) (s s' : HeldScopes) (k : List Lexeme)
+      → (enumerator_form all).Fits x → (enumerator_form all).scopes x s ≡ Some s'
+      → (enumerator_form all).height x ≤ room →
       ends_enumerator (kind_at k) ≡ true → next_enumerator inner room comma s ((enumerator_form all).text x k) ≡ done (found (one_more x) s' k)
   unfolding next_enumerator
   next_enumerator_complete room less comma x s s' k fits scopes low ended = bind_is _ (enumerator_complete room less x s s' k fits scopes low ended) refl
@@ -101,7 +111,9 @@ module _ (all : List Lexeme) (numbered : IsNumbered all) (tokens : TokenLaws all
   list_ends room less None s closing k = (refl, λ x. refl)
   list_ends room less (Some comma) s closing k = (comma, sign_text puncts.CloseBrace closing k, refl, refl)
 
-  items_complete : (es : Enumerators) (last : Option ℕ) (room : ℕ) → room < n → (s s' : HeldScopes) (closing : ℕ) (k : List Lexeme) → es ≢ no_enumerators → AreEnumerators all es → enumerators_scopes es s ≡ Some s' →
+  items_complete : (es : Enumerators) (last : Option ℕ) (room : ℕ) → room < n
+      → (s s' : HeldScopes) (closing : ℕ) (k : List Lexeme) → es ≢ no_enumerators → AreEnumerators all es
+      → enumerators_scopes es s ≡ Some s' →
       enumerators_height es ≤ room → listed (enumerator_with inner room) (next_enumerator inner room) s (enumerators_text all es (some_sign_text puncts.Comma last (sign_text puncts.CloseBrace closing k))) ≡
       done (found (record { items = enum_items es; ending = last }) s' (sign_text puncts.CloseBrace closing k))
   items_complete es last room less s s' closing k some fits scopes low =
@@ -119,7 +131,8 @@ module _ (all : List Lexeme) (numbered : IsNumbered all) (tokens : TokenLaws all
       (enumerators_named all items s ∙ ap (λ (es : Enumerators). enumerators_scopes es s) back ∙ scopes)
       (subst (λ (h : ℕ). h ≤ room) (sym (enumerators_high all items ∙ ap enumerators_height back)) low) (list_ends room less last s' closing k)
 
-  enumerators_complete : (opening : ℕ) (es : Enumerators) (last : Option ℕ) (closing : ℕ) (room : ℕ) → room < n → (s s' : HeldScopes) (k : List Lexeme) → es ≢ no_enumerators → AreEnumerators all es →
+  enumerators_complete : (opening : ℕ) (es : Enumerators) (last : Option ℕ) (closing : ℕ) (room : ℕ) → room < n
+      → (s s' : HeldScopes) (k : List Lexeme) → es ≢ no_enumerators → AreEnumerators all es →
       enumerators_scopes es s ≡ Some s' → enumerators_height es ≤ room - 1 →
       enumerators_with inner room s (some_enum_body_text all (some_enum_body opening es last closing) k) ≡ done (found (some_enum_body opening es last closing) s' k)
   unfolding enumerators_with
@@ -128,24 +141,31 @@ module _ (all : List Lexeme) (numbered : IsNumbered all) (tokens : TokenLaws all
       bind_is _ refl (bind_is _ (items_complete es last (room - 1) (inside_less room n less) s s' closing k some fits scopes low)
       (bind_is _ refl (ap (λ (es : Enumerators). done (found (some_enum_body opening es last closing) s' k)) (enum_items_back es))))
 
-  enum_body_complete : (tag : Option Identifier) (body : SomeEnumBody) (room : ℕ) → room < n → (s s' : HeldScopes) (k : List Lexeme) → HasTagOrEnumBody tag body → IsEnumBody all body → some_enum_body_scopes body s ≡ Some s' →
+  enum_body_complete : (tag : Option Identifier) (body : SomeEnumBody) (room : ℕ) → room < n
+      → (s s' : HeldScopes) (k : List Lexeme) → HasTagOrEnumBody tag body → IsEnumBody all body
+      → some_enum_body_scopes body s ≡ Some s' →
       some_enum_body_height body ≤ room - 1 → is_open_brace (kind_at k) ≡ false → enum_body_with inner tag room s (some_enum_body_text all body k) ≡ done (found body s' k)
   unfolding enum_body_with
   enum_body_complete None no_enum_body room less s s' k has fits scopes low no_brace = absurd has
   enum_body_complete (Some tag) no_enum_body room less s s' k has fits scopes low no_brace = rw no_brace (ap (λ (s : HeldScopes). done (found no_enum_body s k)) (some_same scopes))
   enum_body_complete tag (some_enum_body opening es last closing) room less s s' k has fits scopes low no_brace = enumerators_complete opening es last closing room less s s' k fits.0 fits.1 scopes low
 
-  tag_begins : (tag : Option Identifier) (body : SomeEnumBody) (k : List Lexeme) → HasTagOrEnumBody tag body → not (is_attribute (kind_at (tag_text tag (some_enum_body_text all body k)))) ≡ true
+  tag_begins : (tag : Option Identifier) (body : SomeEnumBody) (k : List Lexeme) → HasTagOrEnumBody tag body
+      → not (is_attribute (kind_at (tag_text tag (some_enum_body_text all body k)))) ≡ true
   tag_begins None no_enum_body k has = absurd has
   tag_begins None (some_enum_body opening es last closing) k has = refl
   tag_begins (Some tag) body k has = refl
 
-  tag_complete : (tag : Option Identifier) (body : SomeEnumBody) (s : HeldScopes) (k : List Lexeme) → HasTagOrEnumBody tag body → tag_at s (tag_text tag (some_enum_body_text all body k)) ≡ done (found tag s (some_enum_body_text all body k))
+  tag_complete : (tag : Option Identifier) (body : SomeEnumBody) (s : HeldScopes) (k : List Lexeme)
+      → HasTagOrEnumBody tag body
+      → tag_at s (tag_text tag (some_enum_body_text all body k)) ≡ done (found tag s (some_enum_body_text all body k))
   tag_complete None no_enum_body s k has = absurd has
   tag_complete None (some_enum_body opening es last closing) s k has = refl
   tag_complete (Some tag) body s k has = refl
 
-  pub enum_complete : (keyword : ℕ) (attrs : List Attr) (tag : Option Identifier) (body : SomeEnumBody) (room : ℕ) → room < n → (s s' : HeldScopes) (k : List Lexeme) → AreAttrs all attrs → HasTagOrEnumBody tag body → IsEnumBody all body →
+  pub enum_complete : (keyword : ℕ) (attrs : List Attr) (tag : Option Identifier) (body : SomeEnumBody) (room : ℕ)
+      → room < n → (s s' : HeldScopes) (k : List Lexeme) → AreAttrs all attrs → HasTagOrEnumBody tag body
+      → IsEnumBody all body →
       some_enum_body_scopes body s ≡ Some s' → max (attrs_height attrs) (some_enum_body_height body) + 1 ≤ room → is_open_brace (kind_at k) ≡ false →
       enum_with inner room s (spec_word_text all (enum_type (enum_of keyword attrs tag body)) k) ≡ done (found (enum_type (enum_of keyword attrs tag body)) s' k)
   unfolding enum_with

@@ -31,7 +31,8 @@ less_inside : (a room n : ℕ) → a + 1 ≤ room → room < n → room - 1 < n
 less_inside a room n h k = omega (arith, h, k)
 
 module _ (all : List Lexeme) (firsts : FirstLaws all) (n : ℕ) (inner : Inner) (laws : Laws all n inner) where
-  pub typeof_complete : (keyword opening : ℕ) (e : Expr) (closing room : ℕ) → room < n → (s s' : HeldScopes) (k : List Lexeme) → IsExpr all e → expr_scopes e s ≡ Some s' →
+  pub typeof_complete : (keyword opening : ℕ) (e : Expr) (closing room : ℕ) → room < n
+      → (s s' : HeldScopes) (k : List Lexeme) → IsExpr all e → expr_scopes e s ≡ Some s' →
       expr_height e + 1 ≤ room → typeof_with inner room s (spec_word_text all (typeof_value keyword opening e closing) k) ≡ done (found (typeof_value keyword opening e closing) s' k)
   unfolding typeof_with typeof_value_with
   typeof_complete keyword opening e closing room less s s' k fits scopes low =
@@ -40,7 +41,8 @@ module _ (all : List Lexeme) (firsts : FirstLaws all) (n : ℕ) (inner : Inner) 
       (bind_is _ (laws.exprs.complete Whole (room - 1) (less_inside (expr_height e) room n low less) e s s' more (fits, omega arith) scopes (inside_one (expr_height e) room low) refl)
       (bind_is _ refl refl))))
 
-  typed_word_complete : (word : Word) (opening : ℕ) (ws : SpecWords) (d : SomeDeclr) (closing room : ℕ) → room < n → (s s' : HeldScopes) (k : List Lexeme) →
+  typed_word_complete : (word : Word) (opening : ℕ) (ws : SpecWords) (d : SomeDeclr) (closing room : ℕ) → room < n
+      → (s s' : HeldScopes) (k : List Lexeme) →
       IsMix ws → AreTypeWords all ws → IsSomeAbstract all d → behind (spec_words_scopes ws s) (some_declr_scopes None d) ≡ Some s' → max (specs_height ws) (some_declr_height d) + 1 + 1 ≤ room →
       typed_word_with inner word.keyword word.token opening room s (spec_words_text all ws (some_declr_text all d (sign_text puncts.CloseParen closing k))) ≡
       done (found (typeof_type word opening ws d closing) s' k)
@@ -51,7 +53,8 @@ module _ (all : List Lexeme) (firsts : FirstLaws all) (n : ℕ) (inner : Inner) 
       (inside_one (max (specs_height ws) (some_declr_height d) + 1) room low) refl) (bind_is _ refl refl)
 
   -- a type with such a word is read by what it begins with
-  pub former_complete : (word : Word) (opening : ℕ) (ws : SpecWords) (d : SomeDeclr) (closing room : ℕ) → room - 1 < n → (s s' : HeldScopes) (k : List Lexeme) → is_type_former word.keyword ≡ true →
+  pub former_complete : (word : Word) (opening : ℕ) (ws : SpecWords) (d : SomeDeclr) (closing room : ℕ) → room - 1 < n
+      → (s s' : HeldScopes) (k : List Lexeme) → is_type_former word.keyword ≡ true →
       IsMix ws → AreTypeWords all ws → IsSomeAbstract all d → behind (spec_words_scopes ws s) (some_declr_scopes None d) ≡ Some s' → max (specs_height ws) (some_declr_height d) + 1 + 1 ≤ room - 1 →
       word_by inner (former_start word.keyword) room s (spec_word_text all (typeof_type word opening ws d closing) k) ≡ done (found (typeof_type word opening ws d closing) s' k)
   unfolding word_by typeof_with atomic_with

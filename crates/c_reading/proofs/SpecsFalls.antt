@@ -135,7 +135,8 @@ module _ (all : List Lexeme) (tokens : TokenLaws all) (n : ℕ) (inner : Inner) 
       let d = bind_ok c.2 in
       omega (arith, take_falls _ _ _ a.1, tokens.attrs_falls room _ _ _ b.1, tag_falls _ _ _ c.1, body_falls c.0.tree room _ _ _ d.1, end_is d.2)
 
-  declared_falls : {A : Type 0} (a : A) (o : Option HeldScopes) (ts : List Lexeme) (x : Found A) → declared a o ts ≡ done x → length x.rest ≡ length ts
+  declared_falls : {A : Type 0} (a : A) (o : Option HeldScopes) (ts : List Lexeme) (x : Found A)
+      → declared a o ts ≡ done x → length x.rest ≡ length ts
   declared_falls a None ts x e = absurd cc
   declared_falls a (Some s) ts x e = sym (end_is e)
 
@@ -146,7 +147,8 @@ module _ (all : List Lexeme) (tokens : TokenLaws all) (n : ℕ) (inner : Inner) 
       let b = bind_ok a.2 in
       omega (arith, tokens.attrs_falls room _ _ _ a.1, value_falls is_equal room _ _ _ b.1, declared_falls _ (declare name.name Constant b.0.scopes) b.0.rest x b.2)
 
-  enumerator_named_falls : (name : Identifier) (room : ℕ) (at : List Lexeme) → Falls (enumerator_named inner name room at)
+  enumerator_named_falls : (name : Identifier) (room : ℕ) (at : List Lexeme)
+      → Falls (enumerator_named inner name room at)
   unfolding enumerator_named
   enumerator_named_falls name room at s ts x e =
       if_ok (may_declare (innermost s) name.name Constant) e
@@ -190,7 +192,8 @@ module _ (all : List Lexeme) (tokens : TokenLaws all) (n : ℕ) (inner : Inner) 
       let d = bind_ok c.2 in
       omega (arith, take_falls _ _ _ a.1, tokens.attrs_falls room _ _ _ b.1, tag_falls _ _ _ c.1, enum_body_falls c.0.tree room _ _ _ d.1, end_is d.2)
 
-  typed_word_shrinks : (keyword : Keyword) (token opening room : ℕ) → Shrinks (typed_word_with inner keyword token opening room)
+  typed_word_shrinks : (keyword : Keyword) (token opening room : ℕ)
+      → Shrinks (typed_word_with inner keyword token opening room)
   unfolding typed_word_with
   typed_word_shrinks keyword token opening room s ts x e =
       let a = bind_ok e in
@@ -245,7 +248,8 @@ module _ (all : List Lexeme) (tokens : TokenLaws all) (n : ℕ) (inner : Inner) 
   word_by_shrinks starts.Nothing room s ts x e = absurd cc
 
   -- what a word that was read may be
-  pub word_parts : (role : Role) (words : SpecWords) (start : SpecStart) (room : ℕ) (s : HeldScopes) (ts : List Lexeme) (x : Found SpecWord) → word_with inner role words start room s ts ≡ done x →
+  pub word_parts : (role : Role) (words : SpecWords) (start : SpecStart) (room : ℕ) (s : HeldScopes) (ts : List Lexeme) (x : Found SpecWord)
+      → word_with inner role words start room s ts ≡ done x →
       (may_stand role start ≡ true) × (goes_on words (class_of_start start) ≡ true) × (max (least_of start) (specs_height words) ≤ room) × (word_by inner start room s ts ≡ done x)
   unfolding word_with
   word_parts role words start room s ts x e =
@@ -256,11 +260,13 @@ module _ (all : List Lexeme) (tokens : TokenLaws all) (n : ℕ) (inner : Inner) 
       (λ may e. absurd cc)
 
   -- what a turn read
-  pub turn_parts : (role : Role) (room : ℕ) (words : SpecWords) (s : HeldScopes) (ts : List Lexeme) (x : Found SpecWords) → word_turn inner role room words s ts ≡ Some (done x) →
+  pub turn_parts : (role : Role) (room : ℕ) (words : SpecWords) (s : HeldScopes) (ts : List Lexeme) (x : Found SpecWords)
+      → word_turn inner role room words s ts ≡ Some (done x) →
       (is_start (start_at s (is_typed words) (kind_at ts)) ≡ true) × (y : Found SpecWord) × (word_with inner role words (start_at s (is_typed words) (kind_at ts)) room s ts ≡ done y) × (found (pushed words y.tree) y.scopes y.rest ≡ x)
   turn_parts role room words s ts x e = by_start (start_at s (is_typed words) (kind_at ts)) e
     where
-      by_test : (start : SpecStart) (b : Bool) → is_start start ≡ b → (if b then Some (and_then (word_with inner role words start room s ts) (λ word. ends (pushed words word.tree) word.scopes word.rest)) else None) ≡ Some (done x) →
+      by_test : (start : SpecStart) (b : Bool) → is_start start ≡ b
+          → (if b then Some (and_then (word_with inner role words start room s ts) (λ word. ends (pushed words word.tree) word.scopes word.rest)) else None) ≡ Some (done x) →
           (is_start start ≡ true) × (y : Found SpecWord) × (word_with inner role words start room s ts ≡ done y) × (found (pushed words y.tree) y.scopes y.rest ≡ x)
       by_test start false is e = absurd cc
       by_test start true is e =
@@ -291,7 +297,8 @@ module _ (all : List Lexeme) (tokens : TokenLaws all) (n : ℕ) (inner : Inner) 
       (λ words s k x h e. let less : length x.rest < length k = word_turn_shrinks role room words s k x e in omega arith) words s ts x (omega arith) e
 
   -- the words are whole
-  pub whole_ok : (words : SpecWords) (s : HeldScopes) (ts : List Lexeme) (x : Found SpecWords) → whole inner words s ts ≡ done x → (is_whole_mix words ≡ true) × (found words s ts ≡ x)
+  pub whole_ok : (words : SpecWords) (s : HeldScopes) (ts : List Lexeme) (x : Found SpecWords)
+      → whole inner words s ts ≡ done x → (is_whole_mix words ≡ true) × (found words s ts ≡ x)
   whole_ok words s ts x e = if_ok (is_whole_mix words) e (λ is e. (is, ok_is e)) (λ is e. absurd cc)
 
   pub specs_falls : (role : Role) (words : SpecWords) (room : ℕ) → Falls (specs_with inner role words room)
@@ -311,7 +318,8 @@ module _ (all : List Lexeme) (tokens : TokenLaws all) (n : ℕ) (inner : Inner) 
       subst (λ (x : Found SpecWords). length x.rest < length ts) w.1
       (by_turn (word_turn inner role room no_words s ts) refl (sym (run_is (word_turn inner role room) (word_turn_shrinks role room) no_words s ts) ∙ a.1) w.0)
     where
-      by_turn : {y : Found SpecWords} → (r : Option (Read SpecWords)) → word_turn inner role room no_words s ts ≡ r → after r no_words s ts (run (word_turn inner role room)) ≡ done y →
+      by_turn : {y : Found SpecWords} → (r : Option (Read SpecWords)) → word_turn inner role room no_words s ts ≡ r
+          → after r no_words s ts (run (word_turn inner role room)) ≡ done y →
           is_whole_mix y.tree ≡ true → length y.rest < length ts
       by_turn {y} None is e w =
           let none : is_whole_mix no_words ≡ true = subst (λ (y : Found SpecWords). is_whole_mix y.tree ≡ true) (sym (ok_is e)) w in

@@ -40,7 +40,8 @@ pub enum_items_back : (es : Enumerators) → enumerators_from (enum_items es) �
 enum_items_back no_enumerators = refl
 enum_items_back (more_enumerators name attrs value es) = ap (more_enumerators name attrs value) (enum_items_back es)
 
-behind_behind : (r : Option HeldScopes) (f g : HeldScopes → Option HeldScopes) → behind (behind r f) g ≡ behind r (λ t. behind (f t) g)
+behind_behind : (r : Option HeldScopes) (f g : HeldScopes → Option HeldScopes)
+    → behind (behind r f) g ≡ behind r (λ t. behind (f t) g)
 behind_behind None f g = refl
 behind_behind (Some t) f g = refl
 
@@ -53,7 +54,8 @@ comma_ending = record { text = λ comma k. sign_text puncts.Comma comma k; Fits 
 
 module _ (all : List Lexeme) where
   -- members
-  pub items_are : (xs : List StructItem) (k : List Lexeme) → row_text (struct_item_form all) xs k ≡ struct_items_text all (struct_items_from xs) k
+  pub items_are : (xs : List StructItem) (k : List Lexeme)
+      → row_text (struct_item_form all) xs k ≡ struct_items_text all (struct_items_from xs) k
   items_are [] k = refl
   items_are (x ∷ xs) k = ap (struct_item_text all x) (items_are xs k)
 
@@ -65,20 +67,24 @@ module _ (all : List Lexeme) where
   items_fit_back no_struct_items h = tt
   items_fit_back (more_struct_items x xs) h = (h.0, items_fit_back xs h.1)
 
-  pub items_named : (xs : List StructItem) (s : HeldScopes) → row_scopes (struct_item_form all) xs s ≡ struct_items_scopes (struct_items_from xs) s
+  pub items_named : (xs : List StructItem) (s : HeldScopes)
+      → row_scopes (struct_item_form all) xs s ≡ struct_items_scopes (struct_items_from xs) s
   items_named [] s = refl
   items_named (x ∷ xs) s = behind_same (struct_item_scopes x s) _ _ (items_named xs)
 
-  pub items_high : (xs : List StructItem) → row_height (struct_item_form all) xs ≡ struct_items_height (struct_items_from xs)
+  pub items_high : (xs : List StructItem)
+      → row_height (struct_item_form all) xs ≡ struct_items_height (struct_items_from xs)
   items_high [] = refl
   items_high (x ∷ xs) = ap (max (struct_item_height x)) (items_high xs)
 
   -- declarators of members
-  other_declrs_are : (xs : List MemberItem) (k : List Lexeme) → others_text (member_form all) member_ending xs k ≡ other_mem_declrs_text all (mem_declrs_from xs) k
+  other_declrs_are : (xs : List MemberItem) (k : List Lexeme)
+      → others_text (member_form all) member_ending xs k ≡ other_mem_declrs_text all (mem_declrs_from xs) k
   other_declrs_are [] k = refl
   other_declrs_are (x ∷ xs) k = ap (λ (k : List Lexeme). separated (attrs_text all x.attrs (mem_declr_text all x.declr k))) (other_declrs_are xs k)
 
-  pub declrs_are : (xs : List MemberItem) (k : List Lexeme) → commas_text (member_form all) member_ending xs k ≡ mem_declrs_text all (mem_declrs_from xs) k
+  pub declrs_are : (xs : List MemberItem) (k : List Lexeme)
+      → commas_text (member_form all) member_ending xs k ≡ mem_declrs_text all (mem_declrs_from xs) k
   declrs_are [] k = refl
   declrs_are (x ∷ xs) k = ap (λ (k : List Lexeme). attrs_text all x.attrs (mem_declr_text all x.declr k)) (other_declrs_are xs k)
 
@@ -90,7 +96,8 @@ module _ (all : List Lexeme) where
   declrs_fit_back no_mem_declrs h = tt
   declrs_fit_back (more_mem_declrs attrs d ds) h = ((h.0, h.1), declrs_fit_back ds h.2)
 
-  pub declrs_named : (xs : List MemberItem) (s : HeldScopes) → row_scopes (member_form all) xs s ≡ mem_declrs_scopes (mem_declrs_from xs) s
+  pub declrs_named : (xs : List MemberItem) (s : HeldScopes)
+      → row_scopes (member_form all) xs s ≡ mem_declrs_scopes (mem_declrs_from xs) s
   declrs_named [] s = refl
   declrs_named (x ∷ xs) s = behind_same (mem_declr_scopes x.declr s) _ _ (declrs_named xs)
 
@@ -103,19 +110,23 @@ module _ (all : List Lexeme) where
       three a b c = omega arith
 
   -- enumerators
-  other_enumerators_are : (xs : List EnumItem) (k : List Lexeme) → others_text (enumerator_form all) comma_ending xs k ≡ other_enumerators_text all (enumerators_from xs) k
+  other_enumerators_are : (xs : List EnumItem) (k : List Lexeme)
+      → others_text (enumerator_form all) comma_ending xs k ≡ other_enumerators_text all (enumerators_from xs) k
   other_enumerators_are [] k = refl
   other_enumerators_are (x ∷ xs) k = ap (λ (k : List Lexeme). separated (identifier_text x.name (attrs_text all x.attrs (some_value_text all puncts.Equal x.value k)))) (other_enumerators_are xs k)
 
-  pub enumerators_are : (xs : List EnumItem) (k : List Lexeme) → commas_text (enumerator_form all) comma_ending xs k ≡ enumerators_text all (enumerators_from xs) k
+  pub enumerators_are : (xs : List EnumItem) (k : List Lexeme)
+      → commas_text (enumerator_form all) comma_ending xs k ≡ enumerators_text all (enumerators_from xs) k
   enumerators_are [] k = refl
   enumerators_are (x ∷ xs) k = ap (λ (k : List Lexeme). identifier_text x.name (attrs_text all x.attrs (some_value_text all puncts.Equal x.value k))) (other_enumerators_are xs k)
 
-  pub comma_ending_is : (o : Option ℕ) (k : List Lexeme) → ending_text (enumerator_form all) comma_ending o k ≡ some_sign_text puncts.Comma o k
+  pub comma_ending_is : (o : Option ℕ) (k : List Lexeme)
+      → ending_text (enumerator_form all) comma_ending o k ≡ some_sign_text puncts.Comma o k
   comma_ending_is None k = refl
   comma_ending_is (Some comma) k = refl
 
-  pub enumerators_fit : (xs : List EnumItem) → AllFit (enumerator_form all) xs → AreEnumerators all (enumerators_from xs)
+  pub enumerators_fit : (xs : List EnumItem) → AllFit (enumerator_form all) xs
+      → AreEnumerators all (enumerators_from xs)
   enumerators_fit [] h = tt
   enumerators_fit (x ∷ xs) h = (h.0.0, h.0.1, enumerators_fit xs h.1)
 
@@ -123,21 +134,25 @@ module _ (all : List Lexeme) where
   enumerators_fit_back no_enumerators h = tt
   enumerators_fit_back (more_enumerators name attrs value es) h = ((h.0, h.1), enumerators_fit_back es h.2)
 
-  pub some_enumerators : (xs : List EnumItem) → HasItem (enumerator_form all) comma_ending xs → enumerators_from xs ≢ no_enumerators
+  pub some_enumerators : (xs : List EnumItem) → HasItem (enumerator_form all) comma_ending xs
+      → enumerators_from xs ≢ no_enumerators
   some_enumerators [] h = absurd h
   some_enumerators (x ∷ xs) h = λ e. absurd cc
 
-  pub some_enumerators_back : (es : Enumerators) → es ≢ no_enumerators → HasItem (enumerator_form all) comma_ending (enum_items es)
+  pub some_enumerators_back : (es : Enumerators) → es ≢ no_enumerators
+      → HasItem (enumerator_form all) comma_ending (enum_items es)
   some_enumerators_back no_enumerators h = absurd (h refl)
   some_enumerators_back (more_enumerators name attrs value es) h = tt
 
-  pub enumerators_named : (xs : List EnumItem) (s : HeldScopes) → row_scopes (enumerator_form all) xs s ≡ enumerators_scopes (enumerators_from xs) s
+  pub enumerators_named : (xs : List EnumItem) (s : HeldScopes)
+      → row_scopes (enumerator_form all) xs s ≡ enumerators_scopes (enumerators_from xs) s
   enumerators_named [] s = refl
   enumerators_named (x ∷ xs) s =
       behind_behind (declare x.name.name Constant s) (λ t. behind (some_value_scopes x.value s) (declare x.name.name Constant)) (row_scopes (enumerator_form all) xs) ∙
       behind_same (declare x.name.name Constant s) _ _
       (λ t. behind_same (behind (some_value_scopes x.value s) (declare x.name.name Constant)) _ _ (enumerators_named xs))
 
-  pub enumerators_high : (xs : List EnumItem) → row_height (enumerator_form all) xs ≡ enumerators_height (enumerators_from xs)
+  pub enumerators_high : (xs : List EnumItem)
+      → row_height (enumerator_form all) xs ≡ enumerators_height (enumerators_from xs)
   enumerators_high [] = refl
   enumerators_high (x ∷ xs) = ap (max ((enumerator_form all).height x)) (enumerators_high xs)

@@ -99,7 +99,8 @@ start_is s typed (kinds.Qual lattice elem) = tt
 start_is s typed kinds.Index = refl
 start_is s typed (kinds.Name name) = by_name (names_type s name) (not typed) refl
   where
-    by_name : (a b : Bool) → names_type s name ≡ a → IsStart s (if a && b then starts.Name name else starts.Nothing) (kinds.Name name)
+    by_name : (a b : Bool) → names_type s name ≡ a
+        → IsStart s (if a && b then starts.Name name else starts.Nothing) (kinds.Name name)
     by_name false b is = tt
     by_name true false is = tt
     by_name true true is = (refl, is)
@@ -172,20 +173,23 @@ pub append_append : (a b c : SpecWords) → append_words (append_words a b) c �
 append_append no_words b c = refl
 append_append (more_words w ws) b c = ap (more_words w) (append_append ws b c)
 
-pub pushed_height : (ws : SpecWords) (w : SpecWord) (room : ℕ) → specs_height ws ≤ room → spec_word_height w + 1 ≤ room → specs_height (pushed ws w) ≤ room
+pub pushed_height : (ws : SpecWords) (w : SpecWord) (room : ℕ) → specs_height ws ≤ room → spec_word_height w + 1 ≤ room
+    → specs_height (pushed ws w) ≤ room
 pushed_height no_words w room h one = omega (arith, h, one)
 pushed_height (more_words v ws) w room h one =
     let rest : specs_height (pushed ws w) ≤ room = pushed_height ws w room (omega (arith, h)) one in
     omega (arith, h, rest)
 
-pushed_scopes : (ws : SpecWords) (w : SpecWord) (s t u : HeldScopes) → spec_words_scopes ws s ≡ Some t → spec_word_scopes w t ≡ Some u → spec_words_scopes (pushed ws w) s ≡ Some u
+pushed_scopes : (ws : SpecWords) (w : SpecWord) (s t u : HeldScopes) → spec_words_scopes ws s ≡ Some t
+    → spec_word_scopes w t ≡ Some u → spec_words_scopes (pushed ws w) s ≡ Some u
 pushed_scopes no_words w s t u h e = behind_is (spec_words_scopes no_words) (subst (λ (t : HeldScopes). spec_word_scopes w t ≡ Some u) (sym cc) e) refl
 pushed_scopes (more_words v ws) w s t u h e =
     let b = behind_ok (spec_word_scopes v s) (spec_words_scopes ws) t h in
     behind_is (spec_words_scopes (pushed ws w)) b.1 (pushed_scopes ws w b.0 t u b.2 e)
 
 module _ (all : List Lexeme) where
-  pushed_text : (ws : SpecWords) (w : SpecWord) (k : List Lexeme) → spec_words_text all (pushed ws w) k ≡ spec_words_text all ws (spec_word_text all w k)
+  pushed_text : (ws : SpecWords) (w : SpecWord) (k : List Lexeme)
+      → spec_words_text all (pushed ws w) k ≡ spec_words_text all ws (spec_word_text all w k)
   pushed_text no_words w k = refl
   pushed_text (more_words v ws) w k = ap (spec_word_text all v) (pushed_text ws w k)
 
@@ -194,19 +198,23 @@ module _ (all : List Lexeme) where
   none_fit Typed = (tt, refl)
   none_fit Naming = tt
 
-  pushed_words : (ws : SpecWords) (w : SpecWord) → AreSpecWords all ws → IsSpecWord all w → AreSpecWords all (pushed ws w)
+  pushed_words : (ws : SpecWords) (w : SpecWord) → AreSpecWords all ws → IsSpecWord all w
+      → AreSpecWords all (pushed ws w)
   pushed_words no_words w h is = (is, tt)
   pushed_words (more_words v ws) w h is = (h.0, pushed_words ws w h.1 is)
 
-  pushed_plain : (ws : SpecWords) (w : SpecWord) → has_auto ws ≡ false → is_auto w ≡ false → has_auto (pushed ws w) ≡ false
+  pushed_plain : (ws : SpecWords) (w : SpecWord) → has_auto ws ≡ false → is_auto w ≡ false
+      → has_auto (pushed ws w) ≡ false
   pushed_plain no_words w h is = rw is refl
   pushed_plain (more_words v ws) w h is = by_word (is_auto v) refl h (λ h. pushed_plain ws w h is)
     where
-      by_word : (b : Bool) → is_auto v ≡ b → (b || has_auto ws) ≡ false → (has_auto ws ≡ false → has_auto (pushed ws w) ≡ false) → (is_auto v || has_auto (pushed ws w)) ≡ false
+      by_word : (b : Bool) → is_auto v ≡ b → (b || has_auto ws) ≡ false
+          → (has_auto ws ≡ false → has_auto (pushed ws w) ≡ false) → (is_auto v || has_auto (pushed ws w)) ≡ false
       by_word true e h rest = absurd cc
       by_word false e h rest = rw e (rest h)
 
-  pushed_fits : (role : Role) (ws : SpecWords) (w : SpecWord) → FitsRole all role ws → IsSpecWord all w → (role ≡ Naming → IsTypeWord w) → (role ≡ Typed → is_auto w ≡ false) →
+  pushed_fits : (role : Role) (ws : SpecWords) (w : SpecWord) → FitsRole all role ws → IsSpecWord all w
+      → (role ≡ Naming → IsTypeWord w) → (role ≡ Typed → is_auto w ≡ false) →
       FitsRole all role (pushed ws w)
   pushed_fits Declaring ws w h is named plain = pushed_words ws w h is
   pushed_fits Typed ws w h is named plain = (pushed_words ws w h.0 is, pushed_plain ws w h.1 (plain refl))
@@ -220,10 +228,14 @@ module _ (all : List Lexeme) where
       pub of_type : is_declaring start ≡ false → IsTypeWord x.tree
       pub plain : is_auto_start start ≡ false → is_auto x.tree ≡ false
 
-    one_taken : (start : SpecStart) (make : ℕ → SpecWord) (kind : TokenKind) (room : ℕ) (s : HeldScopes) (ts : List Lexeme) (x : Found SpecWord) → IsTail all ts → kind_at ts ≡ kind →
-        ((token : ℕ) (k : List Lexeme) → plain_text kind token k ≡ spec_word_text all (make token) k) → ((token : ℕ) → IsSpecWord all (make token)) → ((token : ℕ) → spec_word_scopes (make token) s ≡ Some s) →
-        ((token : ℕ) → spec_word_height (make token) ≤ room - 1) → ((token : ℕ) → is_declaring start ≡ false → IsTypeWord (make token)) →
-        ((token : ℕ) → is_auto_start start ≡ false → is_auto (make token) ≡ false) → word_at inner make s ts ≡ done x → WordTakes start room s ts x
+    one_taken : (start : SpecStart) (make : ℕ → SpecWord) (kind : TokenKind) (room : ℕ) (s : HeldScopes) (ts : List Lexeme) (x : Found SpecWord)
+        → IsTail all ts → kind_at ts ≡ kind →
+        ((token : ℕ) (k : List Lexeme) → plain_text kind token k ≡ spec_word_text all (make token) k)
+        → ((token : ℕ) → IsSpecWord all (make token)) → ((token : ℕ) → spec_word_scopes (make token) s ≡ Some s) →
+        ((token : ℕ) → spec_word_height (make token) ≤ room - 1)
+        → ((token : ℕ) → is_declaring start ≡ false → IsTypeWord (make token)) →
+        ((token : ℕ) → is_auto_start start ≡ false → is_auto (make token) ≡ false) → word_at inner make s ts ≡ done x
+        → WordTakes start room s ts x
     one_taken start make kind room s ts x tail is spells fits named low of_type plain e =
         let a = bind_ok e in
         let o = took all kind s ts a.0 tail is a.1 in
@@ -233,7 +245,8 @@ module _ (all : List Lexeme) where
           plain = plain a.0.tree;
         })
 
-    element_taken : (room : ℕ) (s : HeldScopes) (ts : List Lexeme) (x : Found SpecWord) → IsTail all ts → IsElementKind (kind_at ts) → word_at inner (λ token. qualifier (quals.Element token)) s ts ≡ done x →
+    element_taken : (room : ℕ) (s : HeldScopes) (ts : List Lexeme) (x : Found SpecWord) → IsTail all ts
+        → IsElementKind (kind_at ts) → word_at inner (λ token. qualifier (quals.Element token)) s ts ≡ done x →
         WordTakes starts.Element room s ts x
     element_taken room s [] x tail is e = absurd is
     element_taken room s (t ∷ ts) x tail is e =
@@ -250,7 +263,8 @@ module _ (all : List Lexeme) where
           plain = λ is. refl;
         }))
 
-    struct_taken : (keyword : Keyword) (room : ℕ) (s : HeldScopes) (ts : List Lexeme) (x : Found SpecWord) → struct_with inner keyword room s ts ≡ done x → IsTypeWord x.tree
+    struct_taken : (keyword : Keyword) (room : ℕ) (s : HeldScopes) (ts : List Lexeme) (x : Found SpecWord)
+        → struct_with inner keyword room s ts ≡ done x → IsTypeWord x.tree
     unfolding struct_with
     struct_taken keyword room s ts x e =
         let a = bind_ok e in
@@ -259,7 +273,8 @@ module _ (all : List Lexeme) where
         let d = bind_ok c.2 in
         at_end (λ (x : Found SpecWord). IsTypeWord x.tree) d.2 tt
 
-    enum_taken : (room : ℕ) (s : HeldScopes) (ts : List Lexeme) (x : Found SpecWord) → enum_with inner room s ts ≡ done x → IsTypeWord x.tree
+    enum_taken : (room : ℕ) (s : HeldScopes) (ts : List Lexeme) (x : Found SpecWord)
+        → enum_with inner room s ts ≡ done x → IsTypeWord x.tree
     unfolding enum_with
     enum_taken room s ts x e =
         let a = bind_ok e in
@@ -268,7 +283,8 @@ module _ (all : List Lexeme) where
         let d = bind_ok c.2 in
         at_end (λ (x : Found SpecWord). IsTypeWord x.tree) d.2 tt
 
-    word_taken : (start : SpecStart) (room : ℕ) (s : HeldScopes) (ts : List Lexeme) (x : Found SpecWord) → IsTail all ts → IsStart s start (kind_at ts) → least_of start ≤ room → word_by inner start room s ts ≡ done x →
+    word_taken : (start : SpecStart) (room : ℕ) (s : HeldScopes) (ts : List Lexeme) (x : Found SpecWord) → IsTail all ts
+        → IsStart s start (kind_at ts) → least_of start ≤ room → word_by inner start room s ts ≡ done x →
         WordTakes start room s ts x
     unfolding word_by
     word_taken (starts.Storage keyword) room s ts x tail is least e =
@@ -336,7 +352,8 @@ module _ (all : List Lexeme) where
       pub low : (rest ≡ no_words) ⊎ (specs_height x.tree ≤ room)
       pub left : IsTail all x.rest
 
-    of_role : (role : Role) (start : SpecStart) → may_stand role start ≡ true → role ≡ Naming → is_declaring start ≡ false
+    of_role : (role : Role) (start : SpecStart) → may_stand role start ≡ true → role ≡ Naming
+        → is_declaring start ≡ false
     of_role Declaring start may is = absurd cc
     of_role Typed start may is = absurd cc
     of_role Naming start may is = no_is (is_declaring start) may
@@ -345,7 +362,8 @@ module _ (all : List Lexeme) where
         no_is true e = absurd cc
         no_is false e = refl
 
-    of_typed : (role : Role) (start : SpecStart) → may_stand role start ≡ true → role ≡ Typed → is_auto_start start ≡ false
+    of_typed : (role : Role) (start : SpecStart) → may_stand role start ≡ true → role ≡ Typed
+        → is_auto_start start ≡ false
     of_typed Declaring start may is = absurd cc
     of_typed Naming start may is = absurd cc
     of_typed Typed start may is = no_is (is_auto_start start) may
@@ -362,7 +380,8 @@ module _ (all : List Lexeme) where
         subst (TakesRest role words room s ts) p.3 (by_word (start_at t (is_typed now) (kind_at k)) p.1 w.0 w.2
         (word_taken (start_at t (is_typed now) (kind_at k)) room t k p.1 h.left (start_is t (is_typed now) (kind_at k)) (least_left (least_of (start_at t (is_typed now) (kind_at k))) (specs_height now) room w.2) w.3))
       where
-        by_word : (start : SpecStart) (y : Found SpecWord) → may_stand role start ≡ true → max (least_of start) (specs_height now) ≤ room → WordTakes start room t k y →
+        by_word : (start : SpecStart) (y : Found SpecWord) → may_stand role start ≡ true
+            → max (least_of start) (specs_height now) ≤ room → WordTakes start room t k y →
             TakesRest role words room s ts (found (pushed now y.tree) y.scopes y.rest)
         by_word start y may high w =
             let one : 1 ≤ room = one_least (least_of start) room (least_one start) (least_left (least_of start) (specs_height now) room high) in
@@ -377,7 +396,8 @@ module _ (all : List Lexeme) where
             }
 
     -- a turn that reads nothing at a base word ends before it
-    base_stops : (role : Role) (room : ℕ) (words : SpecWords) (s : HeldScopes) (ts : List Lexeme) → word_turn inner role room words s ts ≡ None → is_base_word (kind_at ts) ≡ true →
+    base_stops : (role : Role) (room : ℕ) (words : SpecWords) (s : HeldScopes) (ts : List Lexeme)
+        → word_turn inner role room words s ts ≡ None → is_base_word (kind_at ts) ≡ true →
         goes_on words (classes.Spells keywords.BaseWord) ≡ false
     base_stops role room words s ts e base = at_kind (kind_at ts) base e
       where
@@ -395,11 +415,15 @@ module _ (all : List Lexeme) where
         by_end true is e = last_of (is_wide s || has_auto words) true (has_typedef_word (storage_words words)) (is_whole_mix words) (goes_on words (classes.Spells keywords.BaseWord)) is
         by_end false is e = absurd cc
 
-        at_kind : (kind : TokenKind) → is_base_word kind ≡ true → word_turn_by inner role room (start_at s (is_typed words) kind) words s ts ≡ None → goes_on words (classes.Spells keywords.BaseWord) ≡ false
+        at_kind : (kind : TokenKind) → is_base_word kind ≡ true
+            → word_turn_by inner role room (start_at s (is_typed words) kind) words s ts ≡ None
+            → goes_on words (classes.Spells keywords.BaseWord) ≡ false
         at_kind (kinds.Keyword keywords.BaseWord) base e = by_end (ends_before s words (starts.Basic keywords.BaseWord)) refl e
         at_kind kind base e = absurd cc
 
-    pub specs_sound : WholeAreMixes → (role : Role) (words : SpecWords) (room : ℕ) (s : HeldScopes) (ts : List Lexeme) (x : Found SpecWords) → IsTail all ts → specs_with inner role words room s ts ≡ done x →
+    pub specs_sound : WholeAreMixes
+        → (role : Role) (words : SpecWords) (room : ℕ) (s : HeldScopes) (ts : List Lexeme) (x : Found SpecWords)
+        → IsTail all ts → specs_with inner role words room s ts ≡ done x →
         TakesWords all role words room s ts x
     unfolding specs_with
     specs_sound whole_are role words room s ts x tail e =
@@ -412,7 +436,8 @@ module _ (all : List Lexeme) where
         (subst (λ (x : Found SpecWords). word_turn inner role room x.tree x.scopes x.rest ≡ None) w.1
         (run_stops (word_turn inner role room) (word_turn_shrinks all tokens n inner laws role room) words s ts a.0 a.1))
       where
-        of_rest : (y : Found SpecWords) → TakesRest role words room s ts y → is_whole_mix y.tree ≡ true → word_turn inner role room y.tree y.scopes y.rest ≡ None → TakesWords all role words room s ts y
+        of_rest : (y : Found SpecWords) → TakesRest role words room s ts y → is_whole_mix y.tree ≡ true
+            → word_turn inner role room y.tree y.scopes y.rest ≡ None → TakesWords all role words room s ts y
         of_rest y t is stopped = record {
           rest = t.rest;
           words_are = t.words_are;

@@ -88,7 +88,8 @@ module _ (all : List Lexeme) where
   word_form = record { text = spec_word_text all; Fits = IsSpecWord all; scopes = spec_word_scopes; height = spec_word_height }
 
   module _ (numbered : IsNumbered all) (tokens : TokenLaws all) (n : ℕ) (inner : Inner) (laws : Laws all n inner) where
-    pub value_sound : (test : TokenKind → Bool) (mark : Punct) → ((kind : TokenKind) → test kind ≡ true → kind ≡ kinds.Punct mark) → (room : ℕ) →
+    pub value_sound : (test : TokenKind → Bool) (mark : Punct)
+        → ((kind : TokenKind) → test kind ≡ true → kind ≡ kinds.Punct mark) → (room : ℕ) →
         IsSound all (some_value_form all mark) (room - 1) (value_with inner test room)
     unfolding value_with
     value_sound test mark only room s ts x tail e =
@@ -107,7 +108,9 @@ module _ (all : List Lexeme) where
         }))
         (λ is e. at_end (Takes all (some_value_form all mark) (room - 1) s ts) e (record { spelled = refl; fits = tt; named = refl; low = omega arith; left = tail }))
 
-    width_sound : (room : ℕ) (s : HeldScopes) (ts : List Lexeme) (x : Found MemDeclr) → IsTail all ts → is_colon (kind_at ts) ≡ true → width_with inner room s ts ≡ done x → Takes all (mem_declr_form all) room s ts x
+    width_sound : (room : ℕ) (s : HeldScopes) (ts : List Lexeme) (x : Found MemDeclr) → IsTail all ts
+        → is_colon (kind_at ts) ≡ true → width_with inner room s ts ≡ done x
+        → Takes all (mem_declr_form all) room s ts x
     unfolding width_with
     width_sound room s ts x tail is e =
         let r = fits_ok 2 room ts e in
@@ -160,7 +163,8 @@ module _ (all : List Lexeme) where
           left = d.left;
         })
 
-    next_member_sound : (room comma : ℕ) (s : HeldScopes) (ts : List Lexeme) (x : Found (Next MemberItem ⊥)) → IsTail all ts → next_member inner room comma s ts ≡ done x →
+    next_member_sound : (room comma : ℕ) (s : HeldScopes) (ts : List Lexeme) (x : Found (Next MemberItem ⊥))
+        → IsTail all ts → next_member inner room comma s ts ≡ done x →
         NextTakes all (member_form all) member_ending room comma s ts x.tree x.scopes x.rest
     unfolding next_member
     next_member_sound room comma s ts x tail e =
@@ -198,7 +202,8 @@ module _ (all : List Lexeme) where
     bare_start [] h = tt
     bare_start (x ∷ xs) h = h
 
-    bare_sound : (room : ℕ) (s : HeldScopes) (ts : List Lexeme) (x : Found (CommaList MemberItem ⊥)) → listed (first_member inner room) (next_member inner room) s ts ≡ done x → StartsBare x.tree.items
+    bare_sound : (room : ℕ) (s : HeldScopes) (ts : List Lexeme) (x : Found (CommaList MemberItem ⊥))
+        → listed (first_member inner room) (next_member inner room) s ts ≡ done x → StartsBare x.tree.items
     unfolding listed first_member
     bare_sound room s ts x e =
         let a = bind_ok e in
@@ -218,7 +223,8 @@ module _ (all : List Lexeme) where
         (first_member_sound room) (next_member_sound room) s ts a.0 tail a.1 in
         at_end (Takes all mem_declrs_form room s ts) a.2 (of_list a.0 i (bare_sound room s ts a.0 a.1)))
       where
-        of_list : (l : Found (CommaList MemberItem ⊥)) → Takes all (list_form (member_form all) member_ending) room s ts l → StartsBare l.tree.items →
+        of_list : (l : Found (CommaList MemberItem ⊥))
+            → Takes all (list_form (member_form all) member_ending) room s ts l → StartsBare l.tree.items →
             Takes all mem_declrs_form room s ts (found l.tree.items l.scopes l.rest)
         of_list l i bare = record {
           spelled = by_ending l.tree.ending i.spelled;
@@ -228,7 +234,8 @@ module _ (all : List Lexeme) where
           left = i.left;
         }
           where
-            by_ending : (o : Option ⊥) → ts ≡ commas_text (member_form all) member_ending l.tree.items (ending_text (member_form all) member_ending o l.rest) →
+            by_ending : (o : Option ⊥)
+                → ts ≡ commas_text (member_form all) member_ending l.tree.items (ending_text (member_form all) member_ending o l.rest) →
                 ts ≡ mem_declrs_text all (mem_declrs_from l.tree.items) l.rest
             by_ending None is = is ∙ declrs_are all l.tree.items l.rest
             by_ending (Some e) is = absurd e
@@ -267,7 +274,8 @@ module _ (all : List Lexeme) where
         at_end (Takes all (struct_item_form all) room s ts) a.2 (record { spelled = o.spelled; fits = o.fits; named = o.named; low = r.0; left = o.left }))
         (λ is e. member_sound room s ts x tail e))
 
-    members_sound : (tag : Option Identifier) (room : ℕ) (s : HeldScopes) (ts : List Lexeme) (x : Found SomeBody) → IsTail all ts → is_open_brace (kind_at ts) ≡ true → members_with inner room s ts ≡ done x →
+    members_sound : (tag : Option Identifier) (room : ℕ) (s : HeldScopes) (ts : List Lexeme) (x : Found SomeBody)
+        → IsTail all ts → is_open_brace (kind_at ts) ≡ true → members_with inner room s ts ≡ done x →
         Takes all (body_form tag) (room - 1) s ts x
     unfolding members_with
     members_sound tag room s ts x tail is e =
@@ -285,7 +293,8 @@ module _ (all : List Lexeme) where
           left = q.left;
         })
       where
-        has : (tag : Option Identifier) (opening : ℕ) (items : StructItems) (closing : ℕ) → HasTagOrBody tag (some_body opening items closing)
+        has : (tag : Option Identifier) (opening : ℕ) (items : StructItems) (closing : ℕ)
+            → HasTagOrBody tag (some_body opening items closing)
         has None opening items closing = tt
         has (Some tag) opening items closing = tt
 
@@ -293,12 +302,14 @@ module _ (all : List Lexeme) where
     without_sound None room s ts x tail e = absurd cc
     without_sound (Some tag) room s ts x tail e = at_end (Takes all (body_form (Some tag)) room s ts) e (record { spelled = refl; fits = (tt, tt); named = refl; low = omega arith; left = tail })
 
-    body_sound : (tag : Option Identifier) (room : ℕ) → IsSound all (body_form tag) (room - 1) (body_with inner tag room)
+    body_sound : (tag : Option Identifier) (room : ℕ)
+        → IsSound all (body_form tag) (room - 1) (body_with inner tag room)
     unfolding body_with
     body_sound tag room s ts x tail e =
         if_ok (is_open_brace (kind_at ts)) e (λ is e. members_sound tag room s ts x tail is e) (λ is e. without_sound tag (room - 1) s ts x tail e)
 
-    pub struct_sound : (keyword : Keyword) (room : ℕ) (s : HeldScopes) (ts : List Lexeme) (x : Found SpecWord) → IsTail all ts → is_struct keyword ≡ true → kind_at ts ≡ kinds.Keyword keyword → 1 ≤ room →
+    pub struct_sound : (keyword : Keyword) (room : ℕ) (s : HeldScopes) (ts : List Lexeme) (x : Found SpecWord)
+        → IsTail all ts → is_struct keyword ≡ true → kind_at ts ≡ kinds.Keyword keyword → 1 ≤ room →
         struct_with inner keyword room s ts ≡ done x → Takes all word_form room s ts x
     unfolding struct_with
     struct_sound keyword room s ts x tail struct is one e =

@@ -27,10 +27,13 @@ use Rattle.c_reading.proofs.SpecsSoundBodies.{attrs_low, two_low, same_scopes, v
 use Rattle.c_reading.proofs.Aims.{enumerator_form, TokenLaws, Laws}
 
 -- a name that may be declared
-pub declare_is : (name : ℕ) (s : HeldScopes) → may_declare (innermost s) name Constant ≡ true → is_name (innermost s).held name ≡ false → declare name Constant s ≡ Some (with_name (innermost s) name Constant ∷ leave s)
+pub declare_is : (name : ℕ) (s : HeldScopes) → may_declare (innermost s) name Constant ≡ true
+    → is_name (innermost s).held name ≡ false
+    → declare name Constant s ≡ Some (with_name (innermost s) name Constant ∷ leave s)
 declare_is name s may free = rw (free, may) refl
 
-declared_ok : {A : Type 0} (a : A) (o : Option HeldScopes) (ts : List Lexeme) (x : Found A) → declared a o ts ≡ done x → (t : HeldScopes) × (o ≡ Some t) × (found a t ts ≡ x)
+declared_ok : {A : Type 0} (a : A) (o : Option HeldScopes) (ts : List Lexeme) (x : Found A) → declared a o ts ≡ done x
+    → (t : HeldScopes) × (o ≡ Some t) × (found a t ts ≡ x)
 declared_ok a None ts x e = absurd cc
 declared_ok a (Some t) ts x e = (t, refl, ok_is e)
 
@@ -48,7 +51,8 @@ module _ (all : List Lexeme) where
       pub low : max (attrs_height x.tree.attrs) (some_value_height x.tree.value) + 1 ≤ room
       pub left : IsTail all x.rest
 
-    behind_sound : (name : Identifier) (room : ℕ) (s : HeldScopes) (ts : List Lexeme) (x : Found EnumItem) → IsTail all ts → 1 ≤ room → enumerator_behind inner name room s ts ≡ done x → Behind name room s ts x
+    behind_sound : (name : Identifier) (room : ℕ) (s : HeldScopes) (ts : List Lexeme) (x : Found EnumItem)
+        → IsTail all ts → 1 ≤ room → enumerator_behind inner name room s ts ≡ done x → Behind name room s ts x
     unfolding enumerator_behind
     behind_sound name room s ts x tail one e =
         let a = bind_ok e in
@@ -66,7 +70,8 @@ module _ (all : List Lexeme) where
         })
 
     -- a name that may be declared, and what stands behind it
-    named_sound : (name : Identifier) (room : ℕ) (at : List Lexeme) (s : HeldScopes) (ts : List Lexeme) (x : Found EnumItem) → IsTail all ts → enumerator_named inner name room at s ts ≡ done x →
+    named_sound : (name : Identifier) (room : ℕ) (at : List Lexeme) (s : HeldScopes) (ts : List Lexeme) (x : Found EnumItem)
+        → IsTail all ts → enumerator_named inner name room at s ts ≡ done x →
         (t : HeldScopes) × (declare name.name Constant s ≡ Some t) × Behind name room s ts x
     unfolding enumerator_named
     named_sound name room at s ts x tail e =
@@ -85,7 +90,8 @@ module _ (all : List Lexeme) where
         let i = named_sound a.0.tree room ts a.0.scopes a.0.rest x o.left a.2 in
         takes a.0 o.spelled o.same i.0 i.1 i.2
       where
-        takes : (y : Found Identifier) → ts ≡ identifier_text y.tree y.rest → y.scopes ≡ s → (t : HeldScopes) → declare y.tree.name Constant y.scopes ≡ Some t → Behind y.tree room y.scopes y.rest x →
+        takes : (y : Found Identifier) → ts ≡ identifier_text y.tree y.rest → y.scopes ≡ s → (t : HeldScopes)
+            → declare y.tree.name Constant y.scopes ≡ Some t → Behind y.tree room y.scopes y.rest x →
             Takes all (enumerator_form all) room s ts x
         takes y spelled same t declared i = record {
           spelled = spelled ∙ ap (identifier_text y.tree) i.spelled ∙ ap (λ (name : Identifier). identifier_text name (attrs_text all x.tree.attrs (some_value_text all puncts.Equal x.tree.value x.rest))) (sym i.name_is);
@@ -98,7 +104,8 @@ module _ (all : List Lexeme) where
           left = i.left;
         }
 
-    next_enumerator_sound : (room comma : ℕ) (s : HeldScopes) (ts : List Lexeme) (x : Found (Next EnumItem ℕ)) → IsTail all ts → next_enumerator inner room comma s ts ≡ done x →
+    next_enumerator_sound : (room comma : ℕ) (s : HeldScopes) (ts : List Lexeme) (x : Found (Next EnumItem ℕ))
+        → IsTail all ts → next_enumerator inner room comma s ts ≡ done x →
         NextTakes all (enumerator_form all) comma_ending room comma s ts x.tree x.scopes x.rest
     unfolding next_enumerator
     next_enumerator_sound room comma s ts x tail e =
@@ -108,7 +115,8 @@ module _ (all : List Lexeme) where
         at_end (λ (x : Found (Next EnumItem ℕ)). NextTakes all (enumerator_form all) comma_ending room comma s ts x.tree x.scopes x.rest) a.2
         (enumerator_sound room s ts a.0 tail a.1, enumerator_shrinks all tokens n inner laws room s ts a.0 a.1))
 
-    enumerators_sound : (tag : Option Identifier) (room : ℕ) (s : HeldScopes) (ts : List Lexeme) (x : Found SomeEnumBody) → IsTail all ts → is_open_brace (kind_at ts) ≡ true → enumerators_with inner room s ts ≡ done x →
+    enumerators_sound : (tag : Option Identifier) (room : ℕ) (s : HeldScopes) (ts : List Lexeme) (x : Found SomeEnumBody)
+        → IsTail all ts → is_open_brace (kind_at ts) ≡ true → enumerators_with inner room s ts ≡ done x →
         Takes all (enum_body_form tag) (room - 1) s ts x
     unfolding enumerators_with
     enumerators_sound tag room s ts x tail is e =
@@ -129,20 +137,24 @@ module _ (all : List Lexeme) where
           left = q.left;
         })
       where
-        has : (tag : Option Identifier) (opening : ℕ) (es : Enumerators) (last : Option ℕ) (closing : ℕ) → HasTagOrEnumBody tag (some_enum_body opening es last closing)
+        has : (tag : Option Identifier) (opening : ℕ) (es : Enumerators) (last : Option ℕ) (closing : ℕ)
+            → HasTagOrEnumBody tag (some_enum_body opening es last closing)
         has None opening es last closing = tt
         has (Some tag) opening es last closing = tt
 
-    without_enum_sound : (tag : Option Identifier) (room : ℕ) → IsSound all (enum_body_form tag) room (without_body tag no_enum_body)
+    without_enum_sound : (tag : Option Identifier) (room : ℕ)
+        → IsSound all (enum_body_form tag) room (without_body tag no_enum_body)
     without_enum_sound None room s ts x tail e = absurd cc
     without_enum_sound (Some tag) room s ts x tail e = at_end (Takes all (enum_body_form (Some tag)) room s ts) e (record { spelled = refl; fits = (tt, tt); named = refl; low = omega arith; left = tail })
 
-    enum_body_sound : (tag : Option Identifier) (room : ℕ) → IsSound all (enum_body_form tag) (room - 1) (enum_body_with inner tag room)
+    enum_body_sound : (tag : Option Identifier) (room : ℕ)
+        → IsSound all (enum_body_form tag) (room - 1) (enum_body_with inner tag room)
     unfolding enum_body_with
     enum_body_sound tag room s ts x tail e =
         if_ok (is_open_brace (kind_at ts)) e (λ is e. enumerators_sound tag room s ts x tail is e) (λ is e. without_enum_sound tag (room - 1) s ts x tail e)
 
-    pub enum_sound : (room : ℕ) (s : HeldScopes) (ts : List Lexeme) (x : Found SpecWord) → IsTail all ts → kind_at ts ≡ kinds.Keyword keywords.Enum → 1 ≤ room → enum_with inner room s ts ≡ done x →
+    pub enum_sound : (room : ℕ) (s : HeldScopes) (ts : List Lexeme) (x : Found SpecWord) → IsTail all ts
+        → kind_at ts ≡ kinds.Keyword keywords.Enum → 1 ≤ room → enum_with inner room s ts ≡ done x →
         Takes all (word_form all) room s ts x
     unfolding enum_with
     enum_sound room s ts x tail is one e =

@@ -28,8 +28,10 @@ one_higher a room one h = omega (arith, one, h)
 
 module _ (all : List Lexeme) where
   -- what stands behind a parenthesis that was taken, and begins with it
-  behind_paren : (room : ℕ) (s : HeldScopes) (ts : List Lexeme) (y : Found ℕ) (x : Found SpecWord) → Took all (kinds.Punct puncts.OpenParen) s ts y →
-      (front : ℕ) (keyword : Keyword) → Takes all (word_form all) room y.scopes (keyword_text keyword front (sign_text puncts.OpenParen y.tree y.rest)) x →
+  behind_paren : (room : ℕ) (s : HeldScopes) (ts : List Lexeme) (y : Found ℕ) (x : Found SpecWord)
+      → Took all (kinds.Punct puncts.OpenParen) s ts y →
+      (front : ℕ) (keyword : Keyword)
+      → Takes all (word_form all) room y.scopes (keyword_text keyword front (sign_text puncts.OpenParen y.tree y.rest)) x →
       Takes all (word_form all) room s (keyword_text keyword front ts) x
   behind_paren room s ts y x o front keyword h = record {
     spelled = ap (keyword_text keyword front) o.spelled ∙ h.spelled;
@@ -44,7 +46,8 @@ module _ (all : List Lexeme) where
     abbrev pub TypeTakes : ℕ → HeldScopes → List Lexeme → Found SpecWord → Type 0
     TypeTakes room s ts x = Takes all (word_form all) room s ts x × IsTypeWord x.tree
 
-    typed_word_sound : (keyword : Keyword) (token opening room : ℕ) (s : HeldScopes) (ts : List Lexeme) (x : Found SpecWord) → IsTail all ts → is_type_former keyword ≡ true → 1 ≤ room →
+    typed_word_sound : (keyword : Keyword) (token opening room : ℕ) (s : HeldScopes) (ts : List Lexeme) (x : Found SpecWord)
+        → IsTail all ts → is_type_former keyword ≡ true → 1 ≤ room →
         typed_word_with inner keyword token opening room s ts ≡ done x → TypeTakes room s (keyword_text keyword token (sign_text puncts.OpenParen opening ts)) x
     unfolding typed_word_with
     typed_word_sound keyword token opening room s ts x tail former one e =
@@ -64,7 +67,8 @@ module _ (all : List Lexeme) where
           tt,
         )
 
-    typeof_value_sound : (token opening room : ℕ) (s : HeldScopes) (ts : List Lexeme) (x : Found SpecWord) → IsTail all ts → 1 ≤ room →
+    typeof_value_sound : (token opening room : ℕ) (s : HeldScopes) (ts : List Lexeme) (x : Found SpecWord)
+        → IsTail all ts → 1 ≤ room →
         typeof_value_with inner token opening room s ts ≡ done x → TypeTakes room s (keyword_text keywords.Typeof token (sign_text puncts.OpenParen opening ts)) x
     unfolding typeof_value_with
     typeof_value_sound token opening room s ts x tail one e =
@@ -83,7 +87,8 @@ module _ (all : List Lexeme) where
           tt,
         )
 
-    pub typeof_sound : (room : ℕ) (s : HeldScopes) (ts : List Lexeme) (x : Found SpecWord) → IsTail all ts → kind_at ts ≡ kinds.Keyword keywords.Typeof → 1 ≤ room → typeof_with inner room s ts ≡ done x →
+    pub typeof_sound : (room : ℕ) (s : HeldScopes) (ts : List Lexeme) (x : Found SpecWord) → IsTail all ts
+        → kind_at ts ≡ kinds.Keyword keywords.Typeof → 1 ≤ room → typeof_with inner room s ts ≡ done x →
         TypeTakes room s ts x
     unfolding typeof_with
     typeof_sound room s ts x tail is one e =
@@ -97,7 +102,8 @@ module _ (all : List Lexeme) where
         (λ is e. typeof_value_sound a.0.tree b.0.tree room b.0.scopes b.0.rest x p.left one e) in
         (behind_token all (word_form all) room (kinds.Keyword keywords.Typeof) s ts a.0 x o (behind_paren room a.0.scopes a.0.rest b.0 x p a.0.tree keywords.Typeof i.0), i.1)
 
-    pub atomic_sound : (room : ℕ) (s : HeldScopes) (ts : List Lexeme) (x : Found SpecWord) → IsTail all ts → kind_at ts ≡ kinds.Keyword keywords.AtomicType → 1 ≤ room → atomic_with inner room s ts ≡ done x →
+    pub atomic_sound : (room : ℕ) (s : HeldScopes) (ts : List Lexeme) (x : Found SpecWord) → IsTail all ts
+        → kind_at ts ≡ kinds.Keyword keywords.AtomicType → 1 ≤ room → atomic_with inner room s ts ≡ done x →
         TypeTakes room s ts x
     unfolding atomic_with
     atomic_sound room s ts x tail is one e =

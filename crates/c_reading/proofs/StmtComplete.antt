@@ -66,7 +66,8 @@ plain_not_attr spec_starts.Nothing e = absurd cc
 plain_not_attr spec_starts.Attribute e = absurd cc
 plain_not_attr start e = refl
 
-start_no_attr : (s : HeldScopes) (kind : TokenKind) → not_attr (start_at s false kind) ≡ true → is_attribute kind ≡ false
+start_no_attr : (s : HeldScopes) (kind : TokenKind) → not_attr (start_at s false kind) ≡ true
+    → is_attribute kind ≡ false
 start_no_attr s (kinds.Keyword keywords.Attribute) e = absurd cc
 start_no_attr s kind e = refl
 
@@ -114,7 +115,8 @@ attrs_alone : (attrs : List Attr) → append_words (words_of_attrs attrs) no_wor
 attrs_alone [] = refl
 attrs_alone (a ∷ attrs) = ap (more_words (attribute a)) (attrs_alone attrs)
 
-attrs_two : (attrs : List Attr) (rest : SpecWords) (d room : ℕ) → max (specs_height (append_words (words_of_attrs attrs) rest)) d + 1 ≤ room → least_with attrs ≤ room
+attrs_two : (attrs : List Attr) (rest : SpecWords) (d room : ℕ)
+    → max (specs_height (append_words (words_of_attrs attrs) rest)) d + 1 ≤ room → least_with attrs ≤ room
 attrs_two [] rest d room h = omega arith
 attrs_two (a ∷ attrs) rest d room h = omega (arith, h)
 
@@ -158,7 +160,9 @@ expr_no_label_word s kind e = refl
 
 module _ (all : List Lexeme) (numbered : IsNumbered all) (tokens : TokenLaws all) (goes : MixesGoOn) (firsts : FirstLaws all) (n : ℕ) (inner : Inner) (laws : Laws all n inner) (whole_are : WholeAreMixes) where
   -- a declaration that begins with a word that is neither an attribute nor a name
-  plain_read : (room : ℕ) → room < n → (w : SpecWord) (ws : SpecWords) (ds : InitDeclrs) (semi : ℕ) (s s' : HeldScopes) (k : List Lexeme) → is_plain (start_of w) ≡ true → IsMix (more_words w ws) → AreSpecWords all (more_words w ws) →
+  plain_read : (room : ℕ) → room < n
+      → (w : SpecWord) (ws : SpecWords) (ds : InitDeclrs) (semi : ℕ) (s s' : HeldScopes) (k : List Lexeme)
+      → is_plain (start_of w) ≡ true → IsMix (more_words w ws) → AreSpecWords all (more_words w ws) →
       IsInitStart ds → AreInitDeclrs all ds → IsAutoWhere (has_auto (more_words w ws)) (more_words w ws) ds → IsBaseStart (more_words w ws) ds → behind (spec_words_scopes (more_words w ws) s) (words_declrs_scopes (more_words w ws) ds) ≡ Some s' → max (specs_height (more_words w ws)) (init_declrs_height ds) + 1 ≤ room →
       block_item_with inner room s (spec_words_text all (more_words w ws) (init_declrs_text all ds (sign_text puncts.Semicolon semi k))) ≡ done (found (block_decl (decl_declaration (declaration [] (more_words w ws) ds semi))) s' k)
   unfolding block_item_with other_item
@@ -175,7 +179,9 @@ module _ (all : List Lexeme) (numbered : IsNumbered all) (tokens : TokenLaws all
       (bind_is _ (declaration_read all numbered tokens firsts n inner laws whole_are [] room (within room n less) (more_words w ws) ds semi s s' k mix fit start declrs_fit auto base named low) refl)
 
   -- one that begins with attributes
-  attr_read : (room : ℕ) → room < n → (attrs : List Attr) (rest : SpecWords) (ds : InitDeclrs) (semi : ℕ) (s t s' : HeldScopes) (k : List Lexeme) → no_attr_first rest ≡ true → IsMix (append_words (words_of_attrs attrs) rest) →
+  attr_read : (room : ℕ) → room < n
+      → (attrs : List Attr) (rest : SpecWords) (ds : InitDeclrs) (semi : ℕ) (s t s' : HeldScopes) (k : List Lexeme)
+      → no_attr_first rest ≡ true → IsMix (append_words (words_of_attrs attrs) rest) →
       AreAttrs all attrs → AreSpecWords all rest → IsInitStart ds → AreInitDeclrs all ds → IsAutoWhere (has_auto (append_words (words_of_attrs attrs) rest)) (append_words (words_of_attrs attrs) rest) ds → IsBaseStart (append_words (words_of_attrs attrs) rest) ds → spec_words_scopes rest s ≡ Some t → words_declrs_scopes (append_words (words_of_attrs attrs) rest) ds t ≡ Some s' →
       max (specs_height (append_words (words_of_attrs attrs) rest)) (init_declrs_height ds) + 1 ≤ room →
       attr_item inner room s (attrs_text all attrs (spec_words_text all rest (init_declrs_text all ds (sign_text puncts.Semicolon semi k)))) ≡
@@ -194,7 +200,8 @@ module _ (all : List Lexeme) (numbered : IsNumbered all) (tokens : TokenLaws all
       (bind_is _ (declaration_from_read all numbered tokens firsts n inner laws whole_are (words_of_attrs attrs) (more_words w ws) room (within room n less) ds semi s t s' k mix fit start declrs_fit auto base words_named named low) refl))
 
   -- behind a typedef name that words begin with stands no colon
-  words_no_colon : (ws : SpecWords) (ds : InitDeclrs) (semi : ℕ) (k : List Lexeme) → AreSpecWords all ws → IsInitStart ds → AreInitDeclrs all ds →
+  words_no_colon : (ws : SpecWords) (ds : InitDeclrs) (semi : ℕ) (k : List Lexeme) → AreSpecWords all ws
+      → IsInitStart ds → AreInitDeclrs all ds →
       is_colon (kind_at (spec_words_text all ws (init_declrs_text all ds (sign_text puncts.Semicolon semi k)))) ≡ false
   words_no_colon (more_words w ws) ds semi k fit start declrs_fit = word_no_colon all numbered w (spec_words_text all ws (init_declrs_text all ds (sign_text puncts.Semicolon semi k))) fit.0
   words_no_colon no_words no_init_declrs semi k fit start declrs_fit = refl
@@ -204,7 +211,9 @@ module _ (all : List Lexeme) (numbered : IsNumbered all) (tokens : TokenLaws all
       named_no_colon (kind_at (declr_text all d more)) (firsts.named_begins d more declrs_fit.1 declrs_fit.2)
 
   -- one that begins with a typedef name
-  typedef_read : (room : ℕ) → room < n → (name : TypedefName) (ws : SpecWords) (ds : InitDeclrs) (semi : ℕ) (s s' : HeldScopes) (k : List Lexeme) → IsMix (more_words (typedef_name name) ws) → AreSpecWords all (more_words (typedef_name name) ws) →
+  typedef_read : (room : ℕ) → room < n
+      → (name : TypedefName) (ws : SpecWords) (ds : InitDeclrs) (semi : ℕ) (s s' : HeldScopes) (k : List Lexeme)
+      → IsMix (more_words (typedef_name name) ws) → AreSpecWords all (more_words (typedef_name name) ws) →
       IsInitStart ds → AreInitDeclrs all ds → IsAutoWhere (has_auto (more_words (typedef_name name) ws)) (more_words (typedef_name name) ws) ds → IsBaseStart (more_words (typedef_name name) ws) ds → behind (spec_words_scopes (more_words (typedef_name name) ws) s) (words_declrs_scopes (more_words (typedef_name name) ws) ds) ≡ Some s' →
       max (specs_height (more_words (typedef_name name) ws)) (init_declrs_height ds) + 1 ≤ room →
       block_item_with inner room s (spec_words_text all (more_words (typedef_name name) ws) (init_declrs_text all ds (sign_text puncts.Semicolon semi k))) ≡
@@ -220,7 +229,10 @@ module _ (all : List Lexeme) (numbered : IsNumbered all) (tokens : TokenLaws all
       (bind_is _ refl (bind_is _ (declaration_from_read all numbered tokens firsts n inner laws whole_are (more_words (typedef_name name) no_words) ws room (within room n less) ds semi s b.0 s' k mix fit.1 start declrs_fit auto base rest_named b.2 low) refl))
 
   -- a declaration, as an item of a block
-  words_read : (room : ℕ) → room < n → (ws : SpecWords) (ds : InitDeclrs) (semi : ℕ) (s s' : HeldScopes) (k : List Lexeme) → IsMix ws → AreSpecWords all ws → IsInitStart ds → AreInitDeclrs all ds → IsAutoWhere (has_auto ws) ws ds → IsBaseStart ws ds →
+  words_read : (room : ℕ) → room < n
+      → (ws : SpecWords) (ds : InitDeclrs) (semi : ℕ) (s s' : HeldScopes) (k : List Lexeme) → IsMix ws
+      → AreSpecWords all ws → IsInitStart ds → AreInitDeclrs all ds → IsAutoWhere (has_auto ws) ws ds
+      → IsBaseStart ws ds →
       behind (spec_words_scopes ws s) (words_declrs_scopes ws ds) ≡ Some s' → max (specs_height ws) (init_declrs_height ds) + 1 ≤ room →
       block_item_with inner room s (spec_words_text all ws (init_declrs_text all ds (sign_text puncts.Semicolon semi k))) ≡ done (found (block_decl (decl_declaration (declaration [] ws ds semi))) s' k)
   unfolding block_item_with
@@ -244,7 +256,10 @@ module _ (all : List Lexeme) (numbered : IsNumbered all) (tokens : TokenLaws all
   words_read room less (more_words w ws) ds semi s s' k mix fit start declrs_fit auto base named low = plain_read room less w ws ds semi s s' k refl mix fit start declrs_fit auto base named low
 
   -- behind `__extension__`
-  extended_read : (room : ℕ) → room < n → (x : ℕ) (exts : List ℕ) (ws : SpecWords) (ds : InitDeclrs) (semi : ℕ) (s s' : HeldScopes) (k : List Lexeme) → IsMix ws → AreSpecWords all ws → IsInitStart ds → AreInitDeclrs all ds → IsAutoWhere (has_auto ws) ws ds → IsBaseStart ws ds →
+  extended_read : (room : ℕ) → room < n
+      → (x : ℕ) (exts : List ℕ) (ws : SpecWords) (ds : InitDeclrs) (semi : ℕ) (s s' : HeldScopes) (k : List Lexeme)
+      → IsMix ws → AreSpecWords all ws → IsInitStart ds → AreInitDeclrs all ds → IsAutoWhere (has_auto ws) ws ds
+      → IsBaseStart ws ds →
       behind (spec_words_scopes ws s) (words_declrs_scopes ws ds) ≡ Some s' → max (specs_height ws) (init_declrs_height ds) + 1 ≤ room →
       block_item_with inner room s (extensions_text (x ∷ exts) (spec_words_text all ws (init_declrs_text all ds (sign_text puncts.Semicolon semi k)))) ≡ done (found (block_decl (decl_declaration (declaration (x ∷ exts) ws ds semi))) s' k)
   unfolding block_item_with extended_item
@@ -257,7 +272,8 @@ module _ (all : List Lexeme) (numbered : IsNumbered all) (tokens : TokenLaws all
       (rw begun (bind_is _ (declaration_read all numbered tokens firsts n inner laws whole_are (x ∷ exts) room (within room n less) ws ds semi s s' k mix fit start declrs_fit auto base named low) refl))
 
   -- an expression, as an item of a block
-  value_read : (room : ℕ) → room < n → (e : Expr) (semi : ℕ) (s s' : HeldScopes) (k : List Lexeme) → IsExpr all e → expr_scopes e s ≡ Some s' → expr_height e + 1 ≤ room →
+  value_read : (room : ℕ) → room < n → (e : Expr) (semi : ℕ) (s s' : HeldScopes) (k : List Lexeme) → IsExpr all e
+      → expr_scopes e s ≡ Some s' → expr_height e + 1 ≤ room →
       block_item_with inner room s (expr_text all e (sign_text puncts.Semicolon semi k)) ≡ done (found (block_stmt (expr_stmt (some_expr e) semi)) s' k)
   unfolding block_item_with extended_item other_item named_item
   value_read room less e semi s s' k fit named low = by_exts (lead_exts e) (lead_of all firsts e s s' end fit named)
@@ -271,14 +287,16 @@ module _ (all : List Lexeme) (numbered : IsNumbered all) (tokens : TokenLaws all
       begun : begins_expr s kind ≡ true
       begun = firsts.expr_begins e s s' end fit named
 
-      by_name : (o : Option ℕ) → spelled_name kind ≡ o → other_item inner o room s (expr_text all e end) ≡ done (found (block_stmt (expr_stmt (some_expr e) semi)) s' k)
+      by_name : (o : Option ℕ) → spelled_name kind ≡ o
+          → other_item inner o room s (expr_text all e end) ≡ done (found (block_stmt (expr_stmt (some_expr e) semi)) s' k)
       by_name None is = rw (expr_no_specs s kind begun) (bind_is _ (laws.stmts.complete room less (expr_stmt (some_expr e) semi) s s' k fit named low refl) refl)
       by_name (Some name) is =
           let no_type : names_type s name ≡ false = not_true (subst (λ (kind : TokenKind). begins_expr s kind ≡ true) (name_kind all kind name is) begun) in
           fits_is 2 room (expr_text all e end) _ (asks_two (expr_height e) room (expr_high e) low) ∙
           rw (name_no_colon all e name end fit refl is, no_type) (bind_is _ (expr_stmt_read all numbered tokens firsts n inner laws whole_are nothing room (within room n less) e semi s s' k fit tt named low) refl)
 
-      by_exts : (exts : List ℕ) → IsLead all firsts e s end exts → block_item_with inner room s (expr_text all e end) ≡ done (found (block_stmt (expr_stmt (some_expr e) semi)) s' k)
+      by_exts : (exts : List ℕ) → IsLead all firsts e s end exts
+          → block_item_with inner room s (expr_text all e end) ≡ done (found (block_stmt (expr_stmt (some_expr e) semi)) s' k)
       by_exts [] l =
           let no_ext : is_extension kind ≡ false = ap (λ (ts : List Lexeme). is_extension (kind_at ts)) l.same ∙ l.ended in
           rw (expr_no_static_assert s kind begun, no_ext, expr_no_attribute s kind begun) (by_name (spelled_name kind) refl)
@@ -289,7 +307,9 @@ module _ (all : List Lexeme) (numbered : IsNumbered all) (tokens : TokenLaws all
           (rw (expr_no_specs s (kind_at rest) l.begins)
           (bind_is _ (expr_stmt_read all numbered tokens firsts n inner laws whole_are (extensions (x ∷ exts)) room (within room n less) e semi s s' k fit l.begun named low) refl))
 
-  pub block_item_read : (room : ℕ) → room < n → (x : BlockItem) (s s' : HeldScopes) (k : List Lexeme) → IsBlockItem all x → is_labels x ≡ false → block_item_scopes x s ≡ Some s' → block_item_height x ≤ room → is_else (kind_at k) ≡ false →
+  pub block_item_read : (room : ℕ) → room < n → (x : BlockItem) (s s' : HeldScopes) (k : List Lexeme)
+      → IsBlockItem all x → is_labels x ≡ false → block_item_scopes x s ≡ Some s' → block_item_height x ≤ room
+      → is_else (kind_at k) ≡ false →
       block_item_with inner room s (block_item_text all x k) ≡ done (found x s' k)
   unfolding block_item_with attr_item attr_item_by other_item named_item
   block_item_read room less (block_decl (decl_assert it)) s s' k fit plain named low ended =
@@ -308,7 +328,8 @@ module _ (all : List Lexeme) (numbered : IsNumbered all) (tokens : TokenLaws all
   block_item_read room less (block_stmt t) s s' k fit plain named low ended = bind_is _ (laws.stmts.complete room less t s s' k fit named low (not_else t (kind_at k) ended)) refl
 
   -- what an item begins with
-  item_begins : (x : BlockItem) (s s' : HeldScopes) (k : List Lexeme) → IsBlockItem all x → is_labels x ≡ false → block_item_scopes x s ≡ Some s' →
+  item_begins : (x : BlockItem) (s s' : HeldScopes) (k : List Lexeme) → IsBlockItem all x → is_labels x ≡ false
+      → block_item_scopes x s ≡ Some s' →
       (is_close_brace (kind_at (block_item_text all x k)) ≡ false) × (is_else (kind_at (block_item_text all x k)) ≡ false) × (is_label_word (kind_at (block_item_text all x k)) ≡ false)
   item_begins (block_decl (decl_declaration (declaration [] ws ds semi))) s s' k fit plain named =
       let b = behind_ok (spec_words_scopes ws s) (words_declrs_scopes ws ds) s' named in
@@ -334,14 +355,17 @@ module _ (all : List Lexeme) (numbered : IsNumbered all) (tokens : TokenLaws all
   item_turn_shrinks : (room : ℕ) → TurnShrinks (repeated_turn goes_on (block_item_with inner room))
   item_turn_shrinks room xs s ts x e = by_test (is_close_brace (kind_at ts)) e
     where
-      by_test : (b : Bool) → (if not b then Some (and_then (block_item_with inner room s ts) (λ y. ends (xs ++ y.tree ∷ []) y.scopes y.rest)) else None) ≡ Some (done x) → length x.rest < length ts
+      by_test : (b : Bool)
+          → (if not b then Some (and_then (block_item_with inner room s ts) (λ y. ends (xs ++ y.tree ∷ []) y.scopes y.rest)) else None) ≡ Some (done x)
+          → length x.rest < length ts
       by_test true e = absurd cc
       by_test false e =
           let a = bind_ok (some_is all tokens n inner laws e) in
           omega (arith, block_item_shrinks all tokens n inner laws room s ts a.0 a.1, left_is a.2)
 
   -- items up to the brace that closes them
-  items_read : (room : ℕ) → room < n → (xs known : List BlockItem) (s t : HeldScopes) (closing : ℕ) (k : List Lexeme) → AllFit (plain_form all) xs → row_scopes (plain_form all) xs s ≡ Some t → row_height (plain_form all) xs ≤ room →
+  items_read : (room : ℕ) → room < n → (xs known : List BlockItem) (s t : HeldScopes) (closing : ℕ) (k : List Lexeme)
+      → AllFit (plain_form all) xs → row_scopes (plain_form all) xs s ≡ Some t → row_height (plain_form all) xs ≤ room →
       run (repeated_turn goes_on (block_item_with inner room)) known s (row_text (plain_form all) xs (sign_text puncts.CloseBrace closing k)) ≡ done (found (known ++ xs) t (sign_text puncts.CloseBrace closing k))
   items_read room less [] known s t closing k h named low =
       run_ends (repeated_turn goes_on (block_item_with inner room)) (item_turn_shrinks room) known s (sign_text puncts.CloseBrace closing k) refl ∙
@@ -355,37 +379,45 @@ module _ (all : List Lexeme) (numbered : IsNumbered all) (tokens : TokenLaws all
       run_on (repeated_turn goes_on (block_item_with inner room)) (item_turn_shrinks room) known s (block_item_text all x more) (found (known ++ x ∷ []) b.0 more)
       (rw (item_begins x s b.0 more h.0.0 h.0.1 b.1).0 (ap Some (bind_is _ is refl))) ∙ rest ∙ ap (λ (ys : List BlockItem). done (found ys t end)) (append_assoc known (x ∷ []) xs)
     where
-      no_else : (xs : List BlockItem) (s : HeldScopes) → AllFit (plain_form all) xs → row_scopes (plain_form all) xs s ≡ Some t → is_else (kind_at (row_text (plain_form all) xs (sign_text puncts.CloseBrace closing k))) ≡ false
+      no_else : (xs : List BlockItem) (s : HeldScopes) → AllFit (plain_form all) xs
+          → row_scopes (plain_form all) xs s ≡ Some t
+          → is_else (kind_at (row_text (plain_form all) xs (sign_text puncts.CloseBrace closing k))) ≡ false
       no_else [] s h named = refl
       no_else (y ∷ ys) s h named =
           let b = behind_ok (block_item_scopes y s) (row_scopes (plain_form all) ys) t named in
           (item_begins y s b.0 (row_text (plain_form all) ys (sign_text puncts.CloseBrace closing k)) h.0.0 h.0.1 b.1).1
 
-  repeated_run : (room : ℕ) (s : HeldScopes) (ts : List Lexeme) → repeated goes_on (block_item_with inner room) s ts ≡ run (repeated_turn goes_on (block_item_with inner room)) [] s ts
+  repeated_run : (room : ℕ) (s : HeldScopes) (ts : List Lexeme)
+      → repeated goes_on (block_item_with inner room) s ts ≡ run (repeated_turn goes_on (block_item_with inner room)) [] s ts
   unfolding repeated
   repeated_run room s ts = refl
 
   -- declarations of labels end before the first other item
-  labels_end : (ys : List BlockItem) (s t : HeldScopes) (closing : ℕ) (k : List Lexeme) → AllFit (plain_form all) ys → row_scopes (plain_form all) ys s ≡ Some t →
+  labels_end : (ys : List BlockItem) (s t : HeldScopes) (closing : ℕ) (k : List Lexeme) → AllFit (plain_form all) ys
+      → row_scopes (plain_form all) ys s ≡ Some t →
       is_label_word (kind_at (row_text (plain_form all) ys (sign_text puncts.CloseBrace closing k))) ≡ false
   labels_end [] s t closing k h named = refl
   labels_end (y ∷ ys) s t closing k h named =
       let b = behind_ok (block_item_scopes y s) (row_scopes (plain_form all) ys) t named in
       (item_begins y s b.0 (row_text (plain_form all) ys (sign_text puncts.CloseBrace closing k)) h.0.0 h.0.1 b.1).2
 
-  labels_begin : (x : BlockItem) (k : List Lexeme) → is_labels x ≡ true → is_label_word (kind_at (block_item_text all x k)) ≡ true
+  labels_begin : (x : BlockItem) (k : List Lexeme) → is_labels x ≡ true
+      → is_label_word (kind_at (block_item_text all x k)) ≡ true
   labels_begin (block_labels keyword names semi) k is = refl
   labels_begin (block_decl d) k is = absurd cc
   labels_begin (block_stmt t) k is = absurd cc
 
-  labels_read : (room : ℕ) (xs : List BlockItem) (s t : HeldScopes) (k : List Lexeme) → AllFit (labels_form all) xs → row_scopes (labels_form all) xs s ≡ Some t → row_height (labels_form all) xs ≤ room →
+  labels_read : (room : ℕ) (xs : List BlockItem) (s t : HeldScopes) (k : List Lexeme) → AllFit (labels_form all) xs
+      → row_scopes (labels_form all) xs s ≡ Some t → row_height (labels_form all) xs ≤ room →
       is_label_word (kind_at k) ≡ false → repeated is_label_word (labels_with inner room) s (row_text (labels_form all) xs k) ≡ done (found xs t k)
   labels_read room xs s t k h named low ended =
       repeated_complete is_label_word (labels_with inner room) (labels_form all) always room (labels_shrinks all tokens n inner laws room)
       (λ x s t k fit named low stops. labels_complete all numbered inner room x s t k fit.0 fit.1 named low) (λ x s t k fit named. labels_begin x k fit.1) (λ x kind e. refl) xs s t k h named low ended (λ x. refl)
 
   -- at the brace, in a scope that is open
-  pub block_body_read : (room : ℕ) → room ≤ n → (opening : ℕ) (items : BlockItems) (closing : ℕ) (s s' : HeldScopes) (k : List Lexeme) → AreBlockItems all items → AreLabelsFirst items → block_items_scopes items s ≡ Some s' →
+  pub block_body_read : (room : ℕ) → room ≤ n
+      → (opening : ℕ) (items : BlockItems) (closing : ℕ) (s s' : HeldScopes) (k : List Lexeme) → AreBlockItems all items
+      → AreLabelsFirst items → block_items_scopes items s ≡ Some s' →
       block_height items ≤ room →
       block_body inner room s (sign_text puncts.OpenBrace opening (block_items_text all items (sign_text puncts.CloseBrace closing k))) ≡ done (found (record { opening = opening; items = items; closing = closing }) s' k)
   unfolding block_body
@@ -397,7 +429,8 @@ module _ (all : List Lexeme) (numbered : IsNumbered all) (tokens : TokenLaws all
       body_less : (h room n : ℕ) → room ≤ n → 1 ≤ h → h ≤ room → room - 1 < n
       body_less h room n a b c = omega (arith, a, b, c)
 
-      by_parts : Parted all items → block_body inner room s (sign_text puncts.OpenBrace opening (block_items_text all items end)) ≡ done (found (record { opening = opening; items = items; closing = closing }) s' k)
+      by_parts : Parted all items
+          → block_body inner room s (sign_text puncts.OpenBrace opening (block_items_text all items end)) ≡ done (found (record { opening = opening; items = items; closing = closing }) s' k)
       by_parts p =
           let same : block_items_text all items end ≡ row_text (labels_form all) p.labels (row_text (plain_form all) p.others end) =
           ap (λ (items : BlockItems). block_items_text all items end) (sym p.are) ∙ sym (items_text all p.labels p.others end) in
@@ -422,7 +455,8 @@ module _ (all : List Lexeme) (numbered : IsNumbered all) (tokens : TokenLaws all
       one_room h room a b = omega (arith, a, b)
 
   -- an expression and its end
-  stmt_value_read : (room : ℕ) → room ≤ n → (e : Expr) (semi : ℕ) (s s' : HeldScopes) (k : List Lexeme) → IsExpr all e → expr_scopes e s ≡ Some s' → expr_height e + 1 ≤ room →
+  stmt_value_read : (room : ℕ) → room ≤ n → (e : Expr) (semi : ℕ) (s s' : HeldScopes) (k : List Lexeme) → IsExpr all e
+      → expr_scopes e s ≡ Some s' → expr_height e + 1 ≤ room →
       stmt_with inner room s (expr_text all e (sign_text puncts.Semicolon semi k)) ≡ done (found (expr_stmt (some_expr e) semi) s' k)
   unfolding stmt_with stmt_by named_stmt
   stmt_value_read room less e semi s s' k fit named low = by_start (expr_starts s kind begun)
@@ -433,7 +467,8 @@ module _ (all : List Lexeme) (numbered : IsNumbered all) (tokens : TokenLaws all
       begun : begins_expr s kind ≡ true
       begun = firsts.expr_begins e s s' (sign_text puncts.Semicolon semi k) fit named
 
-      by_start : (stmt_start kind ≡ starts.Value) ⊎ ((name : ℕ) × (kind ≡ kinds.Name name)) → stmt_with inner room s (expr_text all e (sign_text puncts.Semicolon semi k)) ≡ done (found (expr_stmt (some_expr e) semi) s' k)
+      by_start : (stmt_start kind ≡ starts.Value) ⊎ ((name : ℕ) × (kind ≡ kinds.Name name))
+          → stmt_with inner room s (expr_text all e (sign_text puncts.Semicolon semi k)) ≡ done (found (expr_stmt (some_expr e) semi) s' k)
       by_start (inl is) =
           ap (λ (start : StmtStart). stmt_by inner start room s (expr_text all e (sign_text puncts.Semicolon semi k))) is ∙
           rw begun (fits_is 2 room (expr_text all e (sign_text puncts.Semicolon semi k)) _ (asks_two (expr_height e) room (expr_high e) low) ∙ expr_stmt_read all numbered tokens firsts n inner laws whole_are nothing room less e semi s s' k fit tt named low)

@@ -87,12 +87,14 @@ some_same : (s t : HeldScopes) → Some s ≡ Some t → s ≡ t
 some_same s t e = cc
 
 -- a scope of its own
-pub own_ok : (f : HeldScopes → Option HeldScopes) (s s' : HeldScopes) → in_own_scope f s ≡ Some s' → (u : HeldScopes) × (f (enter s) ≡ Some u) × (leave u ≡ s')
+pub own_ok : (f : HeldScopes → Option HeldScopes) (s s' : HeldScopes) → in_own_scope f s ≡ Some s'
+    → (u : HeldScopes) × (f (enter s) ≡ Some u) × (leave u ≡ s')
 own_ok f s s' e =
     let b = behind_ok (f (enter s)) (λ inner. Some (leave inner)) s' e in
     (b.0, b.1, some_same (leave b.0) s' b.2)
 
-pub in_own_read : {A : Type 0} (read : Reader A) (s u s' : HeldScopes) (ts k : List Lexeme) (a : A) → read (enter s) ts ≡ done (found a u k) → leave u ≡ s' → in_own read s ts ≡ done (found a s' k)
+pub in_own_read : {A : Type 0} (read : Reader A) (s u s' : HeldScopes) (ts k : List Lexeme) (a : A)
+    → read (enter s) ts ≡ done (found a u k) → leave u ≡ s' → in_own read s ts ≡ done (found a s' k)
 in_own_read read s u s' ts k a is same = bind_is _ is (ap (λ (t : HeldScopes). done (found a t k)) same)
 
 where_is : (b : Bool) (t u : HeldScopes) → where_true b t ≡ Some u → (b ≡ true) × (t ≡ u)
@@ -106,13 +108,17 @@ module _ (all : List Lexeme) where
   stmt_high t = omega arith
 
   -- an `else` behind a part
-  before_else : (t : Stmt) (other : SomeElse) (k : List Lexeme) → IsOther all t other → not (other_takes_else other && is_else (kind_at k)) ≡ true → ends_stmt t (kind_at (some_else_text all other k)) ≡ true
+  before_else : (t : Stmt) (other : SomeElse) (k : List Lexeme) → IsOther all t other
+      → not (other_takes_else other && is_else (kind_at k)) ≡ true
+      → ends_stmt t (kind_at (some_else_text all other k)) ≡ true
   before_else t no_else k h ended = not_else t (kind_at k) (not_true ended)
   before_else t (some_else keyword u) k h ended = rw h.1 refl
 
 module _ (all : List Lexeme) (numbered : IsNumbered all) (tokens : TokenLaws all) (firsts : FirstLaws all) (n : ℕ) (inner : Inner) (laws : Laws all n inner) (whole_are : WholeAreMixes) where
   -- an expression or none, before a token that none begins with
-  some_expr_read : (test : TokenKind → Bool) (room : ℕ) → room < n → (e : SomeExpr) (s s' : HeldScopes) (k : List Lexeme) → IsSomeExpr all e → some_expr_scopes e s ≡ Some s' → some_expr_height e ≤ room →
+  some_expr_read : (test : TokenKind → Bool) (room : ℕ) → room < n
+      → (e : SomeExpr) (s s' : HeldScopes) (k : List Lexeme) → IsSomeExpr all e → some_expr_scopes e s ≡ Some s'
+      → some_expr_height e ≤ room →
       test (kind_at k) ≡ true → ends_expr Whole (kind_at k) ≡ true → ((kind : TokenKind) → begins_expr s kind ≡ true → test kind ≡ false) → some_expr_with inner test room s (some_expr_text all e k) ≡ done (found e s' k)
   unfolding some_expr_with
   some_expr_read test room less no_expr s s' k fit named low stops ended not_begun = rw stops (ap (λ (s : HeldScopes). done (found no_expr s k)) (some_same s s' named))
@@ -120,27 +126,33 @@ module _ (all : List Lexeme) (numbered : IsNumbered all) (tokens : TokenLaws all
       rw (not_begun (kind_at (expr_text all e k)) (firsts.expr_begins e s s' k fit named)) (bind_is _ (laws.exprs.complete Whole room less e s s' k (fit, omega arith) named low ended) refl)
 
   -- a direct part of a statement
-  part_read : (room : ℕ) → room < n → (t : Stmt) (s s' : HeldScopes) (k : List Lexeme) → IsStmt all t → in_own_scope (stmt_scopes t) s ≡ Some s' → stmt_height t ≤ room → ends_stmt t (kind_at k) ≡ true →
+  part_read : (room : ℕ) → room < n → (t : Stmt) (s s' : HeldScopes) (k : List Lexeme) → IsStmt all t
+      → in_own_scope (stmt_scopes t) s ≡ Some s' → stmt_height t ≤ room → ends_stmt t (kind_at k) ≡ true →
       part_with inner room s (stmt_text all t k) ≡ done (found t s' k)
   part_read room less t s s' k fit named low ended =
       let b = own_ok (stmt_scopes t) s s' named in
       in_own_read (inner.stmt room) s b.0 s' (stmt_text all t k) k t (laws.stmts.complete room less t (enter s) b.0 k fit b.1 low ended) b.2
 
-  pub expr_stmt_read : (begun : Begun) (room : ℕ) → room ≤ n → (e : Expr) (semi : ℕ) (s s' : HeldScopes) (k : List Lexeme) → IsExpr all e → IsBegun begun e → expr_scopes e s ≡ Some s' → expr_height e + 1 ≤ room →
+  pub expr_stmt_read : (begun : Begun) (room : ℕ) → room ≤ n
+      → (e : Expr) (semi : ℕ) (s s' : HeldScopes) (k : List Lexeme) → IsExpr all e → IsBegun begun e
+      → expr_scopes e s ≡ Some s' → expr_height e + 1 ≤ room →
       expr_stmt_with inner begun room s (behind_begun all begun e (sign_text puncts.Semicolon semi k)) ≡ done (found (expr_stmt (some_expr e) semi) s' k)
   unfolding expr_stmt_with
   expr_stmt_read begun room less e semi s s' k fit is named low =
       bind_is _ (laws.exprs.begun_complete Whole begun (room - 1) refl (part_less (expr_height e) room n less low) e s s' (sign_text puncts.Semicolon semi k) fit (omega arith) is named (part_low (expr_height e) room low) refl)
       (bind_is _ refl refl)
 
-  stmt_no_attr : (t : Stmt) (s s' : HeldScopes) (k : List Lexeme) → IsStmt all t → IsNoAttrStmt t → stmt_scopes t s ≡ Some s' → is_attribute (kind_at (stmt_text all t k)) ≡ false
+  stmt_no_attr : (t : Stmt) (s s' : HeldScopes) (k : List Lexeme) → IsStmt all t → IsNoAttrStmt t
+      → stmt_scopes t s ≡ Some s' → is_attribute (kind_at (stmt_text all t k)) ≡ false
   stmt_no_attr (attr_stmt attrs semi) s s' k fit other named = absurd other
   stmt_no_attr (expr_stmt no_expr semi) s s' k fit other named = refl
   stmt_no_attr (expr_stmt (some_expr e) semi) s s' k fit other named =
       expr_no_attribute s (kind_at (expr_text all e (sign_text puncts.Semicolon semi k))) (firsts.expr_begins e s s' (sign_text puncts.Semicolon semi k) fit named)
   stmt_no_attr t s s' k fit other named = refl
 
-  pub label_read : (room : ℕ) → room ≤ n → (name : Identifier) (colon : ℕ) (attrs : List Attr) (t : Stmt) (s s' : HeldScopes) (k : List Lexeme) → AreAttrs all attrs × IsStmt all t × IsNoAttrStmt t → stmt_scopes t s ≡ Some s' →
+  pub label_read : (room : ℕ) → room ≤ n
+      → (name : Identifier) (colon : ℕ) (attrs : List Attr) (t : Stmt) (s s' : HeldScopes) (k : List Lexeme)
+      → AreAttrs all attrs × IsStmt all t × IsNoAttrStmt t → stmt_scopes t s ≡ Some s' →
       max (attrs_height attrs) (stmt_height t) + 1 ≤ room → ends_stmt t (kind_at k) ≡ true → label_with inner room s (stmt_text all (label name colon attrs t) k) ≡ done (found (label name colon attrs t) s' k)
   unfolding label_with
   label_read room less name colon attrs t s s' k fit named low ended =
@@ -148,7 +160,9 @@ module _ (all : List Lexeme) (numbered : IsNumbered all) (tokens : TokenLaws all
       (bind_is _ (tokens.attrs_complete room attrs s s (stmt_text all t k) fit.0 refl (attrs_asks attrs room (left_low (attrs_height attrs) (stmt_height t) room low)) (not_false (stmt_no_attr t s s' k fit.1 fit.2 named)))
       (bind_is _ (laws.stmts.complete (room - 1) (part_less (max (attrs_height attrs) (stmt_height t)) room n less low) t s s' k fit.1 named (right_low (attrs_height attrs) (stmt_height t) room low) ended) refl)))
 
-  pub case_read : (room : ℕ) → room ≤ n → (keyword : ℕ) (e : Expr) (colon : ℕ) (t : Stmt) (s s' : HeldScopes) (k : List Lexeme) → IsExpr all e × (2 ≤ expr_level e) × IsStmt all t →
+  pub case_read : (room : ℕ) → room ≤ n
+      → (keyword : ℕ) (e : Expr) (colon : ℕ) (t : Stmt) (s s' : HeldScopes) (k : List Lexeme)
+      → IsExpr all e × (2 ≤ expr_level e) × IsStmt all t →
       behind (expr_scopes e s) (stmt_scopes t) ≡ Some s' → max (expr_height e) (stmt_height t) + 1 ≤ room → ends_stmt t (kind_at k) ≡ true →
       case_with inner room s (stmt_text all (case_stmt keyword e colon t) k) ≡ done (found (case_stmt keyword e colon t) s' k)
   unfolding case_with value_behind
@@ -160,7 +174,8 @@ module _ (all : List Lexeme) (numbered : IsNumbered all) (tokens : TokenLaws all
       (rw (and_false (is_wide b.0)) (bind_is _ refl (bind_is _ (laws.stmts.complete (room - 1) inside t b.0 s' k fit.2 b.2 (right_low (expr_height e) (stmt_height t) room low) ended) refl))))
 
   -- a range of values
-  pub range_read : (room : ℕ) → room ≤ n → (keyword : ℕ) (e : Expr) (dots : ℕ) (e2 : Expr) (colon : ℕ) (t : Stmt) (s s' : HeldScopes) (k : List Lexeme) →
+  pub range_read : (room : ℕ) → room ≤ n
+      → (keyword : ℕ) (e : Expr) (dots : ℕ) (e2 : Expr) (colon : ℕ) (t : Stmt) (s s' : HeldScopes) (k : List Lexeme) →
       IsExpr all e × (2 ≤ expr_level e) × IsExpr all e2 × (2 ≤ expr_level e2) × IsStmt all t → stmt_scopes (case_range keyword e dots e2 colon t) s ≡ Some s' →
       max (max (expr_height e) (expr_height e2)) (stmt_height t) + 1 ≤ room → ends_stmt t (kind_at k) ≡ true →
       case_with inner room s (stmt_text all (case_range keyword e dots e2 colon t) k) ≡ done (found (case_range keyword e dots e2 colon t) s' k)
@@ -181,20 +196,24 @@ module _ (all : List Lexeme) (numbered : IsNumbered all) (tokens : TokenLaws all
       (rw wide.0 (bind_is _ refl (bind_is _ (laws.exprs.complete Conditional (room - 1) inside e2 d.0 b.0 last (fit.2, fit.3) named2 second refl)
       (bind_is _ refl (bind_is _ (laws.stmts.complete (room - 1) inside t b.0 s' k fit.4 b.2 third ended) refl))))))
 
-  pub default_read : (room : ℕ) → room ≤ n → (keyword colon : ℕ) (t : Stmt) (s s' : HeldScopes) (k : List Lexeme) → IsStmt all t → stmt_scopes t s ≡ Some s' → stmt_height t + 1 ≤ room → ends_stmt t (kind_at k) ≡ true →
+  pub default_read : (room : ℕ) → room ≤ n → (keyword colon : ℕ) (t : Stmt) (s s' : HeldScopes) (k : List Lexeme)
+      → IsStmt all t → stmt_scopes t s ≡ Some s' → stmt_height t + 1 ≤ room → ends_stmt t (kind_at k) ≡ true →
       default_with inner room s (stmt_text all (default_stmt keyword colon t) k) ≡ done (found (default_stmt keyword colon t) s' k)
   unfolding default_with
   default_read room less keyword colon t s s' k fit named low ended =
       fits_is 2 room (stmt_text all (default_stmt keyword colon t) k) _ (asks_two (stmt_height t) room (stmt_high all t) low) ∙
       bind_is _ refl (bind_is _ refl (bind_is _ (laws.stmts.complete (room - 1) (part_less (stmt_height t) room n less low) t s s' k fit named (part_low (stmt_height t) room low) ended) refl))
 
-  some_else_read : (room : ℕ) → room < n → (before : Stmt) (other : SomeElse) (s s' : HeldScopes) (k : List Lexeme) → IsOther all before other → some_else_scopes other s ≡ Some s' → some_else_height other ≤ room →
+  some_else_read : (room : ℕ) → room < n → (before : Stmt) (other : SomeElse) (s s' : HeldScopes) (k : List Lexeme)
+      → IsOther all before other → some_else_scopes other s ≡ Some s' → some_else_height other ≤ room →
       not (other_takes_else other && is_else (kind_at k)) ≡ true → some_else_with inner room s (some_else_text all other k) ≡ done (found other s' k)
   unfolding some_else_with
   some_else_read room less before no_else s s' k fit named low ended = rw (not_true ended) (ap (λ (s : HeldScopes). done (found no_else s k)) (some_same s s' named))
   some_else_read room less before (some_else keyword t) s s' k fit named low ended = bind_is _ refl (bind_is _ (part_read room less t s s' k fit.0 named low ended) refl)
 
-  pub if_read : (room : ℕ) → room ≤ n → (keyword opening : ℕ) (e : Expr) (closing : ℕ) (t : Stmt) (other : SomeElse) (s s' : HeldScopes) (k : List Lexeme) → IsExpr all e × IsStmt all t × IsOther all t other →
+  pub if_read : (room : ℕ) → room ≤ n
+      → (keyword opening : ℕ) (e : Expr) (closing : ℕ) (t : Stmt) (other : SomeElse) (s s' : HeldScopes) (k : List Lexeme)
+      → IsExpr all e × IsStmt all t × IsOther all t other →
       behind (behind (expr_scopes e s) (in_own_scope (stmt_scopes t))) (some_else_scopes other) ≡ Some s' → max (expr_height e) (max (stmt_height t) (some_else_height other)) + 1 ≤ room →
       not (other_takes_else other && is_else (kind_at k)) ≡ true → if_inside inner room s (stmt_text all (if_stmt keyword opening e closing t other) k) ≡ done (found (if_stmt keyword opening e closing t other) s' k)
   unfolding if_inside
@@ -208,7 +227,9 @@ module _ (all : List Lexeme) (numbered : IsNumbered all) (tokens : TokenLaws all
       (bind_is _ (part_read (room - 1) inside t c.0 b.0 (some_else_text all other k) fit.1 c.2 (one_second (expr_height e) (stmt_height t) (some_else_height other) room low) (before_else all t other k fit.2 ended))
       (bind_is _ (some_else_read (room - 1) inside t other b.0 s' k fit.2 b.2 (one_third (expr_height e) (stmt_height t) (some_else_height other) room low) ended) refl)))))
 
-  pub headed_read : (make : ℕ → ℕ → Expr → ℕ → Stmt → Stmt) (word : Keyword) (room : ℕ) → room ≤ n → (keyword opening : ℕ) (e : Expr) (closing : ℕ) (t : Stmt) (s s' : HeldScopes) (k : List Lexeme) → IsExpr all e × IsStmt all t →
+  pub headed_read : (make : ℕ → ℕ → Expr → ℕ → Stmt → Stmt) (word : Keyword) (room : ℕ) → room ≤ n
+      → (keyword opening : ℕ) (e : Expr) (closing : ℕ) (t : Stmt) (s s' : HeldScopes) (k : List Lexeme)
+      → IsExpr all e × IsStmt all t →
       behind (expr_scopes e s) (in_own_scope (stmt_scopes t)) ≡ Some s' → max (expr_height e) (stmt_height t) + 1 ≤ room → ends_stmt t (kind_at k) ≡ true →
       headed_inside inner make room s (keyword_text word keyword (sign_text puncts.OpenParen opening (expr_text all e (sign_text puncts.CloseParen closing (stmt_text all t k))))) ≡ done (found (make keyword opening e closing t) s' k)
   unfolding headed_inside
@@ -219,7 +240,9 @@ module _ (all : List Lexeme) (numbered : IsNumbered all) (tokens : TokenLaws all
       (bind_is _ (laws.exprs.complete Whole (room - 1) inside e s c.0 (sign_text puncts.CloseParen closing (stmt_text all t k)) (fit.0, omega arith) c.1 (left_low (expr_height e) (stmt_height t) room low) refl)
       (bind_is _ refl (bind_is _ (part_read (room - 1) inside t c.0 s' k fit.1 c.2 (right_low (expr_height e) (stmt_height t) room low) ended) refl))))
 
-  pub do_read : (room : ℕ) → room ≤ n → (keyword : ℕ) (t : Stmt) (keyword2 opening : ℕ) (e : Expr) (closing semi : ℕ) (s s' : HeldScopes) (k : List Lexeme) → IsStmt all t × IsExpr all e →
+  pub do_read : (room : ℕ) → room ≤ n
+      → (keyword : ℕ) (t : Stmt) (keyword2 opening : ℕ) (e : Expr) (closing semi : ℕ) (s s' : HeldScopes) (k : List Lexeme)
+      → IsStmt all t × IsExpr all e →
       behind (in_own_scope (stmt_scopes t) s) (expr_scopes e) ≡ Some s' → max (stmt_height t) (expr_height e) + 1 ≤ room →
       do_inside inner room s (stmt_text all (do_stmt keyword t keyword2 opening e closing semi) k) ≡ done (found (do_stmt keyword t keyword2 opening e closing semi) s' k)
   unfolding do_inside
@@ -234,18 +257,21 @@ module _ (all : List Lexeme) (numbered : IsNumbered all) (tokens : TokenLaws all
       (bind_is _ refl (bind_is _ refl refl))))))
 
   -- an expression that starts a `for`, behind what of its first operand was read already
-  start_value_read : (begun : Begun) (room : ℕ) → room < n → (e : Expr) (semi : ℕ) (s s' : HeldScopes) (k : List Lexeme) → IsExpr all e → IsBegun begun e → expr_scopes e s ≡ Some s' → expr_height e ≤ room →
+  start_value_read : (begun : Begun) (room : ℕ) → room < n → (e : Expr) (semi : ℕ) (s s' : HeldScopes) (k : List Lexeme)
+      → IsExpr all e → IsBegun begun e → expr_scopes e s ≡ Some s' → expr_height e ≤ room →
       start_value_with inner begun room s (behind_begun all begun e (sign_text puncts.Semicolon semi k)) ≡ done (found (start_value (some_expr e) semi) s' k)
   unfolding start_value_with
   start_value_read begun room less e semi s s' k fit is named low =
       bind_is _ (laws.exprs.begun_complete Whole begun room refl less e s s' (sign_text puncts.Semicolon semi k) fit (omega arith) is named low refl) (bind_is _ refl refl)
 
-  for_value_read : (room : ℕ) → room < n → (e : Expr) (semi : ℕ) (s s' : HeldScopes) (k : List Lexeme) → IsExpr all e → expr_scopes e s ≡ Some s' → expr_height e ≤ room →
+  for_value_read : (room : ℕ) → room < n → (e : Expr) (semi : ℕ) (s s' : HeldScopes) (k : List Lexeme) → IsExpr all e
+      → expr_scopes e s ≡ Some s' → expr_height e ≤ room →
       for_start_with inner room s (expr_text all e (sign_text puncts.Semicolon semi k)) ≡ done (found (start_value (some_expr e) semi) s' k)
   unfolding for_start_with extended_start
   for_value_read room less e semi s s' k fit named low = by_exts (lead_exts e) (lead_of all firsts e s s' (sign_text puncts.Semicolon semi k) fit named)
     where
-      by_exts : (exts : List ℕ) → IsLead all firsts e s (sign_text puncts.Semicolon semi k) exts → for_start_with inner room s (expr_text all e (sign_text puncts.Semicolon semi k)) ≡ done (found (start_value (some_expr e) semi) s' k)
+      by_exts : (exts : List ℕ) → IsLead all firsts e s (sign_text puncts.Semicolon semi k) exts
+          → for_start_with inner room s (expr_text all e (sign_text puncts.Semicolon semi k)) ≡ done (found (start_value (some_expr e) semi) s' k)
       by_exts [] l =
           let begun = firsts.expr_begins e s s' (sign_text puncts.Semicolon semi k) fit named in
           let kind = kind_at (expr_text all e (sign_text puncts.Semicolon semi k)) in
@@ -260,7 +286,8 @@ module _ (all : List Lexeme) (numbered : IsNumbered all) (tokens : TokenLaws all
           two_low : (h room : ℕ) → 2 ≤ h → h ≤ room → 2 ≤ room
           two_low h room a b = omega (arith, a, b)
 
-  for_declaration_read : (room : ℕ) → room < n → (d : Declaration) (s s' : HeldScopes) (k : List Lexeme) → IsDeclaration all d → declaration_scopes d s ≡ Some s' → declaration_height d ≤ room →
+  for_declaration_read : (room : ℕ) → room < n → (d : Declaration) (s s' : HeldScopes) (k : List Lexeme)
+      → IsDeclaration all d → declaration_scopes d s ≡ Some s' → declaration_height d ≤ room →
       for_start_with inner room s (declaration_text all d k) ≡ done (found (start_declaration d) s' k)
   unfolding for_start_with extended_start
   for_declaration_read room less (declaration [] words ds semi) s s' k fit named low =
@@ -290,14 +317,16 @@ module _ (all : List Lexeme) (numbered : IsNumbered all) (tokens : TokenLaws all
       two_low : (h k room : ℕ) → 1 ≤ h → max h k + 1 ≤ room → 2 ≤ room
       two_low h k room a b = omega (arith, a, b)
 
-  for_start_read : (room : ℕ) → room < n → (start : ForStart) (s s' : HeldScopes) (k : List Lexeme) → IsStart all start → for_start_scopes start s ≡ Some s' → for_start_height start ≤ room →
+  for_start_read : (room : ℕ) → room < n → (start : ForStart) (s s' : HeldScopes) (k : List Lexeme) → IsStart all start
+      → for_start_scopes start s ≡ Some s' → for_start_height start ≤ room →
       for_start_with inner room s (for_start_text all start k) ≡ done (found start s' k)
   unfolding for_start_with
   for_start_read room less (start_declaration d) s s' k fit named low = for_declaration_read room less d s s' k fit named low
   for_start_read room less (start_value (some_expr e) semi) s s' k fit named low = for_value_read room less e semi s s' k fit named low
   for_start_read room less (start_value no_expr semi) s s' k fit named low = bind_is _ refl (ap (λ (s : HeldScopes). done (found (start_value no_expr semi) s k)) (some_same s s' named))
 
-  pub for_read : (room : ℕ) → room ≤ n → (keyword opening : ℕ) (start : ForStart) (e : SomeExpr) (semi : ℕ) (e2 : SomeExpr) (closing : ℕ) (t : Stmt) (s s' : HeldScopes) (k : List Lexeme) →
+  pub for_read : (room : ℕ) → room ≤ n
+      → (keyword opening : ℕ) (start : ForStart) (e : SomeExpr) (semi : ℕ) (e2 : SomeExpr) (closing : ℕ) (t : Stmt) (s s' : HeldScopes) (k : List Lexeme) →
       IsStart all start × IsSomeExpr all e × IsSomeExpr all e2 × IsStmt all t → behind (behind (behind (for_start_scopes start s) (some_expr_scopes e)) (some_expr_scopes e2)) (in_own_scope (stmt_scopes t)) ≡ Some s' →
       max (for_start_height start) (max (some_expr_height e) (max (some_expr_height e2) (stmt_height t))) + 1 ≤ room → ends_stmt t (kind_at k) ≡ true →
       for_inside inner room s (stmt_text all (for_stmt keyword opening start e semi e2 closing t) k) ≡ done (found (for_stmt keyword opening start e semi e2 closing t) s' k)
@@ -317,13 +346,16 @@ module _ (all : List Lexeme) (numbered : IsNumbered all) (tokens : TokenLaws all
       (bind_is _ refl
       (bind_is _ (part_read (room - 1) inside t b.0 s' k fit.3 b.2 (four_fourth (for_start_height start) (some_expr_height e) (some_expr_height e2) (stmt_height t) room low) ended) refl)))))))
 
-  pub goto_read : (room keyword : ℕ) (name : Identifier) (semi : ℕ) (s : HeldScopes) (k : List Lexeme) → 1 ≤ room → goto_with inner room s (stmt_text all (goto_stmt keyword name semi) k) ≡ done (found (goto_stmt keyword name semi) s k)
+  pub goto_read : (room keyword : ℕ) (name : Identifier) (semi : ℕ) (s : HeldScopes) (k : List Lexeme) → 1 ≤ room
+      → goto_with inner room s (stmt_text all (goto_stmt keyword name semi) k) ≡ done (found (goto_stmt keyword name semi) s k)
   unfolding goto_with goto_name
   goto_read room keyword name semi s k low =
       fits_is 1 room (stmt_text all (goto_stmt keyword name semi) k) _ low ∙ bind_is _ refl (rw (and_false (is_wide s)) (bind_is _ refl (bind_is _ refl refl)))
 
   -- to a value
-  pub goto_value_read : (room : ℕ) → room ≤ n → (keyword star : ℕ) (e : Expr) (semi : ℕ) (s s' : HeldScopes) (k : List Lexeme) → IsExpr all e → behind (where_true (is_wide s) s) (expr_scopes e) ≡ Some s' →
+  pub goto_value_read : (room : ℕ) → room ≤ n
+      → (keyword star : ℕ) (e : Expr) (semi : ℕ) (s s' : HeldScopes) (k : List Lexeme) → IsExpr all e
+      → behind (where_true (is_wide s) s) (expr_scopes e) ≡ Some s' →
       expr_height e + 1 ≤ room → goto_with inner room s (stmt_text all (goto_value keyword star e semi) k) ≡ done (found (goto_value keyword star e semi) s' k)
   unfolding goto_with goto_value_with
   goto_value_read room less keyword star e semi s s' k fit named low =
@@ -336,12 +368,15 @@ module _ (all : List Lexeme) (numbered : IsNumbered all) (tokens : TokenLaws all
       (bind_is _ (laws.exprs.complete Whole (room - 1) (part_less (expr_height e) room n less low) e s s' (sign_text puncts.Semicolon semi k) (fit, omega arith) named2 (part_low (expr_height e) room low) refl)
       (bind_is _ refl refl))))
 
-  pub jump_read : (make : ℕ → ℕ → Stmt) (word : Keyword) (room keyword semi : ℕ) (s : HeldScopes) (k : List Lexeme) → 1 ≤ room →
+  pub jump_read : (make : ℕ → ℕ → Stmt) (word : Keyword) (room keyword semi : ℕ) (s : HeldScopes) (k : List Lexeme)
+      → 1 ≤ room →
       jump_with inner make room s (keyword_text word keyword (sign_text puncts.Semicolon semi k)) ≡ done (found (make keyword semi) s k)
   unfolding jump_with
   jump_read make word room keyword semi s k low = fits_is 1 room (keyword_text word keyword (sign_text puncts.Semicolon semi k)) _ low ∙ bind_is _ refl (bind_is _ refl refl)
 
-  pub return_read : (room : ℕ) → room ≤ n → (keyword : ℕ) (e : SomeExpr) (semi : ℕ) (s s' : HeldScopes) (k : List Lexeme) → IsSomeExpr all e → some_expr_scopes e s ≡ Some s' → some_expr_height e + 1 ≤ room →
+  pub return_read : (room : ℕ) → room ≤ n
+      → (keyword : ℕ) (e : SomeExpr) (semi : ℕ) (s s' : HeldScopes) (k : List Lexeme) → IsSomeExpr all e
+      → some_expr_scopes e s ≡ Some s' → some_expr_height e + 1 ≤ room →
       return_with inner room s (stmt_text all (return_stmt keyword e semi) k) ≡ done (found (return_stmt keyword e semi) s' k)
   unfolding return_with
   return_read room less keyword e semi s s' k fit named low =
@@ -349,7 +384,8 @@ module _ (all : List Lexeme) (numbered : IsNumbered all) (tokens : TokenLaws all
       bind_is _ refl (bind_is _ (some_expr_read is_semicolon (room - 1) (part_less (some_expr_height e) room n less low) e s s' (sign_text puncts.Semicolon semi k) fit named (part_low (some_expr_height e) room low) refl refl (λ kind b. expr_no_semicolon s kind b))
       (bind_is _ refl refl))
 
-  pub asm_read : (room keyword : ℕ) (words : List Word) (group : Group) (semi : ℕ) (s : HeldScopes) (k : List Lexeme) → All (λ w. is_asm_word w.keyword ≡ true) words × IsGroup all group → 1 ≤ room →
+  pub asm_read : (room keyword : ℕ) (words : List Word) (group : Group) (semi : ℕ) (s : HeldScopes) (k : List Lexeme)
+      → All (λ w. is_asm_word w.keyword ≡ true) words × IsGroup all group → 1 ≤ room →
       asm_with inner room s (stmt_text all (asm_stmt keyword words group semi) k) ≡ done (found (asm_stmt keyword words group semi) s k)
   unfolding asm_with
   asm_read room keyword words group semi s k fit low =
@@ -362,7 +398,8 @@ module _ (all : List Lexeme) (numbered : IsNumbered all) (tokens : TokenLaws all
   attr_asks [] room h = omega arith
   attr_asks (a ∷ attrs) room h = omega (arith, h)
 
-  pub attr_stmt_read : (room : ℕ) (attrs : List Attr) (semi : ℕ) (s : HeldScopes) (k : List Lexeme) → AreAttrs all attrs → attrs_height attrs + 1 ≤ room →
+  pub attr_stmt_read : (room : ℕ) (attrs : List Attr) (semi : ℕ) (s : HeldScopes) (k : List Lexeme) → AreAttrs all attrs
+      → attrs_height attrs + 1 ≤ room →
       attr_stmt_with inner room s (stmt_text all (attr_stmt attrs semi) k) ≡ done (found (attr_stmt attrs semi) s k)
   unfolding attr_stmt_with
   attr_stmt_read room attrs semi s k fit low =

@@ -23,7 +23,8 @@ abbrev pub Ended : Found Stmt → Type 0
 Ended x = takes_else x.tree ≡ true → is_else (kind_at x.rest) ≡ false
 
 module _ (all : List Lexeme) (numbered : IsNumbered all) (tokens : TokenLaws all) (n : ℕ) (inner : Inner) (laws : Laws all n inner) (goes : MixesGoOn) where
-  inside_ended : (s : HeldScopes) (ts : List Lexeme) (read : Reader Stmt) (x : Found Stmt) → ((y : Found Stmt) → read (enter s) ts ≡ done y → Ended y) → in_own read s ts ≡ done x → Ended x
+  inside_ended : (s : HeldScopes) (ts : List Lexeme) (read : Reader Stmt) (x : Found Stmt)
+      → ((y : Found Stmt) → read (enter s) ts ≡ done y → Ended y) → in_own read s ts ≡ done x → Ended x
   inside_ended s ts read x inside e = let a = bind_ok e in at_end Ended a.2 (inside a.0 a.1)
 
   never_taken : {y x : Found Stmt} → done y ≡ done x → takes_else y.tree ≡ false → Ended x
@@ -33,7 +34,8 @@ module _ (all : List Lexeme) (numbered : IsNumbered all) (tokens : TokenLaws all
       not_both true p q = cc
       not_both false p q = cc
 
-  label_ended : (room : ℕ) (s : HeldScopes) (ts : List Lexeme) (x : Found Stmt) → label_with inner room s ts ≡ done x → Ended x
+  label_ended : (room : ℕ) (s : HeldScopes) (ts : List Lexeme) (x : Found Stmt) → label_with inner room s ts ≡ done x
+      → Ended x
   unfolding label_with
   label_ended room s ts x e =
       let a = bind_ok e in
@@ -42,14 +44,16 @@ module _ (all : List Lexeme) (numbered : IsNumbered all) (tokens : TokenLaws all
       let d = bind_ok c.2 in
       at_end Ended d.2 (laws.stmts.ended (room - 1) c.0.scopes c.0.rest d.0 d.1)
 
-  expr_stmt_ended : (begun : Begun) (room : ℕ) (s : HeldScopes) (ts : List Lexeme) (x : Found Stmt) → expr_stmt_with inner begun room s ts ≡ done x → Ended x
+  expr_stmt_ended : (begun : Begun) (room : ℕ) (s : HeldScopes) (ts : List Lexeme) (x : Found Stmt)
+      → expr_stmt_with inner begun room s ts ≡ done x → Ended x
   unfolding expr_stmt_with
   expr_stmt_ended begun room s ts x e =
       let a = bind_ok e in
       let b = bind_ok a.2 in
       never_taken b.2 refl
 
-  some_else_ended : (room : ℕ) (s : HeldScopes) (ts : List Lexeme) (x : Found SomeElse) → some_else_with inner room s ts ≡ done x → other_takes_else x.tree ≡ true → is_else (kind_at x.rest) ≡ false
+  some_else_ended : (room : ℕ) (s : HeldScopes) (ts : List Lexeme) (x : Found SomeElse)
+      → some_else_with inner room s ts ≡ done x → other_takes_else x.tree ≡ true → is_else (kind_at x.rest) ≡ false
   unfolding some_else_with
   some_else_ended room s ts x e =
       if_ok (is_else (kind_at ts)) e (λ is e.
@@ -58,7 +62,8 @@ module _ (all : List Lexeme) (numbered : IsNumbered all) (tokens : TokenLaws all
       at_end (λ (x : Found SomeElse). other_takes_else x.tree ≡ true → is_else (kind_at x.rest) ≡ false) b.2 (part_ended all numbered tokens n inner laws goes room a.0.scopes a.0.rest b.0 b.1)) (λ is e.
       at_end (λ (x : Found SomeElse). other_takes_else x.tree ≡ true → is_else (kind_at x.rest) ≡ false) e (λ takes. is))
 
-  stmt_by_ended : (start : StmtStart) (room : ℕ) (s : HeldScopes) (ts : List Lexeme) (x : Found Stmt) → stmt_by inner start room s ts ≡ done x → Ended x
+  stmt_by_ended : (start : StmtStart) (room : ℕ) (s : HeldScopes) (ts : List Lexeme) (x : Found Stmt)
+      → stmt_by inner start room s ts ≡ done x → Ended x
   unfolding stmt_by range_behind value_behind goto_value_with goto_name case_with default_with if_inside headed_inside do_inside for_inside goto_with jump_with return_with asm_with attr_stmt_with named_stmt
   stmt_by_ended starts.Block room s ts x e = let a = bind_ok e in never_taken a.2 refl
   stmt_by_ended starts.Semicolon room s ts x e = let a = bind_ok (fits_ok _ _ _ e).1 in never_taken a.2 refl
@@ -159,6 +164,7 @@ module _ (all : List Lexeme) (numbered : IsNumbered all) (tokens : TokenLaws all
   stmt_by_ended starts.Value room s ts x e =
       if_ok (begins_expr s (kind_at ts)) e (λ begun e. expr_stmt_ended nothing room s ts x (fits_ok _ _ _ e).1) (λ begun e. absurd cc)
 
-  pub stmt_ended : (room : ℕ) (s : HeldScopes) (ts : List Lexeme) (x : Found Stmt) → stmt_with inner room s ts ≡ done x → Ended x
+  pub stmt_ended : (room : ℕ) (s : HeldScopes) (ts : List Lexeme) (x : Found Stmt) → stmt_with inner room s ts ≡ done x
+      → Ended x
   unfolding stmt_with
   stmt_ended room s ts x e = stmt_by_ended (stmt_start (kind_at ts)) room s ts x e

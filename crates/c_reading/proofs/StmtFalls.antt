@@ -1,5 +1,5 @@
 -- The readers of declarations, blocks and statements take tokens.
-use Rattle.std.proofs.Common.{◌≡◌, ℕ, suc, ◌<◌, ◌≤◌, Bool, true, false, List, [], length, Option, Some, None, sym, arith}
+use Rattle.std.proofs.Common.{◌≡◌, ℕ, ◌<◌, ◌≤◌, Bool, true, false, List, [], length, Option, Some, None, sym, arith}
 use Rattle.std.specs.Prelude.{◌-◌, ◌&&◌, not}
 use Rattle.c_words.specs.declared.kinds.TokenKind.{TokenKind}
 use Rattle.c_tree.specs.declared.lexeme.Lexeme.{Lexeme}
@@ -29,10 +29,6 @@ use Rattle.c_reading.proofs.Aims.{TokenLaws, Laws}
 use Rattle.c_reading.proofs.Shared.{specs_here_shrinks, named_declr_shrinks, init_shrinks}
 use Rattle.c_reading.proofs.ExprFalls.{left_is}
 
--- equal at the last step
-pub last_one : (a b c : ℕ) → a ≡ b → suc a ≡ c → b < c
-last_one a b c e f = omega (arith, e, f)
-
 module _ (all : List Lexeme) (tokens : TokenLaws all) (n : ℕ) (inner : Inner) (laws : Laws all n inner) where
   label_falls : Falls label_at
   unfolding label_at
@@ -58,7 +54,8 @@ module _ (all : List Lexeme) (tokens : TokenLaws all) (n : ℕ) (inner : Inner) 
       let c = bind_ok b.2 in
       omega (arith, label_falls _ _ _ a.1, tokens.attrs_falls _ _ _ _ b.1, some_init_falls _ _ _ _ c.1, left_is c.2)
 
-  pub init_declr_shrinks : (before : List Attr) (kind : Kind) (room : ℕ) → Shrinks (init_declr_with inner before kind room)
+  pub init_declr_shrinks : (before : List Attr) (kind : Kind) (room : ℕ)
+      → Shrinks (init_declr_with inner before kind room)
   unfolding init_declr_with
   init_declr_shrinks before kind room s ts x e =
       let a = bind_ok e in
@@ -78,7 +75,8 @@ module _ (all : List Lexeme) (tokens : TokenLaws all) (n : ℕ) (inner : Inner) 
       let b = bind_ok a.2 in
       omega (arith, tokens.attrs_falls _ _ _ _ a.1, init_declr_shrinks _ _ _ _ _ _ b.1, left_is b.2)
 
-  pub declrs_shrinks : (exts : List ℕ) (words : SpecWords) (kind : Kind) (room : ℕ) (first : Reader DeclrItem) → Falls first → Shrinks (declrs_with inner exts words kind room first)
+  pub declrs_shrinks : (exts : List ℕ) (words : SpecWords) (kind : Kind) (room : ℕ) (first : Reader DeclrItem)
+      → Falls first → Shrinks (declrs_with inner exts words kind room first)
   unfolding declrs_with
   declrs_shrinks exts words kind room first falls s ts x e =
       let a = bind_ok e in
@@ -93,14 +91,16 @@ module _ (all : List Lexeme) (tokens : TokenLaws all) (n : ℕ) (inner : Inner) 
       omega (arith, take_falls _ _ _ a.1, left_is a.2)
 
   -- a name that is held, whatever the scopes made of it
-  name_held_shrinks : (name room : ℕ) (held : Option HeldScopes) (s : HeldScopes) (ts : List Lexeme) (x : Found Declared) → name_held name room held s ts ≡ done x → length x.rest < length ts
+  name_held_shrinks : (name room : ℕ) (held : Option HeldScopes) (s : HeldScopes) (ts : List Lexeme) (x : Found Declared)
+      → name_held name room held s ts ≡ done x → length x.rest < length ts
   name_held_shrinks name room None s ts x e = absurd cc
   name_held_shrinks name room (Some held) s ts x e =
       let r = fits_ok _ _ _ e in
       let a = bind_ok r.1 in
       omega (arith, take_falls _ _ _ a.1, left_is a.2)
 
-  present_falls : (d : SomeDeclr) (s : HeldScopes) (ts : List Lexeme) (x : Found Declr) → present d s ts ≡ done x → length x.rest ≡ length ts
+  present_falls : (d : SomeDeclr) (s : HeldScopes) (ts : List Lexeme) (x : Found Declr) → present d s ts ≡ done x
+      → length x.rest ≡ length ts
   present_falls no_declr s ts x e = absurd cc
   present_falls (some_declr d) s ts x e = sym (left_is e)
 
@@ -110,7 +110,8 @@ module _ (all : List Lexeme) (tokens : TokenLaws all) (n : ℕ) (inner : Inner) 
       let a = bind_ok e in
       omega (arith, name_held_shrinks name room (at_name (Some Value) name s) s ts a.0 a.1, present_falls a.0.tree.declr a.0.scopes a.0.rest x a.2)
 
-  auto_declr_shrinks : (exts : List ℕ) (words : SpecWords) (d : Declr) (room : ℕ) → Shrinks (auto_declr inner exts words d room)
+  auto_declr_shrinks : (exts : List ℕ) (words : SpecWords) (d : Declr) (room : ℕ)
+      → Shrinks (auto_declr inner exts words d room)
   unfolding auto_declr
   auto_declr_shrinks exts words d room s ts x e =
       let a = bind_ok e in
@@ -133,7 +134,8 @@ module _ (all : List Lexeme) (tokens : TokenLaws all) (n : ℕ) (inner : Inner) 
       let a = bind_ok e in
       omega (arith, auto_declarator_shrinks (has_typedef_word (storage_words words)) (room - 2) _ _ _ a.1, auto_declr_shrinks _ _ _ _ _ _ _ a.2)
 
-  pub declaration_behind_shrinks : (exts : List ℕ) (words : SpecWords) (room : ℕ) → Shrinks (declaration_behind inner exts words room)
+  pub declaration_behind_shrinks : (exts : List ℕ) (words : SpecWords) (room : ℕ)
+      → Shrinks (declaration_behind inner exts words room)
   unfolding declaration_behind
   declaration_behind_shrinks exts words room s ts x e =
       if_ok (has_auto words) e (λ is e. auto_shrinks exts words room s ts x e) (λ is e.
@@ -168,7 +170,8 @@ module _ (all : List Lexeme) (tokens : TokenLaws all) (n : ℕ) (inner : Inner) 
       let d = bind_ok c.2 in
       omega (arith, name_falls _ _ _ a.1, token_falls is_colon _ _ _ b.1, tokens.attrs_falls _ _ _ _ c.1, laws.stmts.shrinks _ _ _ _ d.1, left_is d.2)
 
-  as_is : {A B : Type 0} {x : Found B} {y : Found B} (z : Found A) (ts : List Lexeme) → length z.rest < length ts → done y ≡ done x → length y.rest ≡ length z.rest → length x.rest < length ts
+  as_is : {A B : Type 0} {x : Found B} {y : Found B} (z : Found A) (ts : List Lexeme) → length z.rest < length ts
+      → done y ≡ done x → length y.rest ≡ length z.rest → length x.rest < length ts
   as_is z ts less e same = omega (arith, less, same, left_is e)
 
   named_item_shrinks : (name room : ℕ) → Shrinks (named_item inner name room)

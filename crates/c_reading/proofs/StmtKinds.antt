@@ -1,5 +1,5 @@
 -- What the first tokens of expressions and specifiers say of statements and of items of blocks.
-use Rattle.std.proofs.Common.{◌≡◌, ℕ, ◌≤◌, true, false, List, [], ◌∷◌, ◌++◌, Some, None, inl, inr, refl, sym, ◌∙◌, ap, subst, arith}
+use Rattle.std.proofs.Common.{◌≡◌, ℕ, ◌≤◌, true, false, List, [], ◌∷◌, ◌++◌, Some, inl, inr, refl, sym, ◌∙◌, ap, subst, arith}
 use Rattle.std.specs.Prelude.{◌⊎◌, Any, IsPermutation}
 use Rattle.c_words.specs.declared.kinds.TokenKind.{TokenKind}
 use Rattle.c_words.specs.declared.kinds.TokenKind.TheVariants as kinds
@@ -33,7 +33,8 @@ use Rattle.c_reading.proofs.ExprSoundRows.{expr_high}
 use Rattle.c_reading.proofs.ExprCompleteForms.{operator_twelve}
 
 -- a statement that begins as an expression does
-pub expr_starts : (s : HeldScopes) (kind : TokenKind) → begins_expr s kind ≡ true → (stmt_start kind ≡ starts.Value) ⊎ ((name : ℕ) × (kind ≡ kinds.Name name))
+pub expr_starts : (s : HeldScopes) (kind : TokenKind) → begins_expr s kind ≡ true
+    → (stmt_start kind ≡ starts.Value) ⊎ ((name : ℕ) × (kind ≡ kinds.Name name))
 expr_starts s (kinds.Name name) e = inr (name, refl)
 expr_starts s (kinds.Punct puncts.OpenBrace) e = absurd cc
 expr_starts s (kinds.Punct puncts.Semicolon) e = absurd cc
@@ -67,9 +68,6 @@ postfix_no_colon : (p : Punct) → is_postfix p ≡ true → is_colon (kinds.Pun
 postfix_no_colon puncts.Colon h = absurd cc
 postfix_no_colon p h = refl
 
-sizeof_no_name : (keyword : Keyword) → spelled_name (kinds.Keyword keyword) ≡ None
-sizeof_no_name keyword = refl
-
 sizeof_no_ext : (keyword : Keyword) → is_sizeof keyword ≡ true → is_extension (kinds.Keyword keyword) ≡ false
 sizeof_no_ext keywords.Extension e = absurd cc
 sizeof_no_ext keyword e = refl
@@ -91,14 +89,17 @@ lead_low (extension keyword e) = let some : 1 ≤ expr_height e = expr_high e in
 lead_low e = omega arith
 
 module _ (all : List Lexeme) where
-  operator_next : (op : Operator) (token : ℕ) (k : List Lexeme) → IsOperator op → is_colon (kind_at (operator_text all op token k)) ≡ false
+  operator_next : (op : Operator) (token : ℕ) (k : List Lexeme) → IsOperator op
+      → is_colon (kind_at (operator_text all op token k)) ≡ false
   operator_next comma token k h = refl
   operator_next (assign p) token k h = assign_no_colon p h
   operator_next (cond e colon) token k h = refl
   operator_next (binary p) token k h = operator_no_colon p h
 
   -- behind a name that an expression begins with stands no colon
-  pub name_no_colon : (e : Expr) (name : ℕ) (k : List Lexeme) → IsExpr all e → is_colon (kind_at k) ≡ false → spelled_name (kind_at (expr_text all e k)) ≡ Some name → is_colon (kind_at (behind_first (expr_text all e k))) ≡ false
+  pub name_no_colon : (e : Expr) (name : ℕ) (k : List Lexeme) → IsExpr all e → is_colon (kind_at k) ≡ false
+      → spelled_name (kind_at (expr_text all e k)) ≡ Some name
+      → is_colon (kind_at (behind_first (expr_text all e k))) ≡ false
   name_no_colon (operation e op token e2) name k h c is = name_no_colon e name (operator_text all op token (expr_text all e2 k)) h.0 (operator_next op token (expr_text all e2 k) h.2) is
   name_no_colon (index e opening e2 closing) name k h c is = name_no_colon e name _ h.0 refl is
   name_no_colon (call e opening es closing) name k h c is = name_no_colon e name _ h.0 refl is
@@ -111,7 +112,8 @@ module _ (all : List Lexeme) where
   name_no_colon e name k h c is = absurd cc
 
   -- the text of an expression, from what it begins with on
-  pub lead_text : (e : Expr) (k : List Lexeme) → expr_text all e k ≡ extensions_text (lead_exts e) (behind_exts all (lead_exts e) e k)
+  pub lead_text : (e : Expr) (k : List Lexeme)
+      → expr_text all e k ≡ extensions_text (lead_exts e) (behind_exts all (lead_exts e) e k)
   lead_text (operation e op token e2) k = lead_text e (operator_text all op token (expr_text all e2 k))
   lead_text (extension keyword e) k = ap (keyword_text keywords.Extension keyword) (lead_text e k)
   lead_text e k = refl
@@ -120,7 +122,8 @@ module _ (all : List Lexeme) where
   operation_low op h = let most = operator_twelve op in omega (arith, most, h)
 
   -- a primary expression with its postfix forms begins with no `__extension__`
-  primary_no_ext : (e : Expr) (k : List Lexeme) → IsExpr all e → 15 ≤ expr_level e → is_extension (kind_at (expr_text all e k)) ≡ false
+  primary_no_ext : (e : Expr) (k : List Lexeme) → IsExpr all e → 15 ≤ expr_level e
+      → is_extension (kind_at (expr_text all e k)) ≡ false
   primary_no_ext (operation e op token e2) k h l = absurd (operation_low op (omega (arith, l)))
   primary_no_ext (cast opening ws d closing e) k h l = refl
   primary_no_ext (prefix token p e) k h l = refl
@@ -137,7 +140,8 @@ module _ (all : List Lexeme) where
   primary_no_ext e k h l = refl
 
   -- behind what it begins with stands no more of that
-  pub lead_ends : (e : Expr) (k : List Lexeme) → IsExpr all e → is_extension (kind_at (behind_exts all (lead_exts e) e k)) ≡ false
+  pub lead_ends : (e : Expr) (k : List Lexeme) → IsExpr all e
+      → is_extension (kind_at (behind_exts all (lead_exts e) e k)) ≡ false
   lead_ends (operation e op token e2) k h = lead_ends e (operator_text all op token (expr_text all e2 k)) h.0
   lead_ends (extension keyword e) k h = lead_ends e k h.0
   lead_ends (sizeof_value word e) k h = sizeof_no_ext word.keyword h.1
@@ -152,7 +156,8 @@ module _ (all : List Lexeme) where
   lead_ends e k h = refl
 
   module _ (firsts : FirstLaws all) where
-    pub lead_begins : (e : Expr) (s s' : HeldScopes) (k : List Lexeme) → IsExpr all e → expr_scopes e s ≡ Some s' → begins_expr s (kind_at (behind_exts all (lead_exts e) e k)) ≡ true
+    pub lead_begins : (e : Expr) (s s' : HeldScopes) (k : List Lexeme) → IsExpr all e → expr_scopes e s ≡ Some s'
+        → begins_expr s (kind_at (behind_exts all (lead_exts e) e k)) ≡ true
     lead_begins (operation e op token e2) s s' k h named =
         let a = behind_ok (behind (expr_scopes e s) (operator_scopes op)) (expr_scopes e2) s' named in
         let b = behind_ok (expr_scopes e s) (operator_scopes op) a.0 a.1 in
@@ -168,7 +173,8 @@ module _ (all : List Lexeme) where
       pub begun : exts_begin exts e
       pub low : least_with exts ≤ expr_height e
 
-    pub lead_of : (e : Expr) (s s' : HeldScopes) (k : List Lexeme) → IsExpr all e → expr_scopes e s ≡ Some s' → IsLead e s k (lead_exts e)
+    pub lead_of : (e : Expr) (s s' : HeldScopes) (k : List Lexeme) → IsExpr all e → expr_scopes e s ≡ Some s'
+        → IsLead e s k (lead_exts e)
     lead_of e s s' k h named = record { same = lead_text e k; begins = lead_begins e s s' k h named; ended = lead_ends e k h; begun = lead_begin e; low = lead_low e }
 
 -- attributes that words begin with, and the words behind them
@@ -185,7 +191,8 @@ lead_is no_words = refl
 lead_is (more_words (attribute a) ws) = ap (more_words (attribute a)) (lead_is ws)
 lead_is (more_words w ws) = refl
 
-pub lead_words_text : (all : List Lexeme) (ws : SpecWords) (k : List Lexeme) → spec_words_text all ws k ≡ attrs_text all (lead_attrs ws) (spec_words_text all (lead_words ws) k)
+pub lead_words_text : (all : List Lexeme) (ws : SpecWords) (k : List Lexeme)
+    → spec_words_text all ws k ≡ attrs_text all (lead_attrs ws) (spec_words_text all (lead_words ws) k)
 lead_words_text all no_words k = refl
 lead_words_text all (more_words (attribute a) ws) k = ap (attr_text all a) (lead_words_text all ws k)
 lead_words_text all (more_words w ws) k = refl
@@ -214,7 +221,8 @@ element_no_colon : (kind : TokenKind) → IsElementKind kind → is_colon kind �
 element_no_colon (kinds.Punct puncts.Colon) h = absurd h
 element_no_colon kind h = refl
 
-pub word_no_colon : (all : List Lexeme) → IsNumbered all → (w : SpecWord) (k : List Lexeme) → IsSpecWord all w → is_colon (kind_at (spec_word_text all w k)) ≡ false
+pub word_no_colon : (all : List Lexeme) → IsNumbered all → (w : SpecWord) (k : List Lexeme) → IsSpecWord all w
+    → is_colon (kind_at (spec_word_text all w k)) ≡ false
 word_no_colon all numbered (qualifier (quals.Element token)) k h =
     let e = element_spelled all numbered token h.0 in
     ap (λ (ts : List Lexeme). is_colon (kind_at (ts ++ k))) e.1 ∙ element_no_colon e.0.kind e.3

@@ -83,7 +83,8 @@ two_up h k room a b c = omega (arith, a, b, c)
 pub three_up : (h k l room : ℕ) → 2 ≤ room → h ≤ room - 1 → k ≤ room - 1 → l ≤ room - 1 → max h (max k l) + 1 ≤ room
 three_up h k l room a b c d = omega (arith, a, b, c, d)
 
-pub four_up : (h k l m room : ℕ) → 2 ≤ room → h ≤ room - 1 → k ≤ room - 1 → l ≤ room - 1 → m ≤ room - 1 → max h (max k (max l m)) + 1 ≤ room
+pub four_up : (h k l m room : ℕ) → 2 ≤ room → h ≤ room - 1 → k ≤ room - 1 → l ≤ room - 1 → m ≤ room - 1
+    → max h (max k (max l m)) + 1 ≤ room
 four_up h k l m room a b c d e = omega (arith, a, b, c, d, e)
 
 pub some_room : (room : ℕ) → 2 ≤ room → 1 ≤ room
@@ -94,7 +95,8 @@ attr_room [] room some low = absurd (some refl)
 attr_room (a ∷ attrs) room some low = low
 
 -- attributes as words
-attr_words_text : (all : List Lexeme) (attrs : List Attr) (k : List Lexeme) → spec_words_text all (words_of_attrs attrs) k ≡ attrs_text all attrs k
+attr_words_text : (all : List Lexeme) (attrs : List Attr) (k : List Lexeme)
+    → spec_words_text all (words_of_attrs attrs) k ≡ attrs_text all attrs k
 attr_words_text all [] k = refl
 attr_words_text all (a ∷ attrs) k = ap (attr_text all a) (attr_words_text all attrs k)
 
@@ -114,14 +116,16 @@ pub some_scopes : (s t : HeldScopes) → Some s ≡ Some t → t ≡ s
 some_scopes s t e = cc
 
 -- a scope of its own
-pub own_is : (f : HeldScopes → Option HeldScopes) (s t : HeldScopes) → f (enter s) ≡ Some t → in_own_scope f s ≡ Some (leave t)
+pub own_is : (f : HeldScopes → Option HeldScopes) (s t : HeldScopes) → f (enter s) ≡ Some t
+    → in_own_scope f s ≡ Some (leave t)
 own_is f s t h = behind_is (λ inner. Some (leave inner)) h refl
 
 module _ (all : List Lexeme) (numbered : IsNumbered all) (tokens : TokenLaws all) (n : ℕ) (inner : Inner) (laws : Laws all n inner) (goes : MixesGoOn) where
   abbrev pub some_expr_form : Form SomeExpr
   some_expr_form = record { text = some_expr_text all; Fits = IsSomeExpr all; scopes = some_expr_scopes; height = some_expr_height }
 
-  pub some_expr_sound : (test : TokenKind → Bool) (room : ℕ) → IsSound all some_expr_form room (some_expr_with inner test room)
+  pub some_expr_sound : (test : TokenKind → Bool) (room : ℕ)
+      → IsSound all some_expr_form room (some_expr_with inner test room)
   unfolding some_expr_with
   some_expr_sound test room s ts x tail e =
       if_ok (test (kind_at ts)) e (λ is e. at_end (Takes all some_expr_form room s ts) e (record { spelled = refl; fits = tt; named = refl; low = omega arith; left = tail })) (λ is e.
@@ -139,12 +143,15 @@ module _ (all : List Lexeme) (numbered : IsNumbered all) (tokens : TokenLaws all
       let i = laws.stmts.sound room (enter s) ts a.0 tail a.1 in
       at_end (Takes all part_form room s ts) a.2 (record { spelled = i.spelled; fits = i.fits; named = own_is (stmt_scopes a.0.tree) s a.0.scopes i.named; low = i.low; left = i.left })
 
-  pub part_ended : (room : ℕ) (s : HeldScopes) (ts : List Lexeme) (x : Found Stmt) → part_with inner room s ts ≡ done x → takes_else x.tree ≡ true → is_else (kind_at x.rest) ≡ false
+  pub part_ended : (room : ℕ) (s : HeldScopes) (ts : List Lexeme) (x : Found Stmt) → part_with inner room s ts ≡ done x
+      → takes_else x.tree ≡ true → is_else (kind_at x.rest) ≡ false
   part_ended room s ts x e =
       let a = bind_ok e in
       at_end (λ (x : Found Stmt). takes_else x.tree ≡ true → is_else (kind_at x.rest) ≡ false) a.2 (laws.stmts.ended room (enter s) ts a.0 a.1)
 
-  pub expr_stmt_sound : (begun : Begun) (room : ℕ) (s : HeldScopes) (ts : List Lexeme) (x : Found Stmt) → 1 ≤ room → IsTail all ts → expr_stmt_with inner begun room s ts ≡ done x → Takes all (stmt_form all) room s (begun_text begun ts) x
+  pub expr_stmt_sound : (begun : Begun) (room : ℕ) (s : HeldScopes) (ts : List Lexeme) (x : Found Stmt) → 1 ≤ room
+      → IsTail all ts → expr_stmt_with inner begun room s ts ≡ done x
+      → Takes all (stmt_form all) room s (begun_text begun ts) x
   unfolding expr_stmt_with
   expr_stmt_sound begun room s ts x least tail e =
       let a = bind_ok e in
@@ -159,7 +166,8 @@ module _ (all : List Lexeme) (numbered : IsNumbered all) (tokens : TokenLaws all
         left = q.left;
       })
 
-  no_attr_stmt : (room : ℕ) (s : HeldScopes) (ts : List Lexeme) (x : Found Stmt) → IsTail all ts → is_attribute (kind_at ts) ≡ false → inner.stmt room s ts ≡ done x → IsNoAttrStmt x.tree
+  no_attr_stmt : (room : ℕ) (s : HeldScopes) (ts : List Lexeme) (x : Found Stmt) → IsTail all ts
+      → is_attribute (kind_at ts) ≡ false → inner.stmt room s ts ≡ done x → IsNoAttrStmt x.tree
   no_attr_stmt room s ts x tail no_attr e = by_stmt x.tree (laws.stmts.sound room s ts x tail e).spelled (laws.stmts.sound room s ts x tail e).fits
     where
       by_stmt : (t : Stmt) → ts ≡ stmt_text all t x.rest → IsStmt all t → IsNoAttrStmt t
@@ -177,7 +185,8 @@ module _ (all : List Lexeme) (numbered : IsNumbered all) (tokens : TokenLaws all
     none : is_attribute (kind_at k) ≡ false
 
   pub label_sound : (attrs_end : (room : ℕ) (s : HeldScopes) (ts : List Lexeme) (x : Found (List Attr)) → attrs_at room s ts ≡ done x → is_attribute (kind_at x.rest) ≡ false) →
-      (room : ℕ) (s : HeldScopes) (ts : List Lexeme) (x : Found Stmt) → 2 ≤ room → IsTail all ts → label_with inner room s ts ≡ done x → Takes all (stmt_form all) room s ts x
+      (room : ℕ) (s : HeldScopes) (ts : List Lexeme) (x : Found Stmt) → 2 ≤ room → IsTail all ts
+      → label_with inner room s ts ≡ done x → Takes all (stmt_form all) room s ts x
   unfolding label_with
   label_sound attrs_end room s ts x least tail e =
       let a = bind_ok e in
@@ -196,26 +205,34 @@ module _ (all : List Lexeme) (numbered : IsNumbered all) (tokens : TokenLaws all
         left = j.left;
       })
 
-  pub attrs_end : (room : ℕ) (s : HeldScopes) (ts : List Lexeme) (x : Found (List Attr)) → attrs_at room s ts ≡ done x → is_attribute (kind_at x.rest) ≡ false
+  pub attrs_end : (room : ℕ) (s : HeldScopes) (ts : List Lexeme) (x : Found (List Attr)) → attrs_at room s ts ≡ done x
+      → is_attribute (kind_at x.rest) ≡ false
   unfolding attrs_at
   attrs_end room s ts x e =
       repeated_stops is_attribute (λ s ts. Rattle.c_reading.specs.Reading.fits 2 room ts (attr_at s ts)) (λ s ts x e. tokens.attr_shrinks s ts x (fits_ok _ _ _ e).1) s ts x e
 
   -- Items of blocks.
 
-  decl_named : (d : Declaration) (s t : HeldScopes) → declaration_scopes d s ≡ Some t → block_item_scopes (block_decl (decl_declaration d)) s ≡ Some t
+  decl_named : (d : Declaration) (s t : HeldScopes) → declaration_scopes d s ≡ Some t
+      → block_item_scopes (block_decl (decl_declaration d)) s ≡ Some t
   decl_named d s t h = h
 
-  as_decl : (room : ℕ) (s : HeldScopes) (ts : List Lexeme) (x : Found Declaration) → Takes all (declaration_form all) room s ts x → Takes all (block_item_form all) room s ts (found (block_decl (decl_declaration x.tree)) x.scopes x.rest)
+  as_decl : (room : ℕ) (s : HeldScopes) (ts : List Lexeme) (x : Found Declaration)
+      → Takes all (declaration_form all) room s ts x
+      → Takes all (block_item_form all) room s ts (found (block_decl (decl_declaration x.tree)) x.scopes x.rest)
   as_decl room s ts x h = record { spelled = h.spelled; fits = h.fits; named = h.named; low = h.low; left = h.left }
 
-  as_stmt : (room : ℕ) (s : HeldScopes) (ts : List Lexeme) (x : Found Stmt) → Takes all (stmt_form all) room s ts x → Takes all (block_item_form all) room s ts (found (block_stmt x.tree) x.scopes x.rest)
+  as_stmt : (room : ℕ) (s : HeldScopes) (ts : List Lexeme) (x : Found Stmt) → Takes all (stmt_form all) room s ts x
+      → Takes all (block_item_form all) room s ts (found (block_stmt x.tree) x.scopes x.rest)
   as_stmt room s ts x h = record { spelled = h.spelled; fits = h.fits; named = h.named; low = h.low; left = h.left }
 
-  pub from_start : {T : Type 0} (form : Form T) (room : ℕ) (s t : HeldScopes) (ts us : List Lexeme) (x : Found T) → ts ≡ us → t ≡ s → Takes all form room t us x → Takes all form room s ts x
+  pub from_start : {T : Type 0} (form : Form T) (room : ℕ) (s t : HeldScopes) (ts us : List Lexeme) (x : Found T)
+      → ts ≡ us → t ≡ s → Takes all form room t us x → Takes all form room s ts x
   from_start form room s t ts us x is same h = record { spelled = is ∙ h.spelled; fits = h.fits; named = subst (λ (u : HeldScopes). form.scopes x.tree u ≡ Some x.scopes) same h.named; low = h.low; left = h.left }
 
-  named_item_sound : (name room : ℕ) (s : HeldScopes) (ts : List Lexeme) (x : Found BlockItem) → IsTail all ts → kind_at ts ≡ kinds.Name name → named_item inner name room s ts ≡ done x → Takes all (block_item_form all) room s ts x
+  named_item_sound : (name room : ℕ) (s : HeldScopes) (ts : List Lexeme) (x : Found BlockItem) → IsTail all ts
+      → kind_at ts ≡ kinds.Name name → named_item inner name room s ts ≡ done x
+      → Takes all (block_item_form all) room s ts x
   unfolding named_item
   named_item_sound name room s ts x tail is e =
       let r = fits_ok _ _ _ e in
@@ -236,7 +253,9 @@ module _ (all : List Lexeme) (numbered : IsNumbered all) (tokens : TokenLaws all
   ext_room [] room some low = absurd (some refl)
   ext_room (x ∷ exts) room some low = omega (arith, low)
 
-  extended_item_sound : (room : ℕ) (s : HeldScopes) (ts : List Lexeme) (x : Found BlockItem) → IsTail all ts → is_extension (kind_at ts) ≡ true → extended_item inner room s ts ≡ done x → Takes all (block_item_form all) room s ts x
+  extended_item_sound : (room : ℕ) (s : HeldScopes) (ts : List Lexeme) (x : Found BlockItem) → IsTail all ts
+      → is_extension (kind_at ts) ≡ true → extended_item inner room s ts ≡ done x
+      → Takes all (block_item_form all) room s ts x
   unfolding extended_item
   extended_item_sound room s ts x tail is e =
       let a = bind_ok e in
@@ -261,7 +280,9 @@ module _ (all : List Lexeme) (numbered : IsNumbered all) (tokens : TokenLaws all
           exts_end a e = exts_stop tokens room s ts a e
       by_exts (x ∷ exts) low spelled = omega (arith, low)
 
-  attr_item_sound : (room : ℕ) (s : HeldScopes) (ts : List Lexeme) (x : Found BlockItem) → IsTail all ts → is_attribute (kind_at ts) ≡ true → attr_item inner room s ts ≡ done x → Takes all (block_item_form all) room s ts x
+  attr_item_sound : (room : ℕ) (s : HeldScopes) (ts : List Lexeme) (x : Found BlockItem) → IsTail all ts
+      → is_attribute (kind_at ts) ≡ true → attr_item inner room s ts ≡ done x
+      → Takes all (block_item_form all) room s ts x
   unfolding attr_item attr_item_by
   attr_item_sound room s ts x tail is e =
       let a = bind_ok e in
@@ -281,14 +302,17 @@ module _ (all : List Lexeme) (numbered : IsNumbered all) (tokens : TokenLaws all
       at_end (Takes all (block_item_form all) room s ts) b.2 (as_decl room s ts b.0 (from_start (declaration_form all) room s s ts (spec_words_text all (words_of_attrs a.0.tree) a.0.rest) b.0 (i.spelled ∙ sym (attr_words_text all a.0.tree a.0.rest)) refl
       (declaration_from_sound all numbered tokens n inner laws goes (words_of_attrs a.0.tree) room s a.0.scopes a.0.rest b.0 (attr_words_fit all a.0.tree i.fits) (attr_words_scopes a.0.tree s ∙ i.named) (attr_words_two a.0.tree) i.left b.1)))) (λ begun e. absurd cc))
     where
-      some_attrs : (a : Found (List Attr)) → ts ≡ attrs_text all a.tree a.rest → attrs_at room s ts ≡ done a → a.tree ≢ []
+      some_attrs : (a : Found (List Attr)) → ts ≡ attrs_text all a.tree a.rest → attrs_at room s ts ≡ done a
+          → a.tree ≢ []
       some_attrs a spelled e none = no_attr (is_attribute (kind_at ts)) is (ap (λ (k : List Lexeme). is_attribute (kind_at k)) (spelled ∙ ap (λ (them : List Attr). attrs_text all them a.rest) none) ∙ attrs_end room s ts a e)
         where
           no_attr : (b : Bool) → b ≡ true → b ≡ false → ⊥
           no_attr true p q = cc
           no_attr false p q = cc
 
-  other_item_sound : (name : Option ℕ) (room : ℕ) (s : HeldScopes) (ts : List Lexeme) (x : Found BlockItem) → IsTail all ts → spelled_name (kind_at ts) ≡ name → other_item inner name room s ts ≡ done x → Takes all (block_item_form all) room s ts x
+  other_item_sound : (name : Option ℕ) (room : ℕ) (s : HeldScopes) (ts : List Lexeme) (x : Found BlockItem)
+      → IsTail all ts → spelled_name (kind_at ts) ≡ name → other_item inner name room s ts ≡ done x
+      → Takes all (block_item_form all) room s ts x
   unfolding other_item
   other_item_sound (Some name) room s ts x tail is e = named_item_sound name room s ts x tail (name_kind all (kind_at ts) name is) e
   other_item_sound None room s ts x tail is e =
@@ -311,19 +335,22 @@ module _ (all : List Lexeme) (numbered : IsNumbered all) (tokens : TokenLaws all
 
   -- what is read there declares no labels
 
-  item_plain : {x : Found BlockItem} (read : Read Declaration) → reads_item inner read ≡ done x → is_labels x.tree ≡ false
+  item_plain : {x : Found BlockItem} (read : Read Declaration) → reads_item inner read ≡ done x
+      → is_labels x.tree ≡ false
   item_plain {x} read e = let a = bind_ok e in at_end (λ (x : Found BlockItem). is_labels x.tree ≡ false) a.2 refl
 
   stmt_plain : {x : Found BlockItem} (read : Read Stmt) → reads_stmt inner read ≡ done x → is_labels x.tree ≡ false
   stmt_plain {x} read e = let a = bind_ok e in at_end (λ (x : Found BlockItem). is_labels x.tree ≡ false) a.2 refl
 
-  named_plain : (name room : ℕ) (s : HeldScopes) (ts : List Lexeme) (x : Found BlockItem) → named_item inner name room s ts ≡ done x → is_labels x.tree ≡ false
+  named_plain : (name room : ℕ) (s : HeldScopes) (ts : List Lexeme) (x : Found BlockItem)
+      → named_item inner name room s ts ≡ done x → is_labels x.tree ≡ false
   unfolding named_item
   named_plain name room s ts x e =
       if_ok (is_colon (kind_at (behind_first ts))) (fits_ok _ _ _ e).1 (λ is e. stmt_plain _ e) (λ is e.
       if_ok (names_type s name) e (λ is e. let a = bind_ok e in item_plain _ a.2) (λ is e. stmt_plain _ e))
 
-  block_item_plain : (room : ℕ) (s : HeldScopes) (ts : List Lexeme) (x : Found BlockItem) → block_item_with inner room s ts ≡ done x → is_labels x.tree ≡ false
+  block_item_plain : (room : ℕ) (s : HeldScopes) (ts : List Lexeme) (x : Found BlockItem)
+      → block_item_with inner room s ts ≡ done x → is_labels x.tree ≡ false
   unfolding block_item_with extended_item attr_item attr_item_by other_item
   block_item_plain room s ts x e =
       if_ok (is_static_assert (kind_at ts)) e (λ is e. let r = fits_ok _ _ _ e in let a = bind_ok r.1 in at_end plain a.2 refl) (λ is e.
@@ -356,7 +383,8 @@ module _ (all : List Lexeme) (numbered : IsNumbered all) (tokens : TokenLaws all
     pub low : block_height x.tree.items ≤ room
     pub left : IsTail all x.rest
 
-  pub block_body_sound : (room : ℕ) (s : HeldScopes) (ts : List Lexeme) (x : Found Block) → 1 ≤ room → IsTail all ts → kind_at ts ≡ kinds.Punct puncts.OpenBrace → block_body inner room s ts ≡ done x → TookBody room s ts x
+  pub block_body_sound : (room : ℕ) (s : HeldScopes) (ts : List Lexeme) (x : Found Block) → 1 ≤ room → IsTail all ts
+      → kind_at ts ≡ kinds.Punct puncts.OpenBrace → block_body inner room s ts ≡ done x → TookBody room s ts x
   unfolding block_body
   block_body_sound room s ts x least tail is e =
       let a = bind_ok e in

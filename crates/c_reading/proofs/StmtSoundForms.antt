@@ -1,4 +1,5 @@
--- What the readers of statements take is spelled so and well formed, and no `else` stands behind a statement that takes one.
+-- What the readers of statements take is spelled so and well formed, and no `else` stands behind a statement that takes
+-- one.
 use Rattle.std.proofs.Common.{◌≡◌, ◌≢◌, ℕ, ◌≤◌, Bool, true, false, List, [], Option, Some, refl, sym, ◌∙◌, ap, subst, arith}
 use Rattle.std.specs.Prelude.{◌+◌, ◌-◌, ◌&&◌, max}
 use Rattle.c_words.specs.declared.kinds.TokenKind.TheVariants as kinds
@@ -32,7 +33,8 @@ use Rattle.c_reading.proofs.DeclSound.{declaration_sound}
 use Rattle.c_reading.proofs.StmtSound.{IsStmtStart, stmt_start_is, one_up, two_up, three_up, four_up, some_room, attr_room, some_scopes, own_is, some_expr_sound, part_sound, part_ended, expr_stmt_sound, label_sound, attrs_end, block_sound}
 
 -- scopes through parts between tokens
-own_two : (f g : HeldScopes → Option HeldScopes) (s a b c d : HeldScopes) → a ≡ enter s → f a ≡ Some b → c ≡ b → g c ≡ Some d → in_own_scope (λ u. behind (f u) g) s ≡ Some (leave d)
+own_two : (f g : HeldScopes → Option HeldScopes) (s a b c d : HeldScopes) → a ≡ enter s → f a ≡ Some b → c ≡ b
+    → g c ≡ Some d → in_own_scope (λ u. behind (f u) g) s ≡ Some (leave d)
 own_two f g s a b c d p q same h =
     own_is (λ u. behind (f u) g) s d (behind_is g (through f p q same) h)
 
@@ -48,7 +50,8 @@ wide_is s wide = rw wide refl
 
 module _ (all : List Lexeme) (numbered : IsNumbered all) (tokens : TokenLaws all) (n : ℕ) (inner : Inner) (laws : Laws all n inner) (goes : MixesGoOn) where
   -- a value and what stands behind it, where `case` was taken
-  value_sound : (keyword : ℕ) (value : Expr) (room : ℕ) (s u : HeldScopes) (ts : List Lexeme) (x : Found Stmt) → 2 ≤ room → IsTail all ts → IsExpr all value × (2 ≤ expr_level value) → expr_scopes value s ≡ Some u →
+  value_sound : (keyword : ℕ) (value : Expr) (room : ℕ) (s u : HeldScopes) (ts : List Lexeme) (x : Found Stmt)
+      → 2 ≤ room → IsTail all ts → IsExpr all value × (2 ≤ expr_level value) → expr_scopes value s ≡ Some u →
       expr_height value ≤ room - 1 → value_behind inner keyword value room u ts ≡ done x → Takes all (stmt_form all) room s (keyword_text keywords.Case keyword (expr_text all value ts)) x
   unfolding value_behind
   value_sound keyword value room s u ts x least tail fits named low e =
@@ -64,7 +67,8 @@ module _ (all : List Lexeme) (numbered : IsNumbered all) (tokens : TokenLaws all
         left = j.left;
       })
 
-  range_sound : (keyword : ℕ) (value : Expr) (room : ℕ) (s u : HeldScopes) (ts : List Lexeme) (x : Found Stmt) → 2 ≤ room → IsTail all ts → is_wide u ≡ true → is_dots (kind_at ts) ≡ true →
+  range_sound : (keyword : ℕ) (value : Expr) (room : ℕ) (s u : HeldScopes) (ts : List Lexeme) (x : Found Stmt)
+      → 2 ≤ room → IsTail all ts → is_wide u ≡ true → is_dots (kind_at ts) ≡ true →
       IsExpr all value × (2 ≤ expr_level value) → expr_scopes value s ≡ Some u → expr_height value ≤ room - 1 → range_behind inner keyword value room u ts ≡ done x →
       Takes all (stmt_form all) room s (keyword_text keywords.Case keyword (expr_text all value ts)) x
   unfolding range_behind
@@ -86,7 +90,9 @@ module _ (all : List Lexeme) (numbered : IsNumbered all) (tokens : TokenLaws all
         left = j.left;
       })
 
-  case_sound : (room : ℕ) (s : HeldScopes) (ts : List Lexeme) (x : Found Stmt) → IsTail all ts → kind_at ts ≡ kinds.Keyword keywords.Case → case_with inner room s ts ≡ done x → Takes all (stmt_form all) room s ts x
+  case_sound : (room : ℕ) (s : HeldScopes) (ts : List Lexeme) (x : Found Stmt) → IsTail all ts
+      → kind_at ts ≡ kinds.Keyword keywords.Case → case_with inner room s ts ≡ done x
+      → Takes all (stmt_form all) room s ts x
   unfolding case_with
   case_sound room s ts x tail is e =
       let r = fits_ok _ _ _ e in
@@ -107,7 +113,9 @@ module _ (all : List Lexeme) (numbered : IsNumbered all) (tokens : TokenLaws all
         left = t.left;
       }
 
-  default_sound : (room : ℕ) (s : HeldScopes) (ts : List Lexeme) (x : Found Stmt) → IsTail all ts → kind_at ts ≡ kinds.Keyword keywords.Default → default_with inner room s ts ≡ done x → Takes all (stmt_form all) room s ts x
+  default_sound : (room : ℕ) (s : HeldScopes) (ts : List Lexeme) (x : Found Stmt) → IsTail all ts
+      → kind_at ts ≡ kinds.Keyword keywords.Default → default_with inner room s ts ≡ done x
+      → Takes all (stmt_form all) room s ts x
   unfolding default_with
   default_sound room s ts x tail is e =
       let r = fits_ok _ _ _ e in
@@ -138,7 +146,9 @@ module _ (all : List Lexeme) (numbered : IsNumbered all) (tokens : TokenLaws all
   not_taken true h = absurd (h refl)
   not_taken false h = refl
 
-  some_else_sound : (before : Stmt) (room : ℕ) (s : HeldScopes) (ts : List Lexeme) (x : Found SomeElse) → (takes_else before ≡ true → is_else (kind_at ts) ≡ false) → IsTail all ts → some_else_with inner room s ts ≡ done x → TookElse before room s ts x
+  some_else_sound : (before : Stmt) (room : ℕ) (s : HeldScopes) (ts : List Lexeme) (x : Found SomeElse)
+      → (takes_else before ≡ true → is_else (kind_at ts) ≡ false) → IsTail all ts
+      → some_else_with inner room s ts ≡ done x → TookElse before room s ts x
   unfolding some_else_with
   some_else_sound before room s ts x ended tail e =
       if_ok (is_else (kind_at ts)) e (λ is e.
@@ -163,13 +173,16 @@ module _ (all : List Lexeme) (numbered : IsNumbered all) (tokens : TokenLaws all
     low : stmt_height x.tree ≤ room
     left : IsTail all x.rest
 
-  inside_is : (room : ℕ) (s : HeldScopes) (ts : List Lexeme) (read : Reader Stmt) (x : Found Stmt) → ((y : Found Stmt) → read (enter s) ts ≡ done y → TookInside room (enter s) ts y) → in_own read s ts ≡ done x → Takes all (stmt_form all) room s ts x
+  inside_is : (room : ℕ) (s : HeldScopes) (ts : List Lexeme) (read : Reader Stmt) (x : Found Stmt)
+      → ((y : Found Stmt) → read (enter s) ts ≡ done y → TookInside room (enter s) ts y) → in_own read s ts ≡ done x
+      → Takes all (stmt_form all) room s ts x
   inside_is room s ts read x inside e =
       let a = bind_ok e in
       let i = inside a.0 a.1 in
       at_end (Takes all (stmt_form all) room s ts) a.2 (record { spelled = i.spelled; fits = i.fits; named = i.named s refl; low = i.low; left = i.left })
 
-  if_sound : (room : ℕ) (s : HeldScopes) (ts : List Lexeme) (x : Found Stmt) → 2 ≤ room → IsTail all ts → kind_at ts ≡ kinds.Keyword keywords.If → if_inside inner room s ts ≡ done x → TookInside room s ts x
+  if_sound : (room : ℕ) (s : HeldScopes) (ts : List Lexeme) (x : Found Stmt) → 2 ≤ room → IsTail all ts
+      → kind_at ts ≡ kinds.Keyword keywords.If → if_inside inner room s ts ≡ done x → TookInside room s ts x
   unfolding if_inside
   if_sound room s ts x least tail is e =
       let a = bind_ok e in
@@ -199,7 +212,8 @@ module _ (all : List Lexeme) (numbered : IsNumbered all) (tokens : TokenLaws all
       ((a b c : ℕ) (e : Expr) (t : Stmt) → IsExpr all e → IsStmt all t → IsStmt all (make a b e c t)) →
       ((a b c : ℕ) (e : Expr) (t : Stmt) (s : HeldScopes) → stmt_scopes (make a b e c t) s ≡ in_own_scope (λ u. behind (expr_scopes e u) (in_own_scope (stmt_scopes t))) s) →
       ((a b c : ℕ) (e : Expr) (t : Stmt) → stmt_height (make a b e c t) ≡ max (expr_height e) (stmt_height t) + 1) →
-      (room : ℕ) (s : HeldScopes) (ts : List Lexeme) (x : Found Stmt) → 2 ≤ room → IsTail all ts → kind_at ts ≡ kinds.Keyword keyword → headed_inside inner make room s ts ≡ done x → TookInside room s ts x
+      (room : ℕ) (s : HeldScopes) (ts : List Lexeme) (x : Found Stmt) → 2 ≤ room → IsTail all ts
+      → kind_at ts ≡ kinds.Keyword keyword → headed_inside inner make room s ts ≡ done x → TookInside room s ts x
   unfolding headed_inside
   headed_sound make keyword text fits scopes high room s ts x least tail is e =
       let a = bind_ok e in
@@ -221,7 +235,8 @@ module _ (all : List Lexeme) (numbered : IsNumbered all) (tokens : TokenLaws all
         left = j.left;
       })
 
-  do_sound : (room : ℕ) (s : HeldScopes) (ts : List Lexeme) (x : Found Stmt) → 2 ≤ room → IsTail all ts → kind_at ts ≡ kinds.Keyword keywords.Do → do_inside inner room s ts ≡ done x → TookInside room s ts x
+  do_sound : (room : ℕ) (s : HeldScopes) (ts : List Lexeme) (x : Found Stmt) → 2 ≤ room → IsTail all ts
+      → kind_at ts ≡ kinds.Keyword keywords.Do → do_inside inner room s ts ≡ done x → TookInside room s ts x
   unfolding do_inside
   do_sound room s ts x least tail is e =
       let a = bind_ok e in
@@ -250,7 +265,9 @@ module _ (all : List Lexeme) (numbered : IsNumbered all) (tokens : TokenLaws all
   abbrev for_start_form : Form ForStart
   for_start_form = record { text = for_start_text all; Fits = IsStart all; scopes = for_start_scopes; height = for_start_height }
 
-  start_value_sound : (begun : Begun) (room : ℕ) (s : HeldScopes) (ts : List Lexeme) (x : Found ForStart) → IsTail all ts → start_value_with inner begun room s ts ≡ done x → Takes all for_start_form room s (begun_text begun ts) x
+  start_value_sound : (begun : Begun) (room : ℕ) (s : HeldScopes) (ts : List Lexeme) (x : Found ForStart)
+      → IsTail all ts → start_value_with inner begun room s ts ≡ done x
+      → Takes all for_start_form room s (begun_text begun ts) x
   unfolding start_value_with
   start_value_sound begun room s ts x tail e =
       let a = bind_ok e in
@@ -278,10 +295,13 @@ module _ (all : List Lexeme) (numbered : IsNumbered all) (tokens : TokenLaws all
       let a = bind_ok e in
       at_end (Takes all for_start_form room s ts) a.2 (of_decl s ts a.0 refl refl (declaration_sound all numbered tokens n inner laws goes [] room s ts a.0 tail a.1))) (λ begun e. start_value_sound nothing room s ts x tail e)))
     where
-      of_decl : (t : HeldScopes) (us : List Lexeme) (y : Found Declaration) → ts ≡ us → t ≡ s → Takes all (declaration_form all) room t us y → Takes all for_start_form room s ts (found (start_declaration y.tree) y.scopes y.rest)
+      of_decl : (t : HeldScopes) (us : List Lexeme) (y : Found Declaration) → ts ≡ us → t ≡ s
+          → Takes all (declaration_form all) room t us y
+          → Takes all for_start_form room s ts (found (start_declaration y.tree) y.scopes y.rest)
       of_decl t us y is same h = record { spelled = is ∙ h.spelled; fits = h.fits; named = subst (λ (u : HeldScopes). declaration_scopes y.tree u ≡ Some y.scopes) same h.named; low = h.low; left = h.left }
 
-  for_sound : (room : ℕ) (s : HeldScopes) (ts : List Lexeme) (x : Found Stmt) → 2 ≤ room → IsTail all ts → kind_at ts ≡ kinds.Keyword keywords.For → for_inside inner room s ts ≡ done x → TookInside room s ts x
+  for_sound : (room : ℕ) (s : HeldScopes) (ts : List Lexeme) (x : Found Stmt) → 2 ≤ room → IsTail all ts
+      → kind_at ts ≡ kinds.Keyword keywords.For → for_inside inner room s ts ≡ done x → TookInside room s ts x
   unfolding for_inside
   for_sound room s ts x least tail is e =
       let a = bind_ok e in
@@ -311,7 +331,8 @@ module _ (all : List Lexeme) (numbered : IsNumbered all) (tokens : TokenLaws all
         left = v.left;
       })
 
-  goto_name_sound : (keyword room : ℕ) (s : HeldScopes) (ts : List Lexeme) (x : Found Stmt) → 1 ≤ room → IsTail all ts → goto_name inner keyword s ts ≡ done x →
+  goto_name_sound : (keyword room : ℕ) (s : HeldScopes) (ts : List Lexeme) (x : Found Stmt) → 1 ≤ room → IsTail all ts
+      → goto_name inner keyword s ts ≡ done x →
       Takes all (stmt_form all) room s (keyword_text keywords.Goto keyword ts) x
   unfolding goto_name
   goto_name_sound keyword room s ts x least tail e =
@@ -327,7 +348,8 @@ module _ (all : List Lexeme) (numbered : IsNumbered all) (tokens : TokenLaws all
         left = q.left;
       })
 
-  goto_value_sound : (keyword room : ℕ) (s : HeldScopes) (ts : List Lexeme) (x : Found Stmt) → IsTail all ts → is_wide s ≡ true → is_star (kind_at ts) ≡ true → goto_value_with inner keyword room s ts ≡ done x →
+  goto_value_sound : (keyword room : ℕ) (s : HeldScopes) (ts : List Lexeme) (x : Found Stmt) → IsTail all ts
+      → is_wide s ≡ true → is_star (kind_at ts) ≡ true → goto_value_with inner keyword room s ts ≡ done x →
       Takes all (stmt_form all) room s (keyword_text keywords.Goto keyword ts) x
   unfolding goto_value_with
   goto_value_sound keyword room s ts x tail wide star e =
@@ -346,7 +368,9 @@ module _ (all : List Lexeme) (numbered : IsNumbered all) (tokens : TokenLaws all
         left = q.left;
       })
 
-  goto_sound : (room : ℕ) (s : HeldScopes) (ts : List Lexeme) (x : Found Stmt) → IsTail all ts → kind_at ts ≡ kinds.Keyword keywords.Goto → goto_with inner room s ts ≡ done x → Takes all (stmt_form all) room s ts x
+  goto_sound : (room : ℕ) (s : HeldScopes) (ts : List Lexeme) (x : Found Stmt) → IsTail all ts
+      → kind_at ts ≡ kinds.Keyword keywords.Goto → goto_with inner room s ts ≡ done x
+      → Takes all (stmt_form all) room s ts x
   unfolding goto_with
   goto_sound room s ts x tail is e =
       let r = fits_ok _ _ _ e in
@@ -358,9 +382,13 @@ module _ (all : List Lexeme) (numbered : IsNumbered all) (tokens : TokenLaws all
       (λ is e. goto_name_sound a.0.tree room a.0.scopes a.0.rest x r.0 o.left e) in
       behind_token all (stmt_form all) room (kinds.Keyword keywords.Goto) s ts a.0 x o t
 
-  jump_sound : (make : ℕ → ℕ → Stmt) (keyword : Keyword) → ((a b : ℕ) (k : List Lexeme) → keyword_text keyword a (sign_text puncts.Semicolon b k) ≡ stmt_text all (make a b) k) → ((a b : ℕ) → IsStmt all (make a b)) →
+  jump_sound : (make : ℕ → ℕ → Stmt) (keyword : Keyword)
+      → ((a b : ℕ) (k : List Lexeme) → keyword_text keyword a (sign_text puncts.Semicolon b k) ≡ stmt_text all (make a b) k)
+      → ((a b : ℕ) → IsStmt all (make a b)) →
       ((a b : ℕ) (s : HeldScopes) → stmt_scopes (make a b) s ≡ Some s) → ((a b : ℕ) → stmt_height (make a b) ≡ 1) →
-      (room : ℕ) (s : HeldScopes) (ts : List Lexeme) (x : Found Stmt) → IsTail all ts → kind_at ts ≡ kinds.Keyword keyword → jump_with inner make room s ts ≡ done x → Takes all (stmt_form all) room s ts x
+      (room : ℕ) (s : HeldScopes) (ts : List Lexeme) (x : Found Stmt) → IsTail all ts
+      → kind_at ts ≡ kinds.Keyword keyword → jump_with inner make room s ts ≡ done x
+      → Takes all (stmt_form all) room s ts x
   unfolding jump_with
   jump_sound make keyword text fits scopes high room s ts x tail is e =
       let r = fits_ok _ _ _ e in
@@ -376,7 +404,9 @@ module _ (all : List Lexeme) (numbered : IsNumbered all) (tokens : TokenLaws all
         left = q.left;
       })
 
-  return_sound : (room : ℕ) (s : HeldScopes) (ts : List Lexeme) (x : Found Stmt) → IsTail all ts → kind_at ts ≡ kinds.Keyword keywords.Return → return_with inner room s ts ≡ done x → Takes all (stmt_form all) room s ts x
+  return_sound : (room : ℕ) (s : HeldScopes) (ts : List Lexeme) (x : Found Stmt) → IsTail all ts
+      → kind_at ts ≡ kinds.Keyword keywords.Return → return_with inner room s ts ≡ done x
+      → Takes all (stmt_form all) room s ts x
   unfolding return_with
   return_sound room s ts x tail is e =
       let r = fits_ok _ _ _ e in
@@ -394,7 +424,9 @@ module _ (all : List Lexeme) (numbered : IsNumbered all) (tokens : TokenLaws all
         left = q.left;
       })
 
-  asm_sound : (room : ℕ) (s : HeldScopes) (ts : List Lexeme) (x : Found Stmt) → IsTail all ts → kind_at ts ≡ kinds.Keyword keywords.Asm → asm_with inner room s ts ≡ done x → Takes all (stmt_form all) room s ts x
+  asm_sound : (room : ℕ) (s : HeldScopes) (ts : List Lexeme) (x : Found Stmt) → IsTail all ts
+      → kind_at ts ≡ kinds.Keyword keywords.Asm → asm_with inner room s ts ≡ done x
+      → Takes all (stmt_form all) room s ts x
   unfolding asm_with
   asm_sound room s ts x tail is e =
       let r = fits_ok _ _ _ e in
@@ -414,7 +446,9 @@ module _ (all : List Lexeme) (numbered : IsNumbered all) (tokens : TokenLaws all
         left = q.left;
       })
 
-  attr_stmt_sound : (room : ℕ) (s : HeldScopes) (ts : List Lexeme) (x : Found Stmt) → IsTail all ts → kind_at ts ≡ kinds.Keyword keywords.Attribute → attr_stmt_with inner room s ts ≡ done x → Takes all (stmt_form all) room s ts x
+  attr_stmt_sound : (room : ℕ) (s : HeldScopes) (ts : List Lexeme) (x : Found Stmt) → IsTail all ts
+      → kind_at ts ≡ kinds.Keyword keywords.Attribute → attr_stmt_with inner room s ts ≡ done x
+      → Takes all (stmt_form all) room s ts x
   unfolding attr_stmt_with
   attr_stmt_sound room s ts x tail is e =
       let a = bind_ok e in
@@ -425,14 +459,16 @@ module _ (all : List Lexeme) (numbered : IsNumbered all) (tokens : TokenLaws all
       attrs_end all numbered tokens n inner laws goes room s ts a.0 a.1) in
       at_end (Takes all (stmt_form all) room s ts) b.2 (record { spelled = i.spelled ∙ ap (attrs_text all a.0.tree) q.spelled; fits = (some, i.fits); named = i.named ∙ ap Some (sym q.same); low = attr_room a.0.tree room some i.low; left = q.left })
 
-  named_stmt_sound : (name room : ℕ) (s : HeldScopes) (ts : List Lexeme) (x : Found Stmt) → IsTail all ts → named_stmt inner name room s ts ≡ done x → Takes all (stmt_form all) room s ts x
+  named_stmt_sound : (name room : ℕ) (s : HeldScopes) (ts : List Lexeme) (x : Found Stmt) → IsTail all ts
+      → named_stmt inner name room s ts ≡ done x → Takes all (stmt_form all) room s ts x
   unfolding named_stmt
   named_stmt_sound name room s ts x tail e =
       let r = fits_ok _ _ _ e in
       if_ok (is_colon (kind_at (behind_first ts))) r.1 (λ c e. label_sound all numbered tokens n inner laws goes (attrs_end all numbered tokens n inner laws goes) room s ts x r.0 tail e) (λ c e.
       if_ok (names_type s name) e (λ typed e. absurd cc) (λ typed e. expr_stmt_sound all numbered tokens n inner laws goes nothing room s ts x (some_room room r.0) tail e))
 
-  stmt_by_sound : (start : StmtStart) (room : ℕ) (s : HeldScopes) (ts : List Lexeme) (x : Found Stmt) → IsTail all ts → IsStmtStart start (kind_at ts) → stmt_by inner start room s ts ≡ done x → Takes all (stmt_form all) room s ts x
+  stmt_by_sound : (start : StmtStart) (room : ℕ) (s : HeldScopes) (ts : List Lexeme) (x : Found Stmt) → IsTail all ts
+      → IsStmtStart start (kind_at ts) → stmt_by inner start room s ts ≡ done x → Takes all (stmt_form all) room s ts x
   unfolding stmt_by
   stmt_by_sound starts.Block room s ts x tail is e =
       let a = bind_ok e in

@@ -9,7 +9,8 @@ use Rattle.c_tree.specs.WellFormed.{IsElement, IsElementKind}
 use Rattle.c_reading.specs.Reading.{IsNumbered, IsTail}
 
 -- what stands at a number, and behind it
-at_drop : (all : List Lexeme) (n : ℕ) (t : Lexeme) (ts : List Lexeme) → drop n all ≡ t ∷ ts → (slice_get all n ≡ Some t) × (drop (suc n) all ≡ ts)
+at_drop : (all : List Lexeme) (n : ℕ) (t : Lexeme) (ts : List Lexeme) → drop n all ≡ t ∷ ts
+    → (slice_get all n ≡ Some t) × (drop (suc n) all ≡ ts)
 at_drop [] zero t ts h = absurd cc
 at_drop [] (suc n) t ts h = absurd cc
 at_drop (u ∷ us) zero t ts h = (ap Some (head_is u t us ts h), tail_is u t us ts h)
@@ -35,7 +36,8 @@ module _ (all : List Lexeme) where
     number_next t u ts h = number_is u ts (tail_of t (u ∷ ts) h) ∙ ap suc (sym (number_is t (u ∷ ts) h))
 
     -- a comma has the number before that of the token behind it
-    pub comma_is : (t u : Lexeme) (ts : List Lexeme) → IsTail all (t ∷ u ∷ ts) → t.kind ≡ kinds.Punct Comma → t ∷ u ∷ ts ≡ separated (u ∷ ts)
+    pub comma_is : (t u : Lexeme) (ts : List Lexeme) → IsTail all (t ∷ u ∷ ts) → t.kind ≡ kinds.Punct Comma
+        → t ∷ u ∷ ts ≡ separated (u ∷ ts)
     comma_is t u ts h is =
         let next : u.at ≡ suc t.at = number_next t u ts h in
         let before : t.at ≡ u.at - 1 = omega (arith, next) in
@@ -54,7 +56,8 @@ module _ (all : List Lexeme) where
         by_number n is = ap (λ (m : ℕ). take (n + 1 - n) (drop m all)) is ∙ ap (λ (us : List Lexeme). take (n + 1 - n) us) (sym h.1) ∙ ap (λ (m : ℕ). take m (t ∷ ts)) (one_is n)
 
     -- a word that names an element is one token, with its number
-    pub element_spelled : (token : ℕ) → IsElement (tokens_between all token token) → (t : Lexeme) × (tokens_between all token token ≡ t ∷ []) × (t.at ≡ token) × IsElementKind t.kind
+    pub element_spelled : (token : ℕ) → IsElement (tokens_between all token token)
+        → (t : Lexeme) × (tokens_between all token token ≡ t ∷ []) × (t.at ≡ token) × IsElementKind t.kind
     element_spelled token h = by_rest (drop token all) refl (by_take token (drop token all) h)
       where
         one_is : (n : ℕ) → n + 1 - n ≡ 1
@@ -63,7 +66,8 @@ module _ (all : List Lexeme) where
         by_take : (n : ℕ) (ts : List Lexeme) → IsElement (take (n + 1 - n) ts) → IsElement (take 1 ts)
         by_take n ts h = subst (λ (m : ℕ). IsElement (take m ts)) (one_is n) h
 
-        by_rest : (ts : List Lexeme) → drop token all ≡ ts → IsElement (take 1 ts) → (t : Lexeme) × (tokens_between all token token ≡ t ∷ []) × (t.at ≡ token) × IsElementKind t.kind
+        by_rest : (ts : List Lexeme) → drop token all ≡ ts → IsElement (take 1 ts)
+            → (t : Lexeme) × (tokens_between all token token ≡ t ∷ []) × (t.at ≡ token) × IsElementKind t.kind
         by_rest [] is h = absurd h
         by_rest (t ∷ ts) is h =
             (t, rw (one_is token, is) refl, numbered token t (at_drop all token t ts is).0, h)

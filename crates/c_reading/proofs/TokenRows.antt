@@ -32,11 +32,13 @@ IsSoundWhere all {T} begins form room read = (s : HeldScopes) (ts : List Lexeme)
 
 module _ {T : Type 0} (begins : TokenKind → Bool) (read : Reader T) where
   -- what one turn read, and that its first token passed the test
-  turn_where : (xs : List T) (s : HeldScopes) (ts : List Lexeme) (x : Found (List T)) → repeated_turn begins read xs s ts ≡ Some (done x) →
+  turn_where : (xs : List T) (s : HeldScopes) (ts : List Lexeme) (x : Found (List T))
+      → repeated_turn begins read xs s ts ≡ Some (done x) →
       (begins (kind_at ts) ≡ true) × (y : Found T) × (read s ts ≡ done y) × (found (xs ++ y.tree ∷ []) y.scopes y.rest ≡ x)
   turn_where xs s ts x e = by_test (begins (kind_at ts)) refl e
     where
-      by_test : (b : Bool) → begins (kind_at ts) ≡ b → (if b then Some (and_then (read s ts) (λ y. ends (xs ++ y.tree ∷ []) y.scopes y.rest)) else None) ≡ Some (done x) →
+      by_test : (b : Bool) → begins (kind_at ts) ≡ b
+          → (if b then Some (and_then (read s ts) (λ y. ends (xs ++ y.tree ∷ []) y.scopes y.rest)) else None) ≡ Some (done x) →
           (begins (kind_at ts) ≡ true) × (y : Found T) × (read s ts ≡ done y) × (found (xs ++ y.tree ∷ []) y.scopes y.rest ≡ x)
       by_test false is e = absurd cc
       by_test true is e =
@@ -44,18 +46,21 @@ module _ {T : Type 0} (begins : TokenKind → Bool) (read : Reader T) where
           let b = bind_ok e' in
           (is, b.0, b.1, ok_is b.2)
 
-  push_text : (form : Form T) (xs : List T) (x : T) (k : List Lexeme) → row_text form (xs ++ x ∷ []) k ≡ row_text form xs (form.text x k)
+  push_text : (form : Form T) (xs : List T) (x : T) (k : List Lexeme)
+      → row_text form (xs ++ x ∷ []) k ≡ row_text form xs (form.text x k)
   push_text form [] x k = refl
   push_text form (y ∷ xs) x k = ap (form.text y) (push_text form xs x k)
 
   module _ (all : List Lexeme) (form : Form T) (room : ℕ) where
-    pub repeated_sound_where : IsSoundWhere all begins form room read → IsSound all (row_form form) room (repeated begins read)
+    pub repeated_sound_where : IsSoundWhere all begins form room read
+        → IsSound all (row_form form) room (repeated begins read)
     unfolding repeated
     repeated_sound_where sound s ts x tail e =
         run-keep (repeated_turn begins read) (λ xs t k. Takes all (row_form form) room s ts (found xs t k)) step [] s ts x
         (record { spelled = refl; fits = tt; named = refl; low = omega arith; left = tail }) e
       where
-        step : (xs : List T) (t : HeldScopes) (k : List Lexeme) (x : Found (List T)) → Takes all (row_form form) room s ts (found xs t k) → repeated_turn begins read xs t k ≡ Some (done x) →
+        step : (xs : List T) (t : HeldScopes) (k : List Lexeme) (x : Found (List T))
+            → Takes all (row_form form) room s ts (found xs t k) → repeated_turn begins read xs t k ≡ Some (done x) →
             Takes all (row_form form) room s ts x
         step xs t k x h e =
             let p = turn_where xs t k x e in
@@ -77,7 +82,8 @@ pub record Same {T : Type 0} (f g : Form T) : Type 0 where
   pub lower : (x : T) (room : ℕ) → f.height x ≤ room → g.height x ≤ room
   pub higher : (x : T) (room : ℕ) → g.height x ≤ room → f.height x ≤ room
 
-pub sound_as : (all : List Lexeme) {T : Type 0} (f g : Form T) → Same f g → (room : ℕ) (read : Reader T) → IsSound all f room read → IsSound all g room read
+pub sound_as : (all : List Lexeme) {T : Type 0} (f g : Form T) → Same f g → (room : ℕ) (read : Reader T)
+    → IsSound all f room read → IsSound all g room read
 sound_as all f g same room read sound s ts x tail e =
     let i = sound s ts x tail e in
     record {
@@ -89,7 +95,8 @@ sound_as all f g same room read sound s ts x tail e =
     }
 
 -- a row of tokens that change no scope, before a token that begins none
-pub row_complete : {T : Type 0} (begins : TokenKind → Bool) (read : Reader T) (item : Form T) (form : Form (List T)) → Same (row_form item) form → (room : ℕ) → Shrinks read →
+pub row_complete : {T : Type 0} (begins : TokenKind → Bool) (read : Reader T) (item : Form T) (form : Form (List T))
+    → Same (row_form item) form → (room : ℕ) → Shrinks read →
     ((x : T) (s : HeldScopes) (k : List Lexeme) → item.Fits x → item.height x ≤ room → read s (item.text x k) ≡ done (found x s k)) →
     ((x : T) (s : HeldScopes) → item.scopes x s ≡ Some s) →
     ((x : T) (k : List Lexeme) → item.Fits x → begins (kind_at (item.text x k)) ≡ true) →
@@ -135,7 +142,8 @@ made_sound all {A} of form room flat low spells s (t ∷ ts) x tail e = by_made 
         let p = spells t ts make tail is in
         at_end (Takes all form room s (t ∷ ts)) e (record { spelled = p.0; fits = p.1; named = flat (make t.at) s; low = low (make t.at); left = tail_of all t ts tail })
 
-pub made_is : {A : Type 0} (of : TokenKind → Option (ℕ → A)) (make : ℕ → A) (kind : TokenKind) (token : ℕ) (s : HeldScopes) (k : List Lexeme) → of kind ≡ Some make →
+pub made_is : {A : Type 0} (of : TokenKind → Option (ℕ → A)) (make : ℕ → A) (kind : TokenKind) (token : ℕ) (s : HeldScopes) (k : List Lexeme)
+    → of kind ≡ Some make →
     made_at of s (plain_text kind token k) ≡ done (found (make token) s k)
 made_is of make kind token s k is = rw is refl
 
@@ -156,19 +164,23 @@ text_text [] k = refl
 text_text (x ∷ xs) k = ap (λ (ts : List Lexeme). plain_text kinds.Text x ts) (text_text xs k)
 
 -- rows of items that obey nothing and change no scope
-pub flat_scopes : {T : Type 0} (item : Form T) → ((x : T) (s : HeldScopes) → item.scopes x s ≡ Some s) → (xs : List T) (s : HeldScopes) → row_scopes item xs s ≡ Some s
+pub flat_scopes : {T : Type 0} (item : Form T) → ((x : T) (s : HeldScopes) → item.scopes x s ≡ Some s)
+    → (xs : List T) (s : HeldScopes) → row_scopes item xs s ≡ Some s
 flat_scopes item flat [] s = refl
 flat_scopes item flat (x ∷ xs) s = ap (λ (r : Option HeldScopes). behind r (row_scopes item xs)) (flat x s) ∙ flat_scopes item flat xs s
 
-pub low_row : {T : Type 0} (item : Form T) (room : ℕ) → ((x : T) → item.height x ≤ room) → (xs : List T) → row_height item xs ≤ room
+pub low_row : {T : Type 0} (item : Form T) (room : ℕ) → ((x : T) → item.height x ≤ room) → (xs : List T)
+    → row_height item xs ≤ room
 low_row item room low [] = omega arith
 low_row item room low (x ∷ xs) = let rest : row_height item xs ≤ room = low_row item room low xs in omega (arith, low x, rest)
 
-pub fit_all : {T : Type 0} (item : Form T) (P : T → Type 0) → ((x : T) → item.Fits x → P x) → (xs : List T) → AllFit item xs → All P xs
+pub fit_all : {T : Type 0} (item : Form T) (P : T → Type 0) → ((x : T) → item.Fits x → P x) → (xs : List T)
+    → AllFit item xs → All P xs
 fit_all item P to [] h = All-nil P
 fit_all item P to (x ∷ xs) h = All-cons P x xs (to x h.0) (fit_all item P to xs h.1)
 
-pub all_fit : {T : Type 0} (item : Form T) (P : T → Type 0) → ((x : T) → P x → item.Fits x) → (xs : List T) → All P xs → AllFit item xs
+pub all_fit : {T : Type 0} (item : Form T) (P : T → Type 0) → ((x : T) → P x → item.Fits x) → (xs : List T) → All P xs
+    → AllFit item xs
 all_fit item P to [] h = tt
 all_fit item P to (x ∷ xs) h = (to x (All-head P x xs h), all_fit item P to xs (All-tail P x xs h))
 
@@ -229,7 +241,8 @@ module _ (all : List Lexeme) where
   unfolding extensions_at
   exts_sound room = sound_as all (row_form ext_item) (exts_form all) exts_same room (repeated is_extension (ext_read room)) (repeated_sound_where is_extension (ext_read room) all ext_item room (ext_sound room))
 
-  pub exts_complete : (room : ℕ) → IsComplete (exts_form all) (λ xs kind. not (is_extension kind)) room (extensions_at room)
+  pub exts_complete : (room : ℕ)
+      → IsComplete (exts_form all) (λ xs kind. not (is_extension kind)) room (extensions_at room)
   unfolding extensions_at
   exts_complete room = row_complete is_extension (ext_read room) ext_item (exts_form all) exts_same room (ext_shrinks room)
       (λ x s k f l. fits_is 2 room _ _ l) (λ x s. refl) (λ x k f. refl)
@@ -323,7 +336,8 @@ module _ (all : List Lexeme) where
   make_is e = cc
 
   module _ (numbered : IsNumbered all) where
-    qual_by_kind : (kind : TokenKind) (n : ℕ) (ts : List Lexeme) (make : ℕ → Qual) → IsTail all (record { kind = kind; at = n } ∷ ts) → qual_of kind ≡ Some make → Says n ts kind make
+    qual_by_kind : (kind : TokenKind) (n : ℕ) (ts : List Lexeme) (make : ℕ → Qual)
+        → IsTail all (record { kind = kind; at = n } ∷ ts) → qual_of kind ≡ Some make → Says n ts kind make
     qual_by_kind (kinds.Keyword keywords.Const) n ts make tail e = subst (Says n ts (kinds.Keyword keywords.Const)) (make_is e) (refl, refl)
     qual_by_kind (kinds.Keyword keywords.Volatile) n ts make tail e = subst (Says n ts (kinds.Keyword keywords.Volatile)) (make_is e) (refl, refl)
     qual_by_kind (kinds.Keyword keywords.Restrict) n ts make tail e = subst (Says n ts (kinds.Keyword keywords.Restrict)) (make_is e) (refl, refl)
@@ -337,7 +351,8 @@ module _ (all : List Lexeme) where
     qual_by_kind kinds.Index n ts make tail e = subst (Says n ts kinds.Index) (make_is e) (refl, tt)
     qual_by_kind kind n ts make tail e = absurd cc
 
-    pub qual_spells : (t : Lexeme) (ts : List Lexeme) (make : ℕ → Qual) → IsTail all (t ∷ ts) → qual_of t.kind ≡ Some make →
+    pub qual_spells : (t : Lexeme) (ts : List Lexeme) (make : ℕ → Qual) → IsTail all (t ∷ ts)
+        → qual_of t.kind ≡ Some make →
         (t ∷ ts ≡ qual_text all (make t.at) ts) × IsQual all (make t.at)
     qual_spells t ts make tail e = qual_by_kind t.kind t.at ts make tail e
 
@@ -349,7 +364,8 @@ module _ (all : List Lexeme) where
     word_qual_is (kinds.Keyword keywords.AtomicType) make e = absurd cc
     word_qual_is kind make e = e
 
-    word_plain : (kind : TokenKind) (n : ℕ) (make : ℕ → Qual) → word_qual_of kind ≡ Some make → is_word_qual (make n) ≡ true
+    word_plain : (kind : TokenKind) (n : ℕ) (make : ℕ → Qual) → word_qual_of kind ≡ Some make
+        → is_word_qual (make n) ≡ true
     word_plain (kinds.Keyword keywords.Const) n make e = subst (λ (make : ℕ → Qual). is_word_qual (make n) ≡ true) (make_is e) refl
     word_plain (kinds.Keyword keywords.Volatile) n make e = subst (λ (make : ℕ → Qual). is_word_qual (make n) ≡ true) (make_is e) refl
     word_plain (kinds.Keyword keywords.Restrict) n make e = subst (λ (make : ℕ → Qual). is_word_qual (make n) ≡ true) (make_is e) refl
@@ -359,7 +375,8 @@ module _ (all : List Lexeme) where
     word_plain kinds.Index n make e = subst (λ (make : ℕ → Qual). is_word_qual (make n) ≡ true) (make_is e) refl
     word_plain kind n make e = absurd cc
 
-    word_spells : (t : Lexeme) (ts : List Lexeme) (make : ℕ → Qual) → IsTail all (t ∷ ts) → word_qual_of t.kind ≡ Some make →
+    word_spells : (t : Lexeme) (ts : List Lexeme) (make : ℕ → Qual) → IsTail all (t ∷ ts)
+        → word_qual_of t.kind ≡ Some make →
         (t ∷ ts ≡ qual_text all (make t.at) ts) × IsWordQual all (make t.at)
     word_spells t ts make tail e =
         let p = qual_spells t ts make tail (word_qual_is t.kind make e) in
@@ -386,7 +403,8 @@ module _ (all : List Lexeme) where
       pub text : qual_text all q k ≡ plain_text kind token k
       pub made : make token ≡ q
 
-    word_token : (keyword : Keyword) (token : ℕ) (k : List Lexeme) → is_qual keyword ≡ true → QualToken (quals.Word (word_of keyword token)) k
+    word_token : (keyword : Keyword) (token : ℕ) (k : List Lexeme) → is_qual keyword ≡ true
+        → QualToken (quals.Word (word_of keyword token)) k
     word_token keywords.Const token k h = record { kind = kinds.Keyword keywords.Const; token = token; make = λ n. quals.Word (word_of keywords.Const n); is = refl; text = refl; made = refl }
     word_token keywords.Volatile token k h = record { kind = kinds.Keyword keywords.Volatile; token = token; make = λ n. quals.Word (word_of keywords.Volatile n); is = refl; text = refl; made = refl }
     word_token keywords.Restrict token k h = record { kind = kinds.Keyword keywords.Restrict; token = token; make = λ n. quals.Word (word_of keywords.Restrict n); is = refl; text = refl; made = refl }
@@ -408,53 +426,62 @@ module _ (all : List Lexeme) where
         element_token p.0.kind p.0.at token k p.3 p.1 p.2
     qual_token (quals.Index token) k h = record { kind = kinds.Index; token = token; make = quals.Index; is = refl; text = refl; made = refl }
 
-    pub qual_read : (q : Qual) (s : HeldScopes) (k : List Lexeme) → IsQual all q → made_at qual_of s (qual_text all q k) ≡ done (found q s k)
+    pub qual_read : (q : Qual) (s : HeldScopes) (k : List Lexeme) → IsQual all q
+        → made_at qual_of s (qual_text all q k) ≡ done (found q s k)
     qual_read q s k h =
         let t = qual_token q k h in
         ap (λ (ts : List Lexeme). made_at qual_of s ts) t.text ∙ made_is qual_of t.make t.kind t.token s k t.is ∙ ap (λ (q : Qual). done (found q s k)) t.made
 
-    some_made : {A : Type 0} (of : TokenKind → Option (ℕ → A)) (kind : TokenKind) (make : ℕ → A) → of kind ≡ Some make → is_made (of kind) ≡ true
+    some_made : {A : Type 0} (of : TokenKind → Option (ℕ → A)) (kind : TokenKind) (make : ℕ → A) → of kind ≡ Some make
+        → is_made (of kind) ≡ true
     some_made of kind make e = rw e refl
 
-    pub qual_starts : (q : Qual) (k : List Lexeme) → IsQual all q → is_made (qual_of (kind_at (qual_text all q k))) ≡ true
+    pub qual_starts : (q : Qual) (k : List Lexeme) → IsQual all q
+        → is_made (qual_of (kind_at (qual_text all q k))) ≡ true
     qual_starts q k h =
         let t = qual_token q k h in
         ap (λ (ts : List Lexeme). is_made (qual_of (kind_at ts))) t.text ∙ some_made qual_of t.kind t.make t.is
 
     -- the token of a qualifier among specifiers is such a one
-    word_from : (kind : TokenKind) (make : ℕ → Qual) (token : ℕ) (q : Qual) → qual_of kind ≡ Some make → make token ≡ q → is_word_qual q ≡ true → word_qual_of kind ≡ Some make
+    word_from : (kind : TokenKind) (make : ℕ → Qual) (token : ℕ) (q : Qual) → qual_of kind ≡ Some make → make token ≡ q
+        → is_word_qual q ≡ true → word_qual_of kind ≡ Some make
     word_from (kinds.Keyword keywords.AtomicType) make token q e made word =
         let no : is_word_qual (make token) ≡ false = ap (λ (f : ℕ → Qual). is_word_qual (f token)) (sym (make_is e)) in
         let yes : is_word_qual (make token) ≡ true = ap is_word_qual made ∙ word in
         absurd cc
     word_from kind make token q e made word = e
 
-    word_read : (q : Qual) (s : HeldScopes) (k : List Lexeme) → IsWordQual all q → made_at word_qual_of s (qual_text all q k) ≡ done (found q s k)
+    word_read : (q : Qual) (s : HeldScopes) (k : List Lexeme) → IsWordQual all q
+        → made_at word_qual_of s (qual_text all q k) ≡ done (found q s k)
     word_read q s k h =
         let t = qual_token q k h.0 in
         ap (λ (ts : List Lexeme). made_at word_qual_of s ts) t.text ∙ made_is word_qual_of t.make t.kind t.token s k (word_from t.kind t.make t.token q t.is t.made h.1) ∙
         ap (λ (q : Qual). done (found q s k)) t.made
 
-    word_starts : (q : Qual) (k : List Lexeme) → IsWordQual all q → is_made (word_qual_of (kind_at (qual_text all q k))) ≡ true
+    word_starts : (q : Qual) (k : List Lexeme) → IsWordQual all q
+        → is_made (word_qual_of (kind_at (qual_text all q k))) ≡ true
     word_starts q k h =
         let t = qual_token q k h.0 in
         ap (λ (ts : List Lexeme). is_made (word_qual_of (kind_at ts))) t.text ∙ some_made word_qual_of t.kind t.make (word_from t.kind t.make t.token q t.is t.made h.1)
 
-    pub quals_complete : (room : ℕ) → IsComplete (quals_form all) (λ xs kind. not (is_made (word_qual_of kind))) room quals_at
+    pub quals_complete : (room : ℕ)
+        → IsComplete (quals_form all) (λ xs kind. not (is_made (word_qual_of kind))) room quals_at
     unfolding quals_at
     quals_complete room = row_complete (λ kind. is_made (word_qual_of kind)) (made_at word_qual_of) word_item (quals_form all) quals_same room (made_shrinks word_qual_of)
         (λ x s k f l. word_read x s k f) (λ x s. refl) word_starts
 
     -- words in brackets
 
-    array_by_kind : (o : Option (ℕ → Qual)) (t : Lexeme) (ts : List Lexeme) (make : ℕ → ArrayWord) → IsTail all (t ∷ ts) → qual_of t.kind ≡ o → array_word_by o t.kind ≡ Some make →
+    array_by_kind : (o : Option (ℕ → Qual)) (t : Lexeme) (ts : List Lexeme) (make : ℕ → ArrayWord) → IsTail all (t ∷ ts)
+        → qual_of t.kind ≡ o → array_word_by o t.kind ≡ Some make →
         (t ∷ ts ≡ array_item.text (make t.at) ts) × IsArrayWord all (make t.at)
     array_by_kind (Some of) t ts make tail is e =
         let p = qual_spells t ts of tail is in
         subst (λ (make : ℕ → ArrayWord). (t ∷ ts ≡ array_item.text (make t.at) ts) × IsArrayWord all (make t.at)) (make_is e) p
     array_by_kind None t ts make tail is e = static_word (is_static t.kind) refl e
       where
-        static_word : (b : Bool) → is_static t.kind ≡ b → (if b then Some array_words.Static else None) ≡ Some make → (t ∷ ts ≡ array_item.text (make t.at) ts) × IsArrayWord all (make t.at)
+        static_word : (b : Bool) → is_static t.kind ≡ b → (if b then Some array_words.Static else None) ≡ Some make
+            → (t ∷ ts ≡ array_item.text (make t.at) ts) × IsArrayWord all (make t.at)
         static_word true is e =
             subst (λ (make : ℕ → ArrayWord). (t ∷ ts ≡ array_item.text (make t.at) ts) × IsArrayWord all (make t.at)) (make_is e)
             (ap (λ (kind : TokenKind). plain_text kind t.at ts) (static_kind t.kind is), tt)
@@ -472,23 +499,27 @@ module _ (all : List Lexeme) where
     array_words_sound room = sound_as all (row_form array_item) (array_words_form all) array_words_same room (repeated (λ kind. is_made (array_word_of kind)) (made_at array_word_of))
         (repeated_sound (λ kind. is_made (array_word_of kind)) (made_at array_word_of) all array_item room (array_sound room))
 
-    array_of_qual : (kind : TokenKind) (make : ℕ → Qual) → qual_of kind ≡ Some make → array_word_of kind ≡ Some (λ token. array_words.Qual (make token))
+    array_of_qual : (kind : TokenKind) (make : ℕ → Qual) → qual_of kind ≡ Some make
+        → array_word_of kind ≡ Some (λ token. array_words.Qual (make token))
     array_of_qual kind make e = ap (λ (o : Option (ℕ → Qual)). array_word_by o kind) e
 
-    array_read : (w : ArrayWord) (s : HeldScopes) (k : List Lexeme) → IsArrayWord all w → made_at array_word_of s (array_item.text w k) ≡ done (found w s k)
+    array_read : (w : ArrayWord) (s : HeldScopes) (k : List Lexeme) → IsArrayWord all w
+        → made_at array_word_of s (array_item.text w k) ≡ done (found w s k)
     array_read (array_words.Static token) s k h = refl
     array_read (array_words.Qual q) s k h =
         let t = qual_token q k h in
         ap (λ (ts : List Lexeme). made_at array_word_of s ts) t.text ∙
         made_is array_word_of (λ token. array_words.Qual (t.make token)) t.kind t.token s k (array_of_qual t.kind t.make t.is) ∙ ap (λ (q : Qual). done (found (array_words.Qual q) s k)) t.made
 
-    array_starts : (w : ArrayWord) (k : List Lexeme) → IsArrayWord all w → is_made (array_word_of (kind_at (array_item.text w k))) ≡ true
+    array_starts : (w : ArrayWord) (k : List Lexeme) → IsArrayWord all w
+        → is_made (array_word_of (kind_at (array_item.text w k))) ≡ true
     array_starts (array_words.Static token) k h = refl
     array_starts (array_words.Qual q) k h =
         let t = qual_token q k h in
         ap (λ (ts : List Lexeme). is_made (array_word_of (kind_at ts))) t.text ∙ some_made array_word_of t.kind (λ token. array_words.Qual (t.make token)) (array_of_qual t.kind t.make t.is)
 
-    pub array_words_complete : (room : ℕ) → IsComplete (array_words_form all) (λ xs kind. not (is_made (array_word_of kind))) room array_words_at
+    pub array_words_complete : (room : ℕ)
+        → IsComplete (array_words_form all) (λ xs kind. not (is_made (array_word_of kind))) room array_words_at
     unfolding array_words_at
     array_words_complete room = row_complete (λ kind. is_made (array_word_of kind)) (made_at array_word_of) array_item (array_words_form all) array_words_same room (made_shrinks array_word_of)
         (λ x s k f l. array_read x s k f) (λ x s. refl) array_starts
@@ -498,7 +529,8 @@ module _ (all : List Lexeme) where
     abbrev Spells : ℕ → List Lexeme → TokenKind → (ℕ → Word) → Type 0
     Spells n ts kind make = (record { kind = kind; at = n } ∷ ts ≡ word_text (make n) ts) × (is_asm_word (make n).keyword ≡ true)
 
-    asm_by_kind : (kind : TokenKind) (n : ℕ) (ts : List Lexeme) (make : ℕ → Word) → asm_word_of kind ≡ Some make → Spells n ts kind make
+    asm_by_kind : (kind : TokenKind) (n : ℕ) (ts : List Lexeme) (make : ℕ → Word) → asm_word_of kind ≡ Some make
+        → Spells n ts kind make
     asm_by_kind (kinds.Keyword keywords.Volatile) n ts make e = subst (Spells n ts (kinds.Keyword keywords.Volatile)) (make_is e) (refl, refl)
     asm_by_kind (kinds.Keyword keywords.Goto) n ts make e = subst (Spells n ts (kinds.Keyword keywords.Goto)) (make_is e) (refl, refl)
     asm_by_kind (kinds.Keyword keywords.Inline) n ts make e = subst (Spells n ts (kinds.Keyword keywords.Inline)) (make_is e) (refl, refl)
@@ -529,7 +561,8 @@ module _ (all : List Lexeme) where
     asm_starts keywords.Inline h = refl
     asm_starts keyword h = absurd cc
 
-    pub asm_words_complete : (room : ℕ) → IsComplete (asm_words_form all) (λ xs kind. not (is_made (asm_word_of kind))) room asm_words_at
+    pub asm_words_complete : (room : ℕ)
+        → IsComplete (asm_words_form all) (λ xs kind. not (is_made (asm_word_of kind))) room asm_words_at
     unfolding asm_words_at
     asm_words_complete room = row_complete (λ kind. is_made (asm_word_of kind)) (made_at asm_word_of) asm_item (asm_words_form all) asm_words_same room (made_shrinks asm_word_of)
         (λ x s k f l. asm_read x.keyword x.token s k f) (λ x s. refl) (λ x k f. asm_starts x.keyword f)

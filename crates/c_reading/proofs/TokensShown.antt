@@ -94,12 +94,14 @@ module _ (all : List Lexeme) where
   low_pointer (pointer_words.Qual q) = omega arith
   low_pointer (pointer_words.Attr a) = omega arith
 
-  pointer_low : (xs : List PointerWord) (room : ℕ) → row_height pointer_item xs ≤ room → (pointer_words_form all).height xs ≤ room
+  pointer_low : (xs : List PointerWord) (room : ℕ) → row_height pointer_item xs ≤ room
+      → (pointer_words_form all).height xs ≤ room
   pointer_low [] room h = omega arith
   pointer_low (pointer_words.Qual q ∷ xs) room h = pointer_low xs room (omega (arith, h))
   pointer_low (pointer_words.Attr a ∷ xs) room h = omega (arith, h)
 
-  pointer_high : (xs : List PointerWord) (room : ℕ) → (pointer_words_form all).height xs ≤ room → row_height pointer_item xs ≤ room
+  pointer_high : (xs : List PointerWord) (room : ℕ) → (pointer_words_form all).height xs ≤ room
+      → row_height pointer_item xs ≤ room
   pointer_high [] room h = omega arith
   pointer_high (pointer_words.Qual q ∷ xs) room h =
       let rest : row_height pointer_item xs ≤ room = pointer_high xs room h in
@@ -118,7 +120,8 @@ module _ (all : List Lexeme) where
     higher = pointer_high;
   }
 
-  pub attr_read : (a : Attr) (s : HeldScopes) (k : List Lexeme) → IsGroup all a.group → attr_at s (attr_text all a k) ≡ done (found a s k)
+  pub attr_read : (a : Attr) (s : HeldScopes) (k : List Lexeme) → IsGroup all a.group
+      → attr_at s (attr_text all a k) ≡ done (found a s k)
   unfolding attr_at
   attr_read a s k h = bind_is _ refl (bind_is _ (group_read all a.group s k h) refl)
 
@@ -147,7 +150,8 @@ module _ (all : List Lexeme) where
   unfolding attrs_at
   attrs_falls room s ts x e = repeated_falls is_attribute (attr_reader room) (attr_reader_shrinks room) s ts x e
 
-  pub attrs_complete : (room : ℕ) → IsComplete (attrs_form all) (λ xs kind. not (is_attribute kind)) room (attrs_at room)
+  pub attrs_complete : (room : ℕ)
+      → IsComplete (attrs_form all) (λ xs kind. not (is_attribute kind)) room (attrs_at room)
   unfolding attrs_at
   attrs_complete room = row_complete is_attribute (attr_reader room) attr_item (attrs_form all) attrs_same room (attr_reader_shrinks room)
       (λ x s k f l. fits_is 2 room _ _ l ∙ attr_read x s k f) (λ x s. refl) (λ x k f. refl)
@@ -173,7 +177,8 @@ module _ (all : List Lexeme) where
   assert_complete room it s s' k h n l ended =
       bind_is _ refl (bind_is _ (group_read all it.group s (sign_text puncts.Semicolon it.semi k) h) (bind_is _ refl (ap (λ (t : HeldScopes). done (found it t k)) (some_is s s' n))))
 
-  pointer_read : (room : ℕ) (numbered : IsNumbered all) (w : PointerWord) (s : HeldScopes) (k : List Lexeme) → IsPointerWord all w → pointer_height w ≤ room →
+  pointer_read : (room : ℕ) (numbered : IsNumbered all) (w : PointerWord) (s : HeldScopes) (k : List Lexeme)
+      → IsPointerWord all w → pointer_height w ≤ room →
       pointer_word_at room s (pointer_text w k) ≡ done (found w s k)
   unfolding pointer_word_at
   pointer_read room numbered (pointer_words.Qual q) s k h l =
@@ -185,7 +190,8 @@ module _ (all : List Lexeme) where
       qual_no_attribute kind e = refl
   pointer_read room numbered (pointer_words.Attr a) s k h l = fits_is 2 room _ _ l ∙ bind_is _ (attr_read a s k h) refl
 
-  pointer_starts : (numbered : IsNumbered all) (w : PointerWord) (k : List Lexeme) → IsPointerWord all w → begins_pointer_word (kind_at (pointer_text w k)) ≡ true
+  pointer_starts : (numbered : IsNumbered all) (w : PointerWord) (k : List Lexeme) → IsPointerWord all w
+      → begins_pointer_word (kind_at (pointer_text w k)) ≡ true
   pointer_starts numbered (pointer_words.Qual q) k h = either_way (is_attribute (kind_at (qual_text all q k))) (qual_starts all numbered q k h)
     where
       either_way : (b : Bool) {c : Bool} → c ≡ true → (if b then true else c) ≡ true
@@ -193,7 +199,8 @@ module _ (all : List Lexeme) where
       either_way false e = e
   pointer_starts numbered (pointer_words.Attr a) k h = refl
 
-  pub pointer_words_complete : (numbered : IsNumbered all) (room : ℕ) → IsComplete (pointer_words_form all) (λ xs kind. not (begins_pointer_word kind)) room (pointer_words_at room)
+  pub pointer_words_complete : (numbered : IsNumbered all) (room : ℕ)
+      → IsComplete (pointer_words_form all) (λ xs kind. not (begins_pointer_word kind)) room (pointer_words_at room)
   unfolding pointer_words_at
   pointer_words_complete numbered room = row_complete begins_pointer_word (pointer_word_at room) pointer_item (pointer_words_form all) pointer_same room (pointer_word_shrinks room)
       (λ x s k f l. pointer_read room numbered x s k f l) (λ x s. refl) (λ x k f. pointer_starts numbered x k f)
@@ -206,7 +213,8 @@ module _ (all : List Lexeme) where
       pub same : t ≡ s
       pub left : IsTail all k
 
-    pub took_attr : (s : HeldScopes) (ts : List Lexeme) (x : Found Attr) → IsTail all ts → attr_at s ts ≡ done x → TookAttr s ts x.tree x.scopes x.rest
+    pub took_attr : (s : HeldScopes) (ts : List Lexeme) (x : Found Attr) → IsTail all ts → attr_at s ts ≡ done x
+        → TookAttr s ts x.tree x.scopes x.rest
     unfolding attr_at
     took_attr s ts x tail e =
         let a = bind_ok e in
@@ -221,7 +229,8 @@ module _ (all : List Lexeme) where
         })
 
     -- `_Alignas`, whose keyword is known
-    pub align_sound : (room : ℕ) (s : HeldScopes) (ts : List Lexeme) (x : Found Attr) → IsTail all ts → kind_at ts ≡ kinds.Keyword keywords.Alignas → align_at s ts ≡ done x →
+    pub align_sound : (room : ℕ) (s : HeldScopes) (ts : List Lexeme) (x : Found Attr) → IsTail all ts
+        → kind_at ts ≡ kinds.Keyword keywords.Alignas → align_at s ts ≡ done x →
         Takes all (align_form all) room s ts x
     unfolding align_at
     align_sound room s ts x tail is e =
@@ -243,7 +252,8 @@ module _ (all : List Lexeme) where
         let a = took_attr s ts x tail r.1 in
         record { spelled = a.spelled; fits = a.fits; named = ap Some (sym a.same); low = r.0; left = a.left }
 
-    pub attr_sound : (room : ℕ) (s : HeldScopes) (ts : List Lexeme) (x : Found Attr) → IsTail all ts → attr_at s ts ≡ done x → Takes all (attrs_form all) 2 s ts (found (x.tree ∷ []) x.scopes x.rest)
+    pub attr_sound : (room : ℕ) (s : HeldScopes) (ts : List Lexeme) (x : Found Attr) → IsTail all ts
+        → attr_at s ts ≡ done x → Takes all (attrs_form all) 2 s ts (found (x.tree ∷ []) x.scopes x.rest)
     attr_sound room s ts x tail e =
         let a = took_attr s ts x tail e in
         record { spelled = a.spelled; fits = All-cons (λ (a : Attr). IsGroup all a.group) x.tree [] a.fits (All-nil (λ (a : Attr). IsGroup all a.group)); named = ap Some (sym a.same); low = omega arith; left = a.left }
@@ -286,7 +296,8 @@ module _ (all : List Lexeme) where
           left = m.left;
         })
 
-    pub attr_complete : (a : Attr) (s : HeldScopes) (k : List Lexeme) → IsGroup all a.group → attr_at s (attrs_text all (a ∷ []) k) ≡ done (found a s k)
+    pub attr_complete : (a : Attr) (s : HeldScopes) (k : List Lexeme) → IsGroup all a.group
+        → attr_at s (attrs_text all (a ∷ []) k) ≡ done (found a s k)
     attr_complete a s k h = attr_read a s k h
 
 pub token_laws : (all : List Lexeme) → IsNumbered all → TokenLaws all

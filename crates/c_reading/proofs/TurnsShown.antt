@@ -23,7 +23,8 @@ use Rattle.c_reading.proofs.StmtFalls.{next_declr_falls, block_item_shrinks, lab
 use Rattle.c_reading.proofs.ItemsFalls.{item_shrinks, old_declaration_shrinks}
 use Rattle.c_reading.proofs.KnotLaws.{none_numbered, none_tokens, knot_laws}
 
-list_turn : {T E : Type 0} (next : ℕ → Reader (Next T E)) → ((comma : ℕ) → Falls (next comma)) → TakesToken (comma_turn next)
+list_turn : {T E : Type 0} (next : ℕ → Reader (Next T E)) → ((comma : ℕ) → Falls (next comma))
+    → TakesToken (comma_turn next)
 list_turn next falls = comma_turn_shrinks (λ s ts. refuses Unexpected ts) next falls
 
 pub turns_take_tokens : WholeAreMixes → MixesGoOn → (n : ℕ) → TurnsTakeTokens n

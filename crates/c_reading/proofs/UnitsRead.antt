@@ -1,5 +1,5 @@
 -- The laws of the reader of units, over those of all families.
-use Rattle.std.proofs.Common.{◌≡◌, ℕ, Bool, zero, suc, ◌<◌, ◌≤◌, true, false, List, [], ◌∷◌, Some, refl, sym, ◌∙◌, ap, subst, arith}
+use Rattle.std.proofs.Common.{◌≡◌, ℕ, Bool, suc, ◌≤◌, true, false, List, [], ◌∷◌, Some, refl, sym, ◌∙◌, ap, subst, arith}
 use Rattle.std.specs.Prelude.{◌+◌, ◌-◌, max, not, All}
 use Rattle.std.proofs.lemmas.List.Elements.{All-nil, All-cons, All-head, All-tail}
 use Rattle.c_words.specs.declared.kinds.TokenKind.{TokenKind}
@@ -14,25 +14,20 @@ use Rattle.c_specs.specs.Laws.{WholeAreMixes, MixesGoOn}
 use Rattle.c_units.specs.HeldScopes.{HeldScopes, file_scope}
 use Rattle.c_units.specs.Scoping.{spec_words_scopes}
 use Rattle.c_units.specs.Units.{items_scopes, IsWellFormed, item_scopes}
-use Rattle.c_reading.specs.Reading.{Found, Reader, kind_at, IsNumbered, IsTail, repeated}
+use Rattle.c_reading.specs.Reading.{Found, kind_at, IsNumbered, repeated}
 use Rattle.c_reading.specs.Tokens.{is_end}
-use Rattle.c_reading.specs.Parts.{Inner, never}
 use Rattle.c_reading.specs.Specifying.{begins_specs}
 use Rattle.c_reading.specs.Items.{item_with, items_with}
-use Rattle.c_reading.specs.Knot.{tied, knot, most, alone, unit_at}
+use Rattle.c_reading.specs.Knot.{knot, most, alone, unit_at}
 use Rattle.c_reading.specs.UnitLaws.{UnitIsWellFormed, WellFormedIsRead, OneUnitAtMost}
 use Rattle.c_reading.proofs.Binding.{found, done, ok_is, bind_ok, bind_is}
-use Rattle.c_reading.proofs.Forms.{Takes, took_token, Took, always, behind_is, behind_ok, behind_same}
+use Rattle.c_reading.proofs.Forms.{Takes, took_token, Took, always, behind_ok, behind_same}
 use Rattle.c_reading.proofs.Rows.{AllFit, row_form, row_text, row_scopes, row_height, repeated_sound, repeated_complete}
 use Rattle.c_reading.proofs.KindFacts.{end_kind, not_false}
-use Rattle.c_reading.proofs.Aims.{item_form, TokenLaws, FirstLaws, ExprLaws, TypeNameLaws, SpecsLaws, DeclrLaws, InitListLaws, BlockLaws, StmtLaws, Laws, declr_number}
+use Rattle.c_reading.proofs.Aims.{item_form, TokenLaws, FirstLaws, Laws}
+use Rattle.c_reading.proofs.Tied.{laws_of}
 use Rattle.c_reading.proofs.TokensShown.{token_laws}
 use Rattle.c_reading.proofs.Firsts.{first_laws}
-use Rattle.c_reading.proofs.ExprShown.{expr_laws}
-use Rattle.c_reading.proofs.SpecsShown.{specs_laws}
-use Rattle.c_reading.proofs.DeclrShown.{declr_laws, type_name_laws}
-use Rattle.c_reading.proofs.InitShown.{init_list_laws}
-use Rattle.c_reading.proofs.StmtShown.{block_laws, stmt_laws}
 use Rattle.c_reading.proofs.StmtComplete.{block_body_read}
 use Rattle.c_reading.proofs.ItemsFalls.{item_shrinks}
 use Rattle.c_reading.proofs.ItemsSound.{item_sound}
@@ -42,9 +37,6 @@ specs_no_end : (s : HeldScopes) (kind : TokenKind) → begins_specs s kind ≡ t
 specs_no_end s kinds.End e = absurd cc
 specs_no_end s kind e = refl
 
-lower : (room : ℕ) → room < 0 → ⊥
-lower room h = absurd (omega (arith, h))
-
 module _ (whole_are : WholeAreMixes) (goes : MixesGoOn) (all : List Lexeme) (numbered : IsNumbered all) where
   tokens : TokenLaws all
   tokens = token_laws all numbered
@@ -52,67 +44,8 @@ module _ (whole_are : WholeAreMixes) (goes : MixesGoOn) (all : List Lexeme) (num
   firsts : FirstLaws all
   firsts = first_laws goes all numbered
 
-  -- readers that are never called
-  never_laws : Laws all 0 never
-  never_laws = record {
-    exprs = record {
-      shrinks = λ reach begun room s ts x e. absurd cc;
-      sound = λ reach room s ts x tail e. absurd cc;
-      complete = λ reach room less. absurd (lower room less);
-      begun_sound = λ reach begun room row s ts x tail e. absurd cc;
-      begun_complete = λ reach begun room row less. absurd (lower room less);
-    };
-    types = record {
-      shrinks = λ room s ts x e. absurd cc;
-      sound = λ room s ts x tail e. absurd cc;
-      complete = λ room less. absurd (lower room less);
-    };
-    words = record {
-      falls = λ role words room s ts x e. absurd cc;
-      shrinks = λ role room s ts x e. absurd cc;
-      sound = λ role words room s ts x tail e. absurd cc;
-      complete = λ role words rest room less. absurd (lower room less);
-    };
-    declrs = record {
-      falls = λ mode wanted flag room s ts x e. absurd cc;
-      shrinks = λ wanted flag room s ts x e. absurd cc;
-      sound = λ mode wanted flag room s ts x tail e. absurd cc;
-      complete = λ mode wanted flag room less. absurd (lower (declr_number flag room) less);
-    };
-    lists = record {
-      shrinks = λ room s ts x e. absurd cc;
-      sound = λ room s ts x tail e. absurd cc;
-      complete = λ room less. absurd (lower room less);
-    };
-    blocks = record {
-      shrinks = λ room s ts x e. absurd cc;
-      sound = λ room s ts x tail e. absurd cc;
-      complete = λ room less. absurd (lower room less);
-    };
-    stmts = record {
-      shrinks = λ room s ts x e. absurd cc;
-      sound = λ room s ts x tail e. absurd cc;
-      ended = λ room s ts x e. absurd cc;
-      complete = λ room less. absurd (lower room less);
-    };
-  }
-
-  -- over readers of lower trees
-  tied_laws : (n : ℕ) (inner : Inner) → Laws all n inner → Laws all (suc n) (tied inner)
-  tied_laws n inner laws = record {
-    exprs = expr_laws all numbered tokens firsts n inner laws;
-    types = type_name_laws all numbered tokens goes n inner laws;
-    words = specs_laws all numbered tokens firsts n inner laws whole_are goes;
-    declrs = declr_laws all numbered tokens goes n inner laws;
-    lists = init_list_laws all numbered tokens firsts n inner laws;
-    blocks = block_laws all numbered tokens firsts n inner laws whole_are goes;
-    stmts = stmt_laws all numbered tokens firsts n inner laws whole_are goes;
-  }
-
   knot_laws : (n : ℕ) → Laws all (suc n) (knot n)
-  unfolding knot
-  knot_laws zero = tied_laws 0 never never_laws
-  knot_laws (suc n) = tied_laws (suc n) (knot n) (knot_laws n)
+  knot_laws n = laws_of whole_are goes all numbered n
 
   -- Rows of items.
 
@@ -155,7 +88,9 @@ module _ (whole_are : WholeAreMixes) (goes : MixesGoOn) (all : List Lexeme) (num
       let q = took_token all is_end kinds.End end_kind a.0.scopes a.0.rest b.0 i.left b.1 in
       at_last a.0 b.0 b.0.rest refl i q b.2
     where
-      at_last : (a : Found (List Item)) (b : Found ℕ) (rest : List Lexeme) → b.rest ≡ rest → Takes all (row_form (item_form all)) 499 (file_scope wide) all a → Took all kinds.End a.scopes a.rest b → alone wide a.tree rest ≡ done x → IsWellFormed wide all x.tree
+      at_last : (a : Found (List Item)) (b : Found ℕ) (rest : List Lexeme) → b.rest ≡ rest
+          → Takes all (row_form (item_form all)) 499 (file_scope wide) all a → Took all kinds.End a.scopes a.rest b
+          → alone wide a.tree rest ≡ done x → IsWellFormed wide all x.tree
       at_last a b [] is i q e =
           subst (λ (x : Found (List Item)). IsWellFormed wide all x.tree) (ok_is e) (record {
             tokens = record { last = b.tree; spelled = i.spelled ∙ rows_are a.tree a.rest ∙ ap (items_text all a.tree) (q.spelled ∙ ap (λ (k : List Lexeme). record { kind = kinds.End; at = b.tree } ∷ k) is) };
@@ -169,11 +104,14 @@ module _ (whole_are : WholeAreMixes) (goes : MixesGoOn) (all : List Lexeme) (num
   body_read : BodyRead all (suc most) (knot most)
   body_read = block_body_read all numbered tokens goes firsts (suc most) (knot most) (knot_laws most) whole_are
 
-  words_no_end : (exts : List ℕ) (ws : SpecWords) (s t : HeldScopes) (k : List Lexeme) → IsMix ws → AreSpecWords all ws → spec_words_scopes ws s ≡ Some t → not (is_end (kind_at (extensions_text exts (spec_words_text all ws k)))) ≡ true
+  words_no_end : (exts : List ℕ) (ws : SpecWords) (s t : HeldScopes) (k : List Lexeme) → IsMix ws → AreSpecWords all ws
+      → spec_words_scopes ws s ≡ Some t
+      → not (is_end (kind_at (extensions_text exts (spec_words_text all ws k)))) ≡ true
   words_no_end [] ws s t k mix fit named = not_false (specs_no_end s (kind_at (spec_words_text all ws k)) (firsts.words_begin ws s t k mix fit named))
   words_no_end (e ∷ exts) ws s t k mix fit named = refl
 
-  item_starts : (x : Item) (s t : HeldScopes) (k : List Lexeme) → IsItem all x → item_scopes x s ≡ Some t → not (is_end (kind_at (item_text all x k))) ≡ true
+  item_starts : (x : Item) (s t : HeldScopes) (k : List Lexeme) → IsItem all x → item_scopes x s ≡ Some t
+      → not (is_end (kind_at (item_text all x k))) ≡ true
   item_starts (semi_item semi) s t k fit named = refl
   item_starts (asm_item keyword group semi) s t k fit named = refl
   item_starts (decl_item (decl_assert it)) s t k fit named = refl
@@ -187,7 +125,8 @@ module _ (whole_are : WholeAreMixes) (goes : MixesGoOn) (all : List Lexeme) (num
       let b = behind_ok (spec_words_scopes ws s) _ t named in
       words_no_end exts ws s b.0 _ fit.0 fit.1 b.1
 
-  pub unit_complete : (wide : Bool) (items : List Item) → IsWellFormed wide all items → unit_at wide all ≡ done (found items (file_scope wide) [])
+  pub unit_complete : (wide : Bool) (items : List Item) → IsWellFormed wide all items
+      → unit_at wide all ≡ done (found items (file_scope wide) [])
   unfolding unit_at items_with
   unit_complete wide items w =
       let end : List Lexeme = record { kind = kinds.End; at = w.tokens.last } ∷ [] in

@@ -25,6 +25,7 @@ use Rattle.c_reading.specs.Tokens.{is_open_paren, is_close_paren, is_open_bracke
 use Rattle.c_reading.specs.Specifying.{begins_specs, present, specs_here}
 use Rattle.c_reading.specs.Parts.{Inner, nothing, star, TypeName, Declared, ParamItem, params_from}
 
+-- whether a declarator of a mode may have a name
 abbrev pub takes_name : Mode → Bool
 takes_name Named = true
 takes_name Abstract = false
@@ -36,17 +37,22 @@ least_pointer Named = 2
 least_pointer Abstract = 1
 least_pointer Either = 1
 
+-- a star before a declarator, which makes a pointer with a name or an abstract one, as that declarator has a name or
+-- not
 abbrev pub with_pointer : ℕ → List PointerWord → SomeDeclr → Declr
 with_pointer token words no_declr = abs_pointer token words no_declr
 with_pointer token words (some_declr d) = if is_named d then pointer token words d else abs_pointer token words (some_declr d)
 
+-- parentheses around a declarator, with a name or abstract as that is
 abbrev pub with_paren : ℕ → List Attr → Declr → ℕ → Declr
 with_paren opening attrs d closing = if is_named d then declr_paren opening attrs d closing else abs_paren opening attrs d closing
 
+-- brackets behind a declarator, with a name or abstract as that is; behind none, an abstract one
 abbrev pub with_array : SomeDeclr → ℕ → List ArrayWord → SomeSize → ℕ → Declr
 with_array no_declr opening words size closing = abs_array no_declr opening words size closing
 with_array (some_declr d) opening words size closing = if is_named d then array d opening words size closing else abs_array (some_declr d) opening words size closing
 
+-- parameters behind a declarator, with a name or abstract as that is; behind none, an abstract one
 abbrev pub with_params : SomeDeclr → ℕ → Params → Option Dots → ℕ → Declr
 with_params no_declr opening ps dots closing = abs_params no_declr opening ps dots closing
 with_params (some_declr d) opening ps dots closing = if is_named d then params d opening ps dots closing else abs_params (some_declr d) opening ps dots closing
@@ -64,14 +70,17 @@ closed_by d scope closed = if is_bare d then Some scope else closed
 abbrev pub room_at : Bool → ℕ → Declared → TokenKind → ℕ
 room_at flag room d kind = if flag && (is_some d.closed || (is_open_paren kind && is_bare d.declr)) then suc room else room
 
+-- qualifiers as the first words of specifiers
 abbrev pub words_of_quals : List Qual → SpecWords
 words_of_quals [] = no_words
 words_of_quals (qual ∷ quals) = more_words (qualifier qual) (words_of_quals quals)
 
+-- attributes as the first words of specifiers
 abbrev pub words_of_attrs : List Attr → SpecWords
 words_of_attrs [] = no_words
 words_of_attrs (attr ∷ attrs) = more_words (attribute attr) (words_of_attrs attrs)
 
+-- whether a list is empty
 abbrev pub are_none : {A : Type 0} → List A → Bool
 are_none [] = true
 are_none (x ∷ xs) = false
@@ -89,11 +98,12 @@ abbrev pub takes_attrs : SomeDeclr → Bool
 takes_attrs no_declr = false
 takes_attrs (some_declr d) = not (ends_starred_some (some_declr d))
 
--- a list of identifiers begins: in wider C with a name that is no typedef name
+-- whether a name may stand in a list of identifiers: one that is no typedef name
 abbrev pub is_identifier : HeldScopes → Option ℕ → Bool
 is_identifier s None = false
 is_identifier s (Some name) = not (names_type s name)
 
+-- whether a list of identifiers begins, as it may in wider C: with a name that is no typedef name
 abbrev pub begins_identifiers : HeldScopes → TokenKind → Bool
 begins_identifiers s kind = is_wide s && is_identifier s (spelled_name kind)
 
@@ -101,6 +111,7 @@ begins_identifiers s kind = is_wide s && is_identifier s (spelled_name kind)
 abbrev pub identifier_at : Reader Identifier
 identifier_at s ts = if is_identifier s (spelled_name (kind_at ts)) then name_at s ts else refuses Unexpected ts
 
+-- a further name, behind a comma
 abbrev pub next_name : Reader Identifier → ℕ → Reader (Next Identifier ⊥)
 next_name name token s ts = name s ts >>= λ x. ends (one_more x.tree) x.scopes x.rest
 
@@ -108,7 +119,7 @@ next_name name token s ts = name s ts >>= λ x. ends (one_more x.tree) x.scopes 
 unfoldable pub names_list : Reader Identifier → Reader (List Identifier)
 names_list name s ts = listed name (next_name name) s ts >>= λ xs. ends xs.tree.items xs.scopes xs.rest
 
--- what is done with a declarator, and else
+-- what is done behind a declarator with it, and what is done where there is none
 abbrev pub identifiers_of : SomeDeclr → (Declr → Read Declared) → Read Declared → Read Declared
 identifiers_of no_declr here other = other
 identifiers_of (some_declr d) here other = here d
@@ -118,10 +129,11 @@ abbrev pub names_base : HeldScopes → Mode → Option Kind → TokenKind → Bo
 names_base s Named (Some Typedef) kind = is_wide s && is_base_word kind
 names_base s mode wanted kind = false
 
+-- a base word in the place of a declarator's name
 abbrev pub base_named : ℕ → Reader Declared
 base_named room s ts = fits 1 room ts (take_one s ts >>= λ token. ends (record { declr = some_declr (base_name token.tree); closed = None }) token.scopes token.rest)
 
--- where no name may be absent, one is missing
+-- nothing stands where a declarator may: refused where it must have a name
 abbrev pub absent : Mode → Reader Declared
 absent Named s ts = refuses Unexpected ts
 absent Abstract s ts = ends (record { declr = no_declr; closed = None }) s ts
@@ -156,10 +168,12 @@ module _ (inner : Inner) where
     closing ← token_at is_close_bracket size.scopes size.rest
     ends (record { declr = some_declr (with_array d.declr opening.tree words.tree size.tree closing.tree); closed = d.closed }) closing.scopes closing.rest
 
+  -- the specifiers of a parameter, of which these were read already
   abbrev pub param_words : SpecWords → ℕ → Reader SpecWords
   param_words no_words room s ts = specs_here inner Typed room s ts
   param_words (more_words w ws) room s ts = inner.specs Typed (more_words w ws) (room - 1) s ts
 
+  -- the attributes behind a parameter's declarator, where they are not the declarator's own
   abbrev pub param_attrs : SomeDeclr → ℕ → Reader (List Attr)
   param_attrs d room s ts = if takes_attrs d then attrs_at room s ts else ends [] s ts
 
@@ -195,17 +209,20 @@ module _ (inner : Inner) where
       closed = closed_by d.declr (innermost closing.scopes) d.closed;
     }) (leave closing.scopes) closing.rest
 
-  -- Params = direct ( Name (, Name)* ), behind the parenthesis; the scope of the declarations behind it has no names yet
+  -- Params = direct ( Name (, Name)* ), behind the parenthesis; the scope of the declarations behind it has no names
+  -- yet
   unfoldable pub identifiers_with : Declr → ℕ → Reader Declared
   identifiers_with d opening s ts = do
     names ← names_list identifier_at s ts
     closing ← token_at is_close_paren names.scopes names.rest
     ends (record { declr = some_declr (identifiers d opening names.tree closing.tree); closed = Some (new_scope (is_wide s)) }) closing.scopes closing.rest
 
+  -- a list of identifiers behind a declarator, or else parameters, by whether identifiers begin
   abbrev pub list_behind : Bool → Declared → ℕ → ℕ → Reader Declared
   list_behind true d opening room s ts = identifiers_of d.declr (λ inside. identifiers_with inside opening s ts) (prototype_with d opening [] room s ts)
   list_behind false d opening room s ts = prototype_with d opening [] room s ts
 
+  -- a parenthesis behind a declarator, with a list of identifiers where one may stand and begins, and else parameters
   abbrev pub params_behind : Bool → Declared → ℕ → Reader Declared
   params_behind flag d room s ts = take_one s ts >>= λ opening. list_behind (flag && is_bare d.declr && begins_identifiers opening.scopes (kind_at opening.rest)) d opening.tree room opening.scopes opening.rest
 
@@ -238,17 +255,21 @@ module _ (inner : Inner) where
       else if opens_declr mode (kind_at ts) then paren_with mode wanted flag opening attrs room s ts
       else refuses Unexpected ts
 
+  -- parameters or a declarator in parentheses, where no name must come
   unfoldable pub opened_with : Mode → Option Kind → Bool → ℕ → Reader Declared
   opened_with mode wanted flag room s ts = fits 1 room ts (do
     opening ← take_one s ts
     attrs ← attrs_at room opening.scopes opening.rest
     opened_by mode wanted flag opening.tree attrs.tree room attrs.scopes attrs.rest)
 
+  -- a parenthesis at the begin of a declarator: around a declarator where a name must come, and else around that or
+  -- parameters
   abbrev pub some_paren : Mode → Option Kind → Bool → ℕ → Reader Declared
   some_paren Named wanted flag room s ts = named_paren wanted flag room s ts
   some_paren Abstract wanted flag room s ts = opened_with Abstract wanted flag room s ts
   some_paren Either wanted flag room s ts = opened_with Either wanted flag room s ts
 
+  -- a name, where the mode takes one and it stands there, or else no declarator
   abbrev pub name_or_none : Mode → Option Kind → Option ℕ → ℕ → Reader Declared
   name_or_none mode wanted None room s ts = absent mode s ts
   name_or_none mode wanted (Some name) room s ts = if takes_name mode then name_held name room (at_name wanted name s) s ts else absent mode s ts
@@ -260,6 +281,7 @@ module _ (inner : Inner) where
       else if names_base s mode wanted (kind_at ts) then base_named room s ts
       else name_or_none mode wanted (spelled_name (kind_at ts)) room s ts
 
+  -- direct = (Name | ( Attr* declr )) and brackets and parameters behind it, or the same without a name
   unfoldable pub direct_with : Mode → Option Kind → Bool → ℕ → Reader Declared
   direct_with mode wanted flag room s ts = do
     core ← core_with mode wanted flag room s ts

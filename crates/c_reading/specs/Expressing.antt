@@ -28,21 +28,23 @@ use Rattle.c_reading.specs.declared.kinds.Role.TheVariants.{Naming}
 use Rattle.c_reading.specs.Specifying.{begins_role, begins_specs}
 use Rattle.c_reading.specs.Parts.{Inner, Begun, nothing, extensions, star, TypeName, type_name_height, assocs_from, exprs_from, desigs_from}
 
--- what a token is between two operands
+-- a sign of a level of binary operators between two operands; one of level 0 ends the expression
 abbrev pub binary_or_nothing : Punct → ℕ → Infix
 binary_or_nothing p zero = infixes.Nothing
 binary_or_nothing p (suc level) = infixes.Binary p
 
+-- what a sign is between two operands
 abbrev pub punct_infix : Punct → Infix
 punct_infix puncts.Comma = infixes.Comma
 punct_infix puncts.Question = infixes.Question
 punct_infix p = if is_assignment p then infixes.Assign p else binary_or_nothing p (binary_level p)
 
+-- what a token is between two operands
 abbrev pub infix_of : TokenKind → Infix
 infix_of (kinds.Punct p) = punct_infix p
 infix_of kind = infixes.Nothing
 
--- what an operand begins with
+-- what an operand begins with where its first token is a sign
 abbrev pub punct_opening : Punct → Opening
 punct_opening puncts.OpenParen = openings.Paren
 punct_opening puncts.PlusPlus = openings.Prefix puncts.PlusPlus Unary
@@ -56,6 +58,7 @@ punct_opening puncts.Bang = openings.Prefix puncts.Bang Castable
 punct_opening puncts.AmpersandAmpersand = openings.Label
 punct_opening p = openings.Nothing
 
+-- what an operand begins with where its first token is a keyword
 abbrev pub keyword_opening : Keyword → Opening
 keyword_opening keywords.Sizeof = openings.Sizeof keywords.Sizeof
 keyword_opening keywords.Alignof = openings.Sizeof keywords.Alignof
@@ -70,6 +73,7 @@ keyword_opening keywords.Choose = openings.Choose
 keyword_opening keywords.Generic = openings.Generic
 keyword_opening keyword = openings.Nothing
 
+-- what an operand begins with, by its first token
 abbrev pub opening_of : TokenKind → Opening
 opening_of (kinds.Punct p) = punct_opening p
 opening_of (kinds.Keyword keyword) = keyword_opening keyword
@@ -79,6 +83,7 @@ opening_of kinds.Char = openings.Char
 opening_of kinds.Text = openings.Text
 opening_of kind = openings.Nothing
 
+-- whether an operand begins so: a typedef name begins none, and `&&` one in wider C alone
 abbrev pub is_opening : HeldScopes → Opening → Bool
 is_opening s openings.Nothing = false
 is_opening s (openings.Name name) = not (names_type s name)
@@ -89,7 +94,7 @@ is_opening s opening = true
 abbrev pub begins_expr : HeldScopes → TokenKind → Bool
 begins_expr s kind = is_opening s (opening_of kind)
 
--- what stands behind an operand
+-- what a sign begins behind an operand
 abbrev pub punct_form : Punct → PostfixForm
 punct_form puncts.OpenBracket = forms.Index
 punct_form puncts.OpenParen = forms.Call
@@ -99,11 +104,12 @@ punct_form puncts.PlusPlus = forms.Post puncts.PlusPlus
 punct_form puncts.MinusMinus = forms.Post puncts.MinusMinus
 punct_form p = forms.Nothing
 
+-- what a token begins behind an operand
 abbrev pub form_of : TokenKind → PostfixForm
 form_of (kinds.Punct p) = punct_form p
 form_of kind = forms.Nothing
 
--- whether an expression of a reach goes on with a comma, with an assignment
+-- whether an expression of a reach goes on with a comma
 abbrev pub takes_comma : Reach → Bool
 takes_comma Whole = true
 takes_comma Assigned = false
@@ -111,6 +117,7 @@ takes_comma Conditional = false
 takes_comma Castable = false
 takes_comma Unary = false
 
+-- whether an expression of a reach goes on with an assignment
 abbrev pub takes_assign : Reach → Bool
 takes_assign Whole = true
 takes_assign Assigned = true
@@ -118,6 +125,7 @@ takes_assign Conditional = false
 takes_assign Castable = false
 takes_assign Unary = false
 
+-- whether a token is `.`
 abbrev pub is_dot : TokenKind → Bool
 is_dot (kinds.Punct puncts.Dot) = true
 is_dot kind = false
@@ -131,6 +139,7 @@ pub record Row : Type 0 where
   pub waiting : Stack
   pub last : Expr
 
+-- how many operands wait with their operators
 abbrev pub how_many : Stack → ℕ
 how_many bottom = 0
 how_many (above waiting left) = suc (how_many waiting)
@@ -147,11 +156,13 @@ depth_of left = suc (how_many left.below)
 abbrev pub with_operand : Settled → Operator → ℕ → Expr → Row
 with_operand left op token e = record { waiting = above left.below (record { tree = left.last; operator = op; token = token }); last = e }
 
+-- `__extension__` at these tokens, before an expression
 abbrev pub extended : List ℕ → Expr → Expr
 extended [] e = e
 extended (token ∷ tokens) e = extension token (extended tokens e)
 
 module _ (inner : Inner) where
+  -- a further argument of a call, behind a comma
   unfoldable pub next_argument : ℕ → ℕ → Reader (Next Expr ⊥)
   next_argument room token s ts = inner.expr Assigned nothing (room - 1) s ts >>= λ e. ends (one_more e.tree) e.scopes e.rest
 
@@ -195,6 +206,7 @@ module _ (inner : Inner) where
   unfoldable pub post_with : Expr → Punct → Reader Expr
   post_with base p s ts = take_one s ts >>= λ token. ends (post base token.tree p) token.scopes token.rest
 
+  -- one postfix form behind an operand, by what the token there begins; none where no form begins
   abbrev pub postfix_by : PostfixForm → ℕ → Expr → HeldScopes → List Lexeme → Option (Read Expr)
   postfix_by forms.Index room e s ts = Some (index_with e room s ts)
   postfix_by forms.Call room e s ts = Some (call_with e room s ts)
@@ -208,6 +220,7 @@ module _ (inner : Inner) where
   lowered height room ts None = None
   lowered height room ts (Some read) = Some (fits (suc height) room ts read)
 
+  -- one postfix form behind an operand, with room for the node above it
   abbrev pub postfix_turn : ℕ → Turn Expr
   postfix_turn room e s ts = lowered (expr_height e) room ts (postfix_by (form_of (kind_at ts)) room e s ts)
 
@@ -245,6 +258,7 @@ module _ (inner : Inner) where
       else if casts then cast_behind opening t closing room s ts
       else refuses Unexpected ts
 
+  -- a type name in parentheses, behind the opening one, and what stands behind it
   unfoldable pub typed_with : Bool → ℕ → ℕ → Reader Expr
   typed_with casts opening room s ts = do
     t ← inner.type_name (room - 1) s ts
@@ -272,6 +286,7 @@ module _ (inner : Inner) where
       else if is_open_brace (kind_at ts) then statement_with opening room s ts
       else paren_with opening room s ts
 
+  -- a cast, a compound literal, a statement in parentheses, or an expression in parentheses
   unfoldable pub opened_with : Bool → ℕ → Reader Expr
   opened_with casts room s ts = fits 2 room ts (take_one s ts >>= λ opening. opened_by casts opening.tree room opening.scopes opening.rest)
 
@@ -317,6 +332,7 @@ module _ (inner : Inner) where
       then fits 3 room ts (if begins_specs s (kind_at (behind_first ts)) then sizeof_type_with word room s ts else sizeof_value_with word room s ts)
       else sizeof_value_with word room s ts
 
+  -- Sizeof or SizeofType, at the word
   unfoldable pub sizeof_with : Keyword → ℕ → Reader Expr
   sizeof_with keyword room s ts = fits 2 room ts (take_one s ts >>= λ token. sizeof_behind (word_of keyword token.tree) room token.scopes token.rest)
 
@@ -374,6 +390,7 @@ module _ (inner : Inner) where
     e ← inner.expr Assigned nothing (room - 1) colon.scopes colon.rest
     ends (typed_assoc t.tree.words t.tree.declr colon.tree e.tree) e.scopes e.rest)
 
+  -- Assoc = TypeName : assign | default : assign
   unfoldable pub assoc_with : ℕ → Reader Assoc
   assoc_with room s ts =
       if is_default (kind_at ts) then default_assoc_with room s ts
@@ -417,6 +434,7 @@ module _ (inner : Inner) where
     closing ← token_at is_close_paren e2.scopes e2.rest
     postfixed room (make keyword.tree opening.tree e.tree separator.tree e2.tree closing.tree) closing.scopes closing.rest)
 
+  -- a step of an offset: . Name or [ expr ]
   unfoldable pub step_with : ℕ → Reader Desig
   step_with room s ts =
       if is_dot (kind_at ts)
@@ -503,6 +521,7 @@ module _ (inner : Inner) where
       if nat_le 14 (expr_level left.last) then (if takes_assign reach then Some (operation_with (assign p) left room s ts) else None)
       else Some (refuses BadTarget ts)
 
+  -- one operator and the operand behind it, as far as the reach goes; none where the expression ends
   abbrev pub operation_by : Reach → ℕ → Infix → Turn Row
   operation_by reach room infixes.Comma row s ts = if takes_comma reach then Some (operation_with comma (settled row 0) room s ts) else None
   operation_by reach room (infixes.Assign p) row s ts = assign_with reach p (settled row 1) room s ts
@@ -510,6 +529,7 @@ module _ (inner : Inner) where
   operation_by reach room (infixes.Binary p) row s ts = Some (operation_with (binary p) (settled row (binary_level p + 2)) room s ts)
   operation_by reach room infixes.Nothing row s ts = None
 
+  -- one operator and the operand behind it, by the token there
   abbrev pub operation_turn : Reach → ℕ → Turn Row
   operation_turn reach room row s ts = operation_by reach room (infix_of (kind_at ts)) row s ts
 

@@ -47,12 +47,14 @@ module _ (inner : Inner) where
       if is_wide s && is_dots (kind_at ts) then range_behind opening e room s ts
       else token_at is_close_bracket s ts >>= λ closing. ends (index_desig opening e closing.tree) closing.scopes closing.rest
 
+  -- Desig = [ cond ] or [ cond ... cond ], at the bracket
   unfoldable pub index_desig_with : ℕ → Reader Desig
   index_desig_with room s ts = fits 3 room ts (do
     opening ← take_one s ts
     e ← inner.expr Conditional nothing (room - 2) opening.scopes opening.rest
     index_behind opening.tree e.tree room e.scopes e.rest)
 
+  -- one designator of an item
   unfoldable pub desig_with : ℕ → Reader Desig
   desig_with room s ts = if is_dot (kind_at ts) then member_desig_with room s ts else index_desig_with room s ts
 
@@ -83,6 +85,7 @@ module _ (inner : Inner) where
       else if names_type s name then refuses Unexpected (behind_first ts)
       else plain_item room s ts)
 
+  -- an item of a braced list, by whether it begins with a name
   abbrev pub init_item_by : Option ℕ → ℕ → Reader ListItem
   init_item_by None room s ts = plain_item room s ts
   init_item_by (Some name) room s ts = if is_wide s then named_init_item name room s ts else plain_item room s ts

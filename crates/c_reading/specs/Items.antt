@@ -23,6 +23,7 @@ use Rattle.c_reading.specs.Parts.{Inner, DeclrItem}
 abbrev pub goes_on_declared : TokenKind → Bool
 goes_on_declared kind = if is_equal kind then true else if is_comma kind then true else is_semicolon kind
 
+-- a declaration as an item of a unit
 abbrev pub as_decl : Read Declaration → Read Item
 as_decl read = read >>= λ d. ends (decl_item (decl_declaration d.tree)) d.scopes d.rest
 
@@ -39,7 +40,8 @@ module _ (inner : Inner) where
     init ← some_init_with inner room s ts
     ends (record { before = []; declr = d; label = None; attrs = attrs; init = init.tree }) init.scopes init.rest
 
-  -- behind the declarator of a function and attributes: its block, or a declaration that goes on, for which there must be
+  -- behind the declarator of a function and attributes: its block, or a declaration that goes on, for which there must
+  -- be
   -- room
   unfoldable pub function_or_not : List ℕ → SpecWords → Declr → List Attr → HeldScope → ℕ → Reader Item
   function_or_not exts words d attrs closed room s ts =
@@ -55,6 +57,7 @@ module _ (inner : Inner) where
       then fits (2 + declr_height d) room ts (as_decl (declrs_with inner exts words Value room (declr_behind inner [] d (room - 1)) s ts))
       else attrs_at room s ts >>= λ attrs. function_or_not exts words d attrs.tree closed room attrs.scopes attrs.rest
 
+  -- behind the first declarator of an item: a function's body may come where parameters stand around its name
   abbrev pub behind_declr : List ℕ → SpecWords → Declr → Option HeldScope → ℕ → Reader Item
   behind_declr exts words d (Some closed) room s ts = behind_function exts words d closed room s ts
   behind_declr exts words d None room s ts = as_decl (declrs_with inner exts words Value room (declr_behind inner [] d (room - 1)) s ts)
@@ -66,7 +69,8 @@ module _ (inner : Inner) where
     words ← specs_here inner Declaring room exts.scopes exts.rest
     declaration_behind inner exts.tree words.tree room words.scopes words.rest
 
-  -- Attr* Declaration* Block, behind a declarator with a list of identifiers, whose name is held: the declarations stand in the scope of
+  -- Attr* Declaration* Block, behind a declarator with a list of identifiers, whose name is held: the declarations
+  -- stand in the scope of
   -- the parameters, and the name is declared behind the last
   unfoldable pub old_function_with : List ℕ → SpecWords → Declr → ℕ → Reader Item
   old_function_with exts words d room s ts = do

@@ -1,6 +1,7 @@
 -- The readers of all nonterminals, each over the readers of lower trees.
 --
--- Readers of number n read trees with a room of at most n, for each part inside has at most one less. At room 0 no reader
+-- Readers of number n read trees with a room of at most n, for each part inside has at most one less. At room 0 no
+-- reader
 -- goes inside, so those of number 0 stand over readers that none calls.
 use Rattle.std.specs.Prelude.{ℕ, zero, suc, ◌-◌, List, [], ◌∷◌, Bool}
 use Rattle.c_tree.specs.declared.lexeme.Lexeme.{Lexeme}
@@ -29,6 +30,7 @@ tied inner = record {
   stmt = stmt_with inner;
 }
 
+-- the readers of a number, which read trees with a room of at most so much
 unfoldable pub knot : ℕ → Inner
 knot zero = tied never
 knot (suc n) = tied (knot n)

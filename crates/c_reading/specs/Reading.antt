@@ -18,9 +18,11 @@ pub record Found (A : Type 0) : Type 0 where
   pub scopes : HeldScopes
   pub rest : List Lexeme
 
+-- what a reader answers: what it found, or why it refuses a token
 abbrev pub Read : Type 0 → Type 0
 Read A = Result (Found A) Refusal
 
+-- a reader: by the scopes and the tokens before it, what it answers
 abbrev pub Reader : Type 0 → Type 0
 Reader A = HeldScopes → List Lexeme → Read A
 
@@ -30,6 +32,7 @@ and_then (Ok x) f = f x
 and_then (Err e) f = Err e
 
 infixl 10 ◌>>=◌
+-- one reader behind another, as an operator
 abbrev pub ◌>>=◌ : {A B : Type 0} → Result A Refusal → (A → Result B Refusal) → Result B Refusal
 r >>= f = and_then r f
 
@@ -83,10 +86,11 @@ turns turn (suc n) a s ts = elim (turn a s ts) [ None ↦ ends a s ts | Some rea
 unfoldable pub run : {S : Type 0} → Turn S → S → Reader S
 run turn a s ts = turns turn (suc (length ts)) a s ts
 
--- items one behind another, as long as a token that passes a test begins one
+-- one more item, where a token that passes a test begins one
 abbrev pub repeated_turn : {T : Type 0} → (TokenKind → Bool) → Reader T → Turn (List T)
 repeated_turn begins read xs s ts = if begins (kind_at ts) then Some (read s ts >>= λ x. ends (xs ++ x.tree ∷ []) x.scopes x.rest) else None
 
+-- items one behind another, as long as a token that passes a test begins one; their list
 unfoldable pub repeated : {T : Type 0} → (TokenKind → Bool) → Reader T → Reader (List T)
 repeated begins read s ts = run (repeated_turn begins read) [] s ts
 
@@ -100,20 +104,24 @@ pub record CommaList (T E : Type 0) : Type 0 where
   pub items : List T
   pub ending : Option E
 
+-- whether a token is a comma
 abbrev pub is_comma : TokenKind → Bool
 is_comma (kinds.Punct Comma) = true
 is_comma kind = false
 
+-- items and what stands behind the next comma
 abbrev pub with_next : {T E : Type 0} → List T → Next T E → CommaList T E
 with_next xs (one_more x) = record { items = xs ++ x ∷ []; ending = None }
 with_next xs (list_end e) = record { items = xs; ending = Some e }
 
 -- behind a comma with this number
-abbrev pub comma_turn_by : {T E : Type 0} → (ℕ → Reader (Next T E)) → Option E → List T → HeldScopes → List Lexeme → Option (Read (CommaList T E))
+abbrev pub comma_turn_by : {T E : Type 0} → (ℕ → Reader (Next T E)) → Option E → List T → HeldScopes → List Lexeme
+    → Option (Read (CommaList T E))
 comma_turn_by behind (Some e) xs s ts = None
 comma_turn_by behind None xs s [] = None
 comma_turn_by behind None xs s (t ∷ ts) = if is_comma t.kind then Some (behind t.at s ts >>= λ x. ends (with_next xs x.tree) x.scopes x.rest) else None
 
+-- one more item of a list, where a comma stands and nothing ended the list
 abbrev pub comma_turn : {T E : Type 0} → (ℕ → Reader (Next T E)) → Turn (CommaList T E)
 comma_turn behind state s ts = comma_turn_by behind state.ending state.items s ts
 

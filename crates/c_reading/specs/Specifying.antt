@@ -30,6 +30,7 @@ use Rattle.c_reading.specs.Reading.{Reader, Read, Turn, ◌>>=◌, ends, refuses
 use Rattle.c_reading.specs.Tokens.{is_semicolon, is_colon, is_equal, is_open_brace, is_close_brace, is_open_paren, is_close_paren, is_static_assert, word_of, name_at, tag_at, extensions_at, attr_at, attrs_at, align_at, assert_at}
 use Rattle.c_reading.specs.Parts.{Inner, nothing, MemberItem, EnumItem, struct_items_from, mem_declrs_from, enumerators_from}
 
+-- which word of specifiers a keyword begins
 abbrev pub keyword_start : Keyword → SpecStart
 keyword_start keywords.Typedef = starts.Storage keywords.Typedef
 keyword_start keywords.Extern = starts.Storage keywords.Extern
@@ -68,6 +69,7 @@ keyword_start keywords.Enum = starts.Enum
 keyword_start keywords.Attribute = starts.Attribute
 keyword_start keyword = starts.Nothing
 
+-- which word of specifiers a token begins, scopes aside
 abbrev pub kind_start : TokenKind → SpecStart
 kind_start (kinds.Keyword keyword) = keyword_start keyword
 kind_start (kinds.Qual lattice elem) = starts.Element
@@ -80,6 +82,7 @@ abbrev pub typed_start : HeldScopes → Bool → SpecStart → SpecStart
 typed_start s typed (starts.Name name) = if names_type s name && not typed then starts.Name name else starts.Nothing
 typed_start s typed start = start
 
+-- whether a word of specifiers begins so
 abbrev pub is_start : SpecStart → Bool
 is_start starts.Nothing = false
 is_start start = true
@@ -92,6 +95,7 @@ start_at s typed kind = typed_start s typed (kind_start kind)
 abbrev pub begins_specs : HeldScopes → TokenKind → Bool
 begins_specs s kind = is_start (start_at s false kind)
 
+-- what a word that begins so is in a mix of specifiers
 abbrev pub class_of_start : SpecStart → Class
 class_of_start (starts.Storage keyword) = classes.Stores keyword
 class_of_start starts.Thread = classes.Stores keywords.Thread
@@ -114,10 +118,13 @@ is_declaring starts.Align = true
 is_declaring starts.Auto = true
 is_declaring start = false
 
+-- whether the word is `__auto_type`
 abbrev pub is_auto_start : SpecStart → Bool
 is_auto_start starts.Auto = true
 is_auto_start start = false
 
+-- whether a word may stand among specifiers of a role: no `__auto_type` but in a declaration, and no storage class or
+-- function specifier in a type name
 abbrev pub may_stand : Role → SpecStart → Bool
 may_stand Declaring start = true
 may_stand Typed start = not (is_auto_start start)
@@ -144,6 +151,7 @@ abbrev pub is_base_start : SpecStart → Bool
 is_base_start (starts.Basic keywords.BaseWord) = true
 is_base_start start = false
 
+-- whether specifiers end before a base word, which is then the name of a typedef
 abbrev pub ends_before : HeldScopes → SpecWords → SpecStart → Bool
 ends_before s words start =
     (is_wide s || has_auto words) && is_base_start start && has_typedef_word (storage_words words) && is_whole_mix words && not (goes_on words (class_of_start start))
@@ -204,6 +212,7 @@ module _ (inner : Inner) where
   unfoldable pub mem_declr_with : ℕ → Reader MemDeclr
   mem_declr_with room s ts = if is_colon (kind_at ts) then width_with room s ts else field_with room s ts
 
+  -- the first declarator of a member's declaration, which has no attributes before it
   unfoldable pub first_member : ℕ → Reader MemberItem
   first_member room s ts = do
     d ← mem_declr_with room s ts
@@ -248,6 +257,7 @@ module _ (inner : Inner) where
     closing ← token_at is_close_brace items.scopes items.rest
     ends (some_body opening.tree (struct_items_from items.tree) closing.tree) closing.scopes closing.rest
 
+  -- [{ member* }], behind a tag or none
   unfoldable pub body_with : Option Identifier → ℕ → Reader SomeBody
   body_with tag room s ts = if is_open_brace (kind_at ts) then members_with room s ts else without_body tag no_body s ts
 
@@ -294,6 +304,7 @@ module _ (inner : Inner) where
     closing ← token_at is_close_brace es.scopes es.rest
     ends (some_enum_body opening.tree (enumerators_from es.tree.items) es.tree.ending closing.tree) closing.scopes closing.rest)
 
+  -- [{ Enumerator (, Enumerator)* [,] }], behind a tag or none
   unfoldable pub enum_body_with : Option Identifier → ℕ → Reader SomeEnumBody
   enum_body_with tag room s ts = if is_open_brace (kind_at ts) then enumerators_with room s ts else without_body tag no_enum_body s ts
 
@@ -340,7 +351,8 @@ module _ (inner : Inner) where
   abbrev pub word_at : (ℕ → SpecWord) → Reader SpecWord
   word_at make s ts = take_one s ts >>= λ token. ends (make token.tree) token.scopes token.rest
 
-  -- spec = storage | thread | inline | _Noreturn | qual | typeword | Struct | Enum | TypedefName | Attr, by what its first
+  -- spec = storage | thread | inline | _Noreturn | qual | typeword | Struct | Enum | TypedefName | Attr, by what its
+  -- first
   -- token begins
   unfoldable pub word_by : SpecStart → ℕ → Reader SpecWord
   word_by (starts.Storage keyword) room s ts = word_at (λ token. storage (word_of keyword token)) s ts
@@ -368,15 +380,18 @@ module _ (inner : Inner) where
       then (if goes_on words (class_of_start start) then fits (max (least_of start) (specs_height words)) room ts (word_by start room s ts) else refuses BadMix ts)
       else refuses Unexpected ts
 
+  -- one more word of specifiers, by what the token begins; none where they end
   abbrev pub word_turn_by : Role → ℕ → SpecStart → Turn SpecWords
   word_turn_by role room start words s ts =
       if ends_before s words start then None
       else if is_start start then Some (word_with role words start room s ts >>= λ word. ends (pushed words word.tree) word.scopes word.rest)
       else None
 
+  -- one more word of specifiers, by the token there
   abbrev pub word_turn : Role → ℕ → Turn SpecWords
   word_turn role room words s ts = word_turn_by role room (start_at s (is_typed words) (kind_at ts)) words s ts
 
+  -- words that are a whole mix of specifiers; else the token behind them is refused
   abbrev pub whole : SpecWords → Reader SpecWords
   whole words s ts = if is_whole_mix words then ends words s ts else refuses Unexpected ts
 

@@ -28,12 +28,13 @@ use Rattle.c_reading.specs.Expressing.{begins_expr}
 use Rattle.c_reading.specs.Initialising.{init_with}
 use Rattle.c_reading.specs.Parts.{Inner, Begun, nothing, extensions, Block, DeclrItem, init_declrs_from, block_items_from}
 
--- what a statement begins with
+-- what a statement begins with where its first token is neither a keyword nor a name
 abbrev pub punct_stmt : TokenKind → StmtStart
 punct_stmt (kinds.Punct puncts.OpenBrace) = starts.Block
 punct_stmt (kinds.Punct puncts.Semicolon) = starts.Semicolon
 punct_stmt kind = starts.Value
 
+-- what a statement begins with where its first token is a keyword
 abbrev pub keyword_stmt : Keyword → StmtStart
 keyword_stmt keywords.Attribute = starts.Attribute
 keyword_stmt keywords.Case = starts.Case
@@ -50,6 +51,7 @@ keyword_stmt keywords.Return = starts.Return
 keyword_stmt keywords.Asm = starts.Asm
 keyword_stmt keyword = starts.Value
 
+-- what a statement begins with, by its first token
 abbrev pub stmt_start : TokenKind → StmtStart
 stmt_start (kinds.Keyword keyword) = keyword_stmt keyword
 stmt_start (kinds.Name name) = starts.Name name
@@ -105,7 +107,8 @@ module _ (inner : Inner) where
   bare_declaration exts words room s ts = fits (1 + specs_height words) room ts (take_one s ts >>= λ semi.
       ends (declaration exts words (init_declrs_from []) semi.tree) semi.scopes semi.rest)
 
-  -- AutoDeclr ;  behind words with `__auto_type`, in a declaration of this room: the name is declared behind its initialiser
+  -- AutoDeclr ;  behind words with `__auto_type`, in a declaration of this room: the name is declared behind its
+  -- initialiser
   unfoldable pub auto_declr : List ℕ → SpecWords → Declr → ℕ → Reader Declaration
   auto_declr exts words d room s ts = do
     attrs ← attrs_at room s ts
@@ -114,6 +117,7 @@ module _ (inner : Inner) where
     semi ← token_at is_semicolon (release Value e.scopes) e.rest
     ends (declaration exts words (init_declrs_from (record { before = []; declr = d; label = None; attrs = attrs.tree; init = some_init equal.tree (init_value e.tree) } ∷ [])) semi.tree) semi.scopes semi.rest
 
+  -- the name behind `__auto_type`, which is held
   abbrev pub auto_name : Option ℕ → ℕ → Reader Declr
   auto_name None room s ts = refuses Unexpected ts
   auto_name (Some name) room s ts = name_held name room (at_name (Some Value) name s) s ts >>= λ d. present d.tree.declr d.scopes d.rest
@@ -123,6 +127,7 @@ module _ (inner : Inner) where
   auto_declarator true room s ts = if is_base_word (kind_at ts) then fits 1 room ts (take_one s ts >>= λ token. ends (base_name token.tree) token.scopes token.rest) else refuses Unexpected ts
   auto_declarator false room s ts = auto_name (spelled_name (kind_at ts)) room s ts
 
+  -- AutoDeclr ;  behind words with `__auto_type`
   unfoldable pub auto_behind : List ℕ → SpecWords → ℕ → Reader Declaration
   auto_behind exts words room s ts =
       auto_declarator (has_typedef_word (storage_words words)) (room - 2) s ts >>= λ d. auto_declr exts words d.tree (room - 1) d.scopes d.rest
@@ -146,9 +151,11 @@ module _ (inner : Inner) where
     words ← inner.specs Declaring known (room - 1) s ts
     declaration_behind [] words.tree room words.scopes words.rest
 
+  -- a declaration as an item of a block
   abbrev pub as_item : Read Declaration → Read BlockItem
   as_item read = read >>= λ d. ends (block_decl (decl_declaration d.tree)) d.scopes d.rest
 
+  -- a statement as an item of a block
   abbrev pub as_stmt : Read Stmt → Read BlockItem
   as_stmt read = read >>= λ t. ends (block_stmt t.tree) t.scopes t.rest
 
@@ -190,9 +197,11 @@ module _ (inner : Inner) where
       else if begins_specs s (kind_at ts) then as_item (declaration_from (words_of_attrs attrs) room s ts)
       else refuses Unexpected ts
 
+  -- AttrStmt or a declaration that begins with attributes, at the first of them
   unfoldable pub attr_item : ℕ → Reader BlockItem
   attr_item room s ts = attrs_at room s ts >>= λ attrs. attr_item_by attrs.tree room attrs.scopes attrs.rest
 
+  -- an item that begins with a name, with a word of specifiers, or as a statement
   unfoldable pub other_item : Option ℕ → ℕ → Reader BlockItem
   other_item (Some name) room s ts = named_item name room s ts
   other_item None room s ts =
@@ -311,6 +320,7 @@ module _ (inner : Inner) where
     semi ← token_at is_semicolon closing.scopes closing.rest
     ends (do_stmt keyword.tree t.tree keyword2.tree opening.tree e.tree closing.tree semi.tree) semi.scopes semi.rest
 
+  -- a declaration as the first clause of a `for`
   abbrev pub as_start : Read Declaration → Read ForStart
   as_start read = read >>= λ d. ends (start_declaration d.tree) d.scopes d.rest
 
@@ -409,7 +419,8 @@ module _ (inner : Inner) where
       else if names_type s name then refuses Unexpected (behind_first ts)
       else expr_stmt_with nothing room s ts)
 
-  -- stmt = Block | ExprStmt | AttrStmt | Label | Case | Default | If | Switch | While | Do | For | Goto | Continue | Break
+  -- stmt = Block | ExprStmt | AttrStmt | Label | Case | Default | If | Switch | While | Do | For | Goto | Continue |
+  -- Break
   -- | Return | Asm, by what it begins with
   unfoldable pub stmt_by : StmtStart → ℕ → Reader Stmt
   stmt_by starts.Block room s ts = block_with room s ts >>= λ b. ends (block b.tree.opening b.tree.items b.tree.closing) b.scopes b.rest
@@ -430,5 +441,6 @@ module _ (inner : Inner) where
   stmt_by starts.Asm room s ts = asm_with room s ts
   stmt_by starts.Value room s ts = if begins_expr s (kind_at ts) then fits 2 room ts (expr_stmt_with nothing room s ts) else refuses Unexpected ts
 
+  -- a statement, by its first token
   unfoldable pub stmt_with : ℕ → Reader Stmt
   stmt_with room s ts = stmt_by (stmt_start (kind_at ts)) room s ts

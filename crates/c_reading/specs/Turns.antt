@@ -16,15 +16,19 @@ use Rattle.c_reading.specs.Stating.{next_init_declr, block_item_with, labels_wit
 use Rattle.c_reading.specs.Items.{item_with, old_declaration}
 use Rattle.c_reading.specs.Knot.{knot}
 
+-- a turn that goes on leaves fewer tokens than it began with
 abbrev pub TakesToken : {S : Type 0} → Turn S → Type 0
 TakesToken {S} turn = (a : S) (s : HeldScopes) (ts : List Lexeme) (x : Found S) → turn a s ts ≡ Some (Ok x) → length x.rest < length ts
 
+-- the items of a body or block go on: any token but `}`
 abbrev pub no_close_brace : TokenKind → Bool
 no_close_brace kind = not (is_close_brace kind)
 
+-- the declarations before a function's body go on: any token but `{`
 abbrev pub no_open_brace : TokenKind → Bool
 no_open_brace kind = not (is_open_brace kind)
 
+-- the items of a unit go on: any token but its end
 abbrev pub no_end : TokenKind → Bool
 no_end kind = not (is_end kind)
 

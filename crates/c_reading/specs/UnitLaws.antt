@@ -1,4 +1,5 @@
--- Laws of the reader of units: what it answers is well formed, what is well formed it answers, and no tokens are those of two
+-- Laws of the reader of units: what it answers is well formed, what is well formed it answers, and no tokens are those
+-- of two
 -- well-formed units.
 use Rattle.std.specs.Prelude.{◌≡◌, List, [], Ok, Bool}
 use Rattle.c_tree.specs.declared.lexeme.Lexeme.{Lexeme}

@@ -6,6 +6,7 @@ use Rattle.c_tree.specs.View.{declr_of, dots_of}
 use Rattle.c_shape.specs.declared.declarator.DeclaratorShape.{DeclaratorShape}
 use Rattle.c_shape.specs.declared.declarator.DeclaratorShape.TheVariants as shapes
 
+-- the declarator that is made of the parts of a shape
 abbrev pub declarator_shaped : DeclaratorShape → Declr
 declarator_shaped (shapes.Pointer star words d) = pointer star words.now.items (declr_of d.now.value)
 declarator_shaped (shapes.DeclName token name) = declr_name token name

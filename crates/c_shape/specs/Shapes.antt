@@ -9,19 +9,22 @@ use Rattle.c_shape.specs.declared.shape.TypeShape.{TypeShape}
 use Rattle.c_shape.specs.declared.shape.Shape.{Shape}
 use Rattle.c_shape.specs.declared.shape.Shape.TheVariants as shapes
 
+-- the operator of what stands between two operands
 abbrev pub between_of : Between → Operator
 between_of betweens.Comma = comma
 between_of (betweens.Assign p) = assign p
 between_of (betweens.Cond middle colon) = cond (some_expr_from middle.now) colon
 between_of (betweens.Binary p) = binary p
 
--- the words and the declarator of a type's name
+-- the words of a type's name
 abbrev pub words_of : TypeShape → SpecWords
 words_of t = spec_words_from t.words.now.items
 
+-- the declarator of a type's name, if any
 abbrev pub declr_in : TypeShape → SomeDeclr
 declr_in t = some_declr_from t.declr.now
 
+-- the expression that is made of the parts of a shape
 abbrev pub shaped : Shape → Expr
 shaped (shapes.Operation left between token right) = operation (expr_of left.now.value) (between_of between) token (expr_of right.now.value)
 shaped (shapes.Cast opening t closing e) = cast opening (words_of t) (declr_in t) closing (expr_of e.now.value)

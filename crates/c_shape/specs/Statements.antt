@@ -13,6 +13,7 @@ abbrev pub start_shaped : StartShape → ForStart
 start_shaped (starts.Declaration d) = start_declaration (declaration_of d.now.value)
 start_shaped (starts.Value e semi) = start_value (some_expr_from e.now) semi
 
+-- the statement that is made of the parts of a shape
 abbrev pub statement_shaped : StatementShape → Stmt
 statement_shaped (shapes.Block opening items closing) = block opening (block_items_from items.now.items) closing
 statement_shaped (shapes.ExprStmt e semi) = expr_stmt (some_expr_from e.now) semi

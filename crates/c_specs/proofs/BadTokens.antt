@@ -23,7 +23,8 @@ free_begins front w free first = by_mix (mix_of front) refl (mix_right front)
         let next : mix_of (pushed front w) ≡ Some mix = mix_pushed front w ∙ ap (λ o. then_class o (class_of w)) is ∙ ap (then_class (Some mix)) free in
         begun mix (pushed front w) (subst (λ (o : Option Mix). Stands (pushed front w) o) next (mix_right (pushed front w)))
 
-word_begins : (all : List Lexeme) (w : SpecWord) (k : List Lexeme) → (class_of w ≡ Free → ⊥) → number_of_first (spec_word_text all w k) ≡ Some (word_token w)
+word_begins : (all : List Lexeme) (w : SpecWord) (k : List Lexeme) → (class_of w ≡ Free → ⊥)
+    → number_of_first (spec_word_text all w k) ≡ Some (word_token w)
 word_begins all (storage a) k other = refl
 word_begins all (thread a) k other = refl
 word_begins all (basic a) k other = refl

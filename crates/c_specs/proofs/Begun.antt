@@ -27,11 +27,13 @@ int_word = basic (record { token = 0; keyword = words.Int })
 double_word : SpecWord
 double_word = basic (record { token = 0; keyword = words.Double })
 
-nothing_begins : (s : Storage) (ws : SpecWords) → AreRead (record { types = Words bases.Nothing marks.Unmarked; storage = s }) ws → Begins ws
+nothing_begins : (s : Storage) (ws : SpecWords)
+    → AreRead (record { types = Words bases.Nothing marks.Unmarked; storage = s }) ws → Begins ws
 unfolding int_word
 nothing_begins s ws read = (more_words int_word no_words, (whole_right (record { types = Words bases.Int marks.Unmarked; storage = s }) (pushed ws int_word) (with_right (record { types = Words bases.Nothing marks.Unmarked; storage = s }) ws int_word read)).0 refl)
 
-complex_begins : (s : Storage) (ws : SpecWords) → AreRead (record { types = Words bases.Long marks.Complex; storage = s }) ws → Begins ws
+complex_begins : (s : Storage) (ws : SpecWords)
+    → AreRead (record { types = Words bases.Long marks.Complex; storage = s }) ws → Begins ws
 unfolding double_word
 complex_begins s ws read = (more_words double_word no_words, (whole_right (record { types = Words bases.LongDouble marks.Complex; storage = s }) (pushed ws double_word) (with_right (record { types = Words bases.Long marks.Complex; storage = s }) ws double_word read)).0 refl)
 

@@ -23,17 +23,20 @@ module _ (code : Keyword → ℕ) where
   abbrev pub ends : List (List Keyword) → List Keyword → Bool
   ends sets ws = list_any (λ set. covers set ws && nat_eq (length ws) (length set)) sets
 
-  covered : (set ws us : List Keyword) → ((n : ℕ) → count n ws ≤ count n set) → list_all (λ k. nat_le (count (code k) ws) (count (code k) set)) us ≡ true
+  covered : (set ws us : List Keyword) → ((n : ℕ) → count n ws ≤ count n set)
+      → list_all (λ k. nat_le (count (code k) ws) (count (code k) set)) us ≡ true
   covered set ws [] fewer = refl
   covered set ws (u ∷ us) fewer = rw (le-leb _ _ (fewer (code u))) (covered set ws us fewer)
 
-  pub not_begun : (sets : List (List Keyword)) (ws all : List Keyword) → begins sets ws ≡ false → ((n : ℕ) → count n ws ≤ count n all) → Any (IsPermutation all) sets → ⊥
+  pub not_begun : (sets : List (List Keyword)) (ws all : List Keyword) → begins sets ws ≡ false
+      → ((n : ℕ) → count n ws ≤ count n all) → Any (IsPermutation all) sets → ⊥
   not_begun sets ws all none fewer (at, set, lt, is, same) =
       let f : (n : ℕ) → count n ws ≤ count n set = λ n. let e = sum_by-IsPermutation (λ k. if nat_eq (code k) n then 1 else 0) all set same in let l = fewer n in omega arith in
       let yes = list_any-from_Any (λ s. covers s ws) sets (at, set, lt, is, covered set ws ws f) in
       let wrong : true ≡ false = sym yes ∙ none in absurd cc
 
-  pub not_ended : (sets : List (List Keyword)) (ws all : List Keyword) → ends sets ws ≡ false → IsPermutation all ws → Any (IsPermutation all) sets → ⊥
+  pub not_ended : (sets : List (List Keyword)) (ws all : List Keyword) → ends sets ws ≡ false → IsPermutation all ws
+      → Any (IsPermutation all) sets → ⊥
   not_ended sets ws all none here (at, set, lt, is, same) =
       let f : (n : ℕ) → count n ws ≤ count n set = λ n. let e = sum_by-IsPermutation (λ k. if nat_eq (code k) n then 1 else 0) all set same in let g = sum_by-IsPermutation (λ k. if nat_eq (code k) n then 1 else 0) all ws here in omega arith in
       let long : length ws ≡ length set = length_permutation all ws here ∙ sym (length_permutation all set same) in

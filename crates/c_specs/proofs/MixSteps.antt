@@ -57,7 +57,8 @@ counts_append (more_words (typeof_type a b ws2 d c) ws) more = let e = counts_ap
 counts_append (more_words (align a) ws) more = counts_append ws more
 counts_append (more_words (auto_word a) ws) more = let e = counts_append ws more in omega arith
 
-pub stores_append : (ws more : SpecWords) → storage_words (append_words ws more) ≡ storage_words ws ++ storage_words more
+pub stores_append : (ws more : SpecWords)
+    → storage_words (append_words ws more) ≡ storage_words ws ++ storage_words more
 stores_append no_words more = refl
 stores_append (more_words (storage a) ws) more = ap (λ ks. a.keyword ∷ ks) (stores_append ws more)
 stores_append (more_words (thread a) ws) more = ap (λ ks. words.Thread ∷ ks) (stores_append ws more)
@@ -83,12 +84,14 @@ no_storage_begins ws none (more, mix) = none (storage_words more) (subst (λ ks.
 Right : SpecWords → Option Mix → Type 0
 Right ws o = MatchOption o (Begins ws → ⊥) (λ m. AreRead m ws)
 
-types_right : (mix : Mix) (ws : SpecWords) (o : Option Types) → Steps (type_count ws) (type_words ws) o → IsPermutation (storage_words ws) (stored_words mix.storage) → Right ws (with_types mix o)
+types_right : (mix : Mix) (ws : SpecWords) (o : Option Types) → Steps (type_count ws) (type_words ws) o
+    → IsPermutation (storage_words ws) (stored_words mix.storage) → Right ws (with_types mix o)
 unfolding Right
 types_right mix ws None none here = no_type_begins ws none
 types_right mix ws (Some t) is here = record { types = is; storing = here }
 
-storage_right : (mix : Mix) (ws : SpecWords) (o : Option Storage) → Stores (storage_words ws) o → TypesAre mix.types (type_count ws) (type_words ws) → Right ws (storage_put mix o)
+storage_right : (mix : Mix) (ws : SpecWords) (o : Option Storage) → Stores (storage_words ws) o
+    → TypesAre mix.types (type_count ws) (type_words ws) → Right ws (storage_put mix o)
 unfolding Right
 storage_right mix ws None none here = no_storage_begins ws none
 storage_right mix ws (Some s) is here = record { types = here; storing = is }
@@ -98,7 +101,8 @@ full : (n : ℕ) (ks : List Keyword) → 1 ≤ length ks → NoType (n + 1) ks
 full n [] some m more h = absurd (omega arith)
 full n (k ∷ ks) some m more h = elim h [ inl nought ↦ absurd (let e = nought.0 in omega arith) | inr last ↦ absurd (let e = last.1 in cc) ]
 
-pub many : (b : Base) (m : Mark) (ks : List Keyword) → 1 ≤ length (base_words b) → IsPermutation ks (words_of b m) → 1 ≤ length ks
+pub many : (b : Base) (m : Mark) (ks : List Keyword) → 1 ≤ length (base_words b) → IsPermutation ks (words_of b m)
+    → 1 ≤ length ks
 many b marks.Unmarked ks some here = let e = length_permutation ks (base_words b) here in omega arith
 many b marks.Signed ks some here = let e = length_permutation ks (words.Signed ∷ base_words b) here in omega arith
 many b marks.Unsigned ks some here = let e = length_permutation ks (words.Unsigned ∷ base_words b) here in omega arith
@@ -142,33 +146,45 @@ steps_as n n' ks ks' o en ek steps = subst (λ x. Steps x ks' o) (sym en) (subst
 types_as : (t : Types) (n n' : ℕ) (ks ks' : List Keyword) → n' ≡ n → ks' ≡ ks → TypesAre t n ks → TypesAre t n' ks'
 types_as t n n' ks ks' en ek are = subst (λ x. TypesAre t x ks') (sym en) (subst (λ x. TypesAre t n x) (sym ek) are)
 
-same_count : (ws : SpecWords) (w : SpecWord) → type_count (more_words w no_words) ≡ 0 → type_count (pushed ws w) ≡ type_count ws
+same_count : (ws : SpecWords) (w : SpecWord) → type_count (more_words w no_words) ≡ 0
+    → type_count (pushed ws w) ≡ type_count ws
 same_count ws w none = let e = counts_append ws (more_words w no_words) in omega arith
 
-one_count : (ws : SpecWords) (w : SpecWord) → type_count (more_words w no_words) ≡ 1 → type_count (pushed ws w) ≡ type_count ws + 1
+one_count : (ws : SpecWords) (w : SpecWord) → type_count (more_words w no_words) ≡ 1
+    → type_count (pushed ws w) ≡ type_count ws + 1
 one_count ws w one = let e = counts_append ws (more_words w no_words) in omega arith
 
-same_types : (ws : SpecWords) (w : SpecWord) → type_words (more_words w no_words) ≡ [] → type_words (pushed ws w) ≡ type_words ws
+same_types : (ws : SpecWords) (w : SpecWord) → type_words (more_words w no_words) ≡ []
+    → type_words (pushed ws w) ≡ type_words ws
 same_types ws w none = types_append ws (more_words w no_words) ∙ ap (λ ks. type_words ws ++ ks) none ∙ append-nil (type_words ws)
 
-same_stores : (ws : SpecWords) (w : SpecWord) → storage_words (more_words w no_words) ≡ [] → storage_words (pushed ws w) ≡ storage_words ws
+same_stores : (ws : SpecWords) (w : SpecWord) → storage_words (more_words w no_words) ≡ []
+    → storage_words (pushed ws w) ≡ storage_words ws
 same_stores ws w none = stores_append ws (more_words w no_words) ∙ ap (λ ks. storage_words ws ++ ks) none ∙ append-nil (storage_words ws)
 
-kept_stores : (mix : Mix) (ws : SpecWords) (w : SpecWord) → storage_words (more_words w no_words) ≡ [] → AreRead mix ws → IsPermutation (storage_words (pushed ws w)) (stored_words mix.storage)
+kept_stores : (mix : Mix) (ws : SpecWords) (w : SpecWord) → storage_words (more_words w no_words) ≡ [] → AreRead mix ws
+    → IsPermutation (storage_words (pushed ws w)) (stored_words mix.storage)
 kept_stores mix ws w none read = subst (λ ks. IsPermutation ks (stored_words mix.storage)) (sym (same_stores ws w none)) read.storing
 
-kept_types : (mix : Mix) (ws : SpecWords) (w : SpecWord) → type_count (more_words w no_words) ≡ 0 → type_words (more_words w no_words) ≡ [] → AreRead mix ws → TypesAre mix.types (type_count (pushed ws w)) (type_words (pushed ws w))
+kept_types : (mix : Mix) (ws : SpecWords) (w : SpecWord) → type_count (more_words w no_words) ≡ 0
+    → type_words (more_words w no_words) ≡ [] → AreRead mix ws
+    → TypesAre mix.types (type_count (pushed ws w)) (type_words (pushed ws w))
 kept_types mix ws w nought none read = types_as mix.types _ _ _ _ (same_count ws w nought) (same_types ws w none) read.types
 
-name_right : (mix : Mix) (ws : SpecWords) (w : SpecWord) → type_count (more_words w no_words) ≡ 1 → type_words (more_words w no_words) ≡ [] → storage_words (more_words w no_words) ≡ [] → AreRead mix ws → Right (pushed ws w) (with_types mix (with_named mix.types))
+name_right : (mix : Mix) (ws : SpecWords) (w : SpecWord) → type_count (more_words w no_words) ≡ 1
+    → type_words (more_words w no_words) ≡ [] → storage_words (more_words w no_words) ≡ [] → AreRead mix ws
+    → Right (pushed ws w) (with_types mix (with_named mix.types))
 name_right mix ws w one none least read = types_right mix (pushed ws w) (with_named mix.types)
     (steps_as _ _ _ _ (with_named mix.types) (one_count ws w one) (same_types ws w none) (named_right mix.types (type_count ws) (type_words ws) read.types)) (kept_stores mix ws w least read)
 
-rest_right : (mix : Mix) (ws : SpecWords) (w : SpecWord) → type_count (more_words w no_words) ≡ 0 → type_words (more_words w no_words) ≡ [] → storage_words (more_words w no_words) ≡ [] → AreRead mix ws → AreRead mix (pushed ws w)
+rest_right : (mix : Mix) (ws : SpecWords) (w : SpecWord) → type_count (more_words w no_words) ≡ 0
+    → type_words (more_words w no_words) ≡ [] → storage_words (more_words w no_words) ≡ [] → AreRead mix ws
+    → AreRead mix (pushed ws w)
 rest_right mix ws w nought none least read = record { types = kept_types mix ws w nought none read; storing = kept_stores mix ws w least read }
 
 -- one more word of a mix
-pub with_right : (mix : Mix) (ws : SpecWords) (w : SpecWord) → AreRead mix ws → MatchOption (with_word mix w) (Begins (pushed ws w) → ⊥) (λ m. AreRead m (pushed ws w))
+pub with_right : (mix : Mix) (ws : SpecWords) (w : SpecWord) → AreRead mix ws
+    → MatchOption (with_word mix w) (Begins (pushed ws w) → ⊥) (λ m. AreRead m (pushed ws w))
 unfolding Right
 with_right mix ws (storage a) read = storage_right mix (pushed ws (storage a)) (stored mix.storage (storing a.keyword))
     (subst (λ ks. Stores ks (stored mix.storage (storing a.keyword))) (sym (stores_append ws (more_words (storage a) no_words))) (keyword_right mix.storage a.keyword (storage_words ws) read.storing)) (kept_types mix ws (storage a) refl refl read)

@@ -14,7 +14,8 @@ not_begun : (ws : SpecWords) (token : ℕ) → IsFirstBadWord ws token → Begin
 not_begun ws token bad begun = bad.bad (begins_less (pushed bad.front bad.word) bad.more (subst Begins (bad.parts ∙ sym (append_next bad.front bad.word bad.more)) begun))
 
 -- where what holds of words holds of the first of them too, it ends at one word
-first_same : (P : SpecWords → Type 0) → ((front more : SpecWords) → P (append_words front more) → P front) → (front front' : SpecWords) (w w' : SpecWord) (more more' : SpecWords) →
+first_same : (P : SpecWords → Type 0) → ((front more : SpecWords) → P (append_words front more) → P front)
+    → (front front' : SpecWords) (w w' : SpecWord) (more more' : SpecWords) →
     append_words front (more_words w more) ≡ append_words front' (more_words w' more') → P front → (P (pushed front w) → ⊥) → P front' → (P (pushed front' w') → ⊥) → w ≡ w'
 first_same P less no_words no_words w w' more more' same begun bad begun' bad' = cc
 first_same P less no_words (more_words v front') w w' more more' same begun bad begun' bad' = absurd (let e : v ≡ w = cc in bad (subst (λ (u : SpecWord). P (more_words u no_words)) e (less (more_words v no_words) front' begun')))

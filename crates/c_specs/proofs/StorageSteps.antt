@@ -29,7 +29,9 @@ alike words.Register = refl
 alike words.Thread = refl
 alike _ = refl
 
-none_right : (s w : Storage) (k : Keyword) (ks : List Keyword) → storage_code k ≡ storage_code (word_of w) → begins storage_code storages (stored_words s ++ word_of w ∷ []) ≡ false → IsPermutation ks (stored_words s) → NoStorage (ks ++ k ∷ [])
+none_right : (s w : Storage) (k : Keyword) (ks : List Keyword) → storage_code k ≡ storage_code (word_of w)
+    → begins storage_code storages (stored_words s ++ word_of w ∷ []) ≡ false → IsPermutation ks (stored_words s)
+    → NoStorage (ks ++ k ∷ [])
 none_right s w k ks al none here more any = not_begun storage_code storages (stored_words s ++ word_of w ∷ []) ((ks ++ k ∷ []) ++ more) none (λ n.
     let all = more_words_count storage_code n (ks ++ k ∷ []) more in
     let whole = more_words_count storage_code n ks (k ∷ []) in
@@ -39,7 +41,9 @@ none_right s w k ks al none here more any = not_begun storage_code storages (sto
     omega arith) any
 
 -- one more storage word
-pub stored_right : (s w : Storage) (k : Keyword) (ks : List Keyword) → storage_code k ≡ storage_code (word_of w) → ((after : Storage) → stored s w ≡ Some after → word_of w ≡ k) → IsPermutation ks (stored_words s) → Stores (ks ++ k ∷ []) (stored s w)
+pub stored_right : (s w : Storage) (k : Keyword) (ks : List Keyword) → storage_code k ≡ storage_code (word_of w)
+    → ((after : Storage) → stored s w ≡ Some after → word_of w ≡ k) → IsPermutation ks (stored_words s)
+    → Stores (ks ++ k ∷ []) (stored s w)
 stored_right s w k ks al same here = by_stored (stored s w) refl (stored_tells s w)
   where
     by_stored : (o : Option Storage) → stored s w ≡ o → Stored s w o → Stores (ks ++ k ∷ []) o
@@ -58,7 +62,8 @@ nothing_stored Thread = refl
 nothing_stored ThreadStatic = refl
 nothing_stored ThreadExtern = refl
 
-pub word_same : (s : Storage) (k : Keyword) (after : Storage) → stored s (storing k) ≡ Some after → word_of (storing k) ≡ k
+pub word_same : (s : Storage) (k : Keyword) (after : Storage) → stored s (storing k) ≡ Some after
+    → word_of (storing k) ≡ k
 word_same s words.Typedef after e = refl
 word_same s words.Extern after e = refl
 word_same s words.Static after e = refl
@@ -67,8 +72,10 @@ word_same s words.Register after e = refl
 word_same s words.Thread after e = refl
 word_same s _ after e = absurd (let wrong : None ≡ Some after = sym (nothing_stored s) ∙ e in cc)
 
-pub keyword_right : (s : Storage) (k : Keyword) (ks : List Keyword) → IsPermutation ks (stored_words s) → Stores (ks ++ k ∷ []) (stored s (storing k))
+pub keyword_right : (s : Storage) (k : Keyword) (ks : List Keyword) → IsPermutation ks (stored_words s)
+    → Stores (ks ++ k ∷ []) (stored s (storing k))
 keyword_right s k ks here = stored_right s (storing k) k ks (alike k) (word_same s k) here
 
-pub thread_right : (s : Storage) (ks : List Keyword) → IsPermutation ks (stored_words s) → Stores (ks ++ words.Thread ∷ []) (stored s Thread)
+pub thread_right : (s : Storage) (ks : List Keyword) → IsPermutation ks (stored_words s)
+    → Stores (ks ++ words.Thread ∷ []) (stored s Thread)
 thread_right s ks here = stored_right s Thread words.Thread ks refl (λ after e. refl) here

@@ -29,7 +29,8 @@ same_told false false n x y = refl
 same_told true false n x y = absurd (omega arith)
 same_told false true n x y = absurd (omega arith)
 
-one_told : (n : ℕ) (ks : List Keyword) (b : Base) (m : Mark) → 1 ≤ length (base_words b) → IsPermutation ks (words_of b m) → 1 ≤ n + length ks
+one_told : (n : ℕ) (ks : List Keyword) (b : Base) (m : Mark) → 1 ≤ length (base_words b)
+    → IsPermutation ks (words_of b m) → 1 ≤ n + length ks
 one_told n ks b m some here = let e = many b m ks some here in omega arith
 
 stands_told : (t : Types) (n : ℕ) (ks : List Keyword) → TypesAre t n ks → Tells (type_stands t) (n + length ks)

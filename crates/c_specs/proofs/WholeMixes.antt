@@ -21,12 +21,14 @@ within [] n x is = absurd cc
 within (y ∷ ys) zero x is = omega arith
 within (y ∷ ys) (suc n) x is = let l = within ys n x is in omega arith
 
-found : (sets : List (List Keyword)) (n : ℕ) (x : List Keyword) → slice_get sets n ≡ Some x → slice_index_or sets n x ≡ x
+found : (sets : List (List Keyword)) (n : ℕ) (x : List Keyword) → slice_get sets n ≡ Some x
+    → slice_index_or sets n x ≡ x
 found [] n x is = absurd cc
 found (y ∷ ys) zero x is = cc
 found (y ∷ ys) (suc n) x is = found ys n x is
 
-any_at : (sets : List (List Keyword)) (n : ℕ) (x ks : List Keyword) → slice_get sets n ≡ Some x → IsPermutation ks x → Any (IsPermutation ks) sets
+any_at : (sets : List (List Keyword)) (n : ℕ) (x ks : List Keyword) → slice_get sets n ≡ Some x → IsPermutation ks x
+    → Any (IsPermutation ks) sets
 any_at sets n x ks is same = (n, x, within sets n x is, found sets n x is, same)
 
 type_whole : (t : Types) (n : ℕ) (ks : List Keyword) → TypesAre t n ks → whole_of t ≡ true → IsTypeOf n ks

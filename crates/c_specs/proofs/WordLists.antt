@@ -7,7 +7,8 @@ use Rattle.c_tree.specs.View.{spec_word_of}
 use Rattle.c_tree.specs.Unit.{spec_words_from}
 use Rattle.c_specs.specs.Reading.{append_words, pushed}
 
-next_at : (ws : List SpecWord) (n : ℕ) (w : SpecWord) → n < length ws → w ≡ get_or ws n w → spec_words_from (take (suc n) ws) ≡ pushed (spec_words_from (take n ws)) (spec_word_of w)
+next_at : (ws : List SpecWord) (n : ℕ) (w : SpecWord) → n < length ws → w ≡ get_or ws n w
+    → spec_words_from (take (suc n) ws) ≡ pushed (spec_words_from (take n ws)) (spec_word_of w)
 next_at [] n w lt is = absurd (omega arith)
 next_at (v ∷ vs) zero w lt is = ap (λ (u : SpecWord). more_words (spec_word_of u) no_words) (sym is)
 next_at (v ∷ vs) (suc n) w lt is = ap (more_words (spec_word_of v)) (next_at vs n w (omega arith) is)
@@ -19,7 +20,8 @@ split_at (v ∷ vs) zero w lt is = ap (λ (u : SpecWord). more_words (spec_word_
 split_at (v ∷ vs) (suc n) w lt is = ap (more_words (spec_word_of v)) (split_at vs n w (omega arith) is)
 
 -- the words up to one and this one
-pub words_next : (ws : List SpecWord) (n : ℕ) (w : SpecWord) → n < length ws → w ≡ get_or ws n w → spec_words_from (take (n + 1) ws) ≡ pushed (spec_words_from (take n ws)) (spec_word_of w)
+pub words_next : (ws : List SpecWord) (n : ℕ) (w : SpecWord) → n < length ws → w ≡ get_or ws n w
+    → spec_words_from (take (n + 1) ws) ≡ pushed (spec_words_from (take n ws)) (spec_word_of w)
 words_next ws n w lt is = let e : suc n ≡ n + 1 = omega arith in
     subst (λ (m : ℕ). spec_words_from (take m ws) ≡ pushed (spec_words_from (take n ws)) (spec_word_of w)) e (next_at ws n w lt is)
 

@@ -33,11 +33,13 @@ class_step mix (auto_word a) = refl
 abbrev pub Stands : SpecWords → Option Mix → Type 0
 Stands ws o = MatchOption o (Begins ws → ⊥) (λ m. AreRead m ws)
 
-pub append_next : (front : SpecWords) (w : SpecWord) (ws : SpecWords) → append_words (pushed front w) ws ≡ append_words front (more_words w ws)
+pub append_next : (front : SpecWords) (w : SpecWord) (ws : SpecWords)
+    → append_words (pushed front w) ws ≡ append_words front (more_words w ws)
 append_next no_words w ws = refl
 append_next (more_words v front) w ws = ap (more_words v) (append_next front w ws)
 
-pub append_more : (front middle ws : SpecWords) → append_words (append_words front middle) ws ≡ append_words front (append_words middle ws)
+pub append_more : (front middle ws : SpecWords)
+    → append_words (append_words front middle) ws ≡ append_words front (append_words middle ws)
 append_more no_words middle ws = refl
 append_more (more_words v front) middle ws = ap (more_words v) (append_more front middle ws)
 
@@ -45,7 +47,8 @@ append_more (more_words v front) middle ws = ap (more_words v) (append_more fron
 pub begins_less : (front middle : SpecWords) → Begins (append_words front middle) → Begins front
 begins_less front middle (more, mix) = (append_words middle more, subst IsMix (append_more front middle more) mix)
 
-then_right : (o : Option Mix) (front : SpecWords) (w : SpecWord) → Stands front o → Stands (pushed front w) (then_class o (class_of w))
+then_right : (o : Option Mix) (front : SpecWords) (w : SpecWord) → Stands front o
+    → Stands (pushed front w) (then_class o (class_of w))
 then_right None front w none = λ begun. none (begins_less front (more_words w no_words) begun)
 then_right (Some mix) front w read = subst (λ (o : Option Mix). Stands (pushed front w) o) (sym (class_step mix w)) (with_right mix front w read)
 
@@ -64,10 +67,8 @@ mix_right ws = from_right (Some no_mix) no_words ws none_read
 pub read_of_mix : (ws : SpecWords) (mix : Mix) → mix_of ws ≡ Some mix → AreRead mix ws
 read_of_mix ws mix is = subst (λ (o : Option Mix). Stands ws o) is (mix_right ws)
 
-pub none_begins : (ws : SpecWords) → mix_of ws ≡ None → Begins ws → ⊥
-none_begins ws is = subst (λ (o : Option Mix). Stands ws o) is (mix_right ws)
-
-from_append : (o : Option Mix) (ws : SpecWords) (w : SpecWord) → mix_from o (pushed ws w) ≡ then_class (mix_from o ws) (class_of w)
+from_append : (o : Option Mix) (ws : SpecWords) (w : SpecWord)
+    → mix_from o (pushed ws w) ≡ then_class (mix_from o ws) (class_of w)
 from_append o no_words w = refl
 from_append o (more_words v ws) w = from_append (then_class o (class_of v)) ws w
 

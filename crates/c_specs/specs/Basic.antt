@@ -11,6 +11,7 @@ use Rattle.c_specs.specs.declared.basic.Core.TheVariants as cores
 use Rattle.c_specs.specs.declared.basic.Part.{Part}
 use Rattle.c_specs.specs.declared.basic.Part.TheVariants as parts
 
+-- what a keyword is among the words of a basic type: a sign or `_Complex`, another word, or no such word
 abbrev pub part_of : Keyword → Part
 part_of words.Signed = parts.Mark marks.Signed
 part_of words.Unsigned = parts.Mark marks.Unsigned
@@ -28,6 +29,7 @@ part_of words.Float = parts.Core cores.Float
 part_of words.Double = parts.Core cores.Double
 part_of _ = parts.Other
 
+-- the signs and `_Complex` that stand
 abbrev pub mark_words : Mark → List Keyword
 mark_words marks.Unmarked = []
 mark_words marks.Signed = words.Signed ∷ []
@@ -37,6 +39,7 @@ mark_words marks.AnyComplex = words.AnyComplex ∷ []
 mark_words marks.ComplexSigned = words.AnyComplex ∷ words.Signed ∷ []
 mark_words marks.ComplexUnsigned = words.AnyComplex ∷ words.Unsigned ∷ []
 
+-- the keyword of a word of a basic type
 abbrev pub core_word : Core → Keyword
 core_word cores.Void = words.Void
 core_word cores.Bool = words.Bool
@@ -49,6 +52,7 @@ core_word cores.Long = words.Long
 core_word cores.Float = words.Float
 core_word cores.Double = words.Double
 
+-- the words of a basic type, signs and `_Complex` aside
 abbrev pub base_words : Base → List Keyword
 base_words bases.Nothing = []
 base_words bases.Void = words.Void ∷ []
@@ -71,6 +75,7 @@ base_words bases.LongDouble = words.Long ∷ words.Double ∷ []
 abbrev pub words_of : Base → Mark → List Keyword
 words_of base mark = mark_words mark ++ base_words base
 
+-- the words of a basic type with one more, where they go together
 abbrev pub join : Base → Core → Option Base
 join bases.Nothing cores.Void = Some bases.Void
 join bases.Nothing cores.Bool = Some bases.Bool
@@ -93,6 +98,7 @@ join bases.Double cores.Long = Some bases.LongDouble
 join bases.Long cores.Double = Some bases.LongDouble
 join _ _ = None
 
+-- whether `signed` or `unsigned` goes with these words
 abbrev pub has_sign : Base → Bool
 has_sign bases.Nothing = true
 has_sign bases.Char = true
@@ -106,6 +112,7 @@ has_sign bases.LongLong = true
 has_sign bases.LongLongInt = true
 has_sign _ = false
 
+-- whether `_Complex` goes with these words, or with more of them
 abbrev pub has_complex : Base → Bool
 has_complex bases.Nothing = true
 has_complex bases.Long = true
@@ -114,13 +121,14 @@ has_complex bases.Double = true
 has_complex bases.LongDouble = true
 has_complex _ = false
 
--- in wider C
+-- whether the `_Complex` of wider C goes with these words, or with more of them
 abbrev pub has_any_complex : Base → Bool
 has_any_complex bases.Void = false
 has_any_complex bases.Bool = false
 has_any_complex bases.Int128 = false
 has_any_complex _ = true
 
+-- whether a sign and the `_Complex` of wider C go together with these words
 abbrev pub has_complex_sign : Base → Bool
 has_complex_sign bases.Nothing = true
 has_complex_sign bases.Char = true
@@ -142,6 +150,7 @@ marked marks.Unsigned marks.AnyComplex = Some marks.ComplexUnsigned
 marked marks.AnyComplex marks.Unsigned = Some marks.ComplexUnsigned
 marked _ _ = None
 
+-- whether these words and signs are in a set of 6.7.2, with more words or as they are
 abbrev pub fits : Base → Mark → Bool
 fits base marks.Unmarked = true
 fits base marks.Signed = has_sign base
@@ -151,6 +160,7 @@ fits base marks.AnyComplex = has_any_complex base
 fits base marks.ComplexSigned = has_complex_sign base
 fits base marks.ComplexUnsigned = has_complex_sign base
 
+-- whether words that go together are a whole type: not no word, and not `long _Complex`
 abbrev pub is_whole : Base → Mark → Bool
 is_whole bases.Nothing marks.Unmarked = false
 is_whole bases.Long marks.Complex = false

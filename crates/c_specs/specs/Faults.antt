@@ -8,6 +8,7 @@ use Rattle.c_specs.specs.declared.reading.SpecFault.{SpecFault}
 use Rattle.c_specs.specs.declared.reading.SpecFault.TheVariants.{BadMix, Unfinished}
 use Rattle.c_specs.specs.Reading.{append_words, pushed, Begins}
 
+-- the token of a qualifier
 abbrev pub qual_token : Qual → ℕ
 qual_token (quals.Word word) = word.token
 qual_token (quals.Element token) = token
@@ -40,6 +41,7 @@ pub record IsFirstBadWord (ws : SpecWords) (token : ℕ) : Type 0 where
   pub bad : Begins (pushed front word) → ⊥
   pub place : token ≡ word_token word
 
+-- a fault of specifiers: a first word that goes with none before it, or words that are not a whole mix yet
 abbrev pub IsFault : SpecWords → SpecFault → Type 0
 IsFault ws (BadMix token) = IsFirstBadWord ws token
 IsFault ws Unfinished = Begins ws × (IsMix ws → ⊥)

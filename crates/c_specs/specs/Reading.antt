@@ -14,6 +14,7 @@ abbrev pub append_words : SpecWords → SpecWords → SpecWords
 append_words no_words more = more
 append_words (more_words w ws) more = more_words w (append_words ws more)
 
+-- words with one more behind them
 abbrev pub pushed : SpecWords → SpecWord → SpecWords
 pushed ws w = append_words ws (more_words w no_words)
 
@@ -35,5 +36,6 @@ pub record ReadOf (mix : Mix) (n : ℕ) (ks stores : List Keyword) : Type 0 wher
   pub types : TypesAre mix.types n ks
   pub storing : IsPermutation stores (stored_words mix.storage)
 
+-- the mix is what stands after these words
 abbrev pub AreRead : Mix → SpecWords → Type 0
 AreRead mix ws = ReadOf mix (type_count ws) (type_words ws) (storage_words ws)

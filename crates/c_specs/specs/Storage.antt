@@ -5,6 +5,7 @@ use Rattle.c_words.specs.declared.kinds.Keyword.TheVariants as words
 use Rattle.c_specs.specs.declared.storage.Storage.{Storage}
 use Rattle.c_specs.specs.declared.storage.Storage.TheVariants.{Nothing, Typedef, Extern, Static, Auto, Register, Thread, ThreadStatic, ThreadExtern}
 
+-- the storage of one keyword; none where it is no storage word
 abbrev pub storing : Keyword → Storage
 storing words.Typedef = Typedef
 storing words.Extern = Extern
@@ -14,6 +15,7 @@ storing words.Register = Register
 storing words.Thread = Thread
 storing _ = Nothing
 
+-- the storage words that stand
 abbrev pub stored_words : Storage → List Keyword
 stored_words Nothing = []
 stored_words Typedef = words.Typedef ∷ []
@@ -25,6 +27,7 @@ stored_words Thread = words.Thread ∷ []
 stored_words ThreadStatic = words.Thread ∷ words.Static ∷ []
 stored_words ThreadExtern = words.Thread ∷ words.Extern ∷ []
 
+-- the storage words that stand with one more, where they may stand together (6.7.1)
 abbrev pub stored : Storage → Storage → Option Storage
 stored Nothing Typedef = Some Typedef
 stored Nothing Extern = Some Extern

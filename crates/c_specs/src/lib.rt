@@ -1,4 +1,8 @@
 //! Which declaration specifiers may stand together, read word by word (C99, 6.7.1 and 6.7.2).
+//!
+//! Entry: `read_specs`, and the laws of mixes. Invariant: words that are a mix are read, and the first that continues
+//! none is refused.
+//! It does not know where specifiers stand. Above: `c_reading`, `spec_forms`.
 #![tactic(auto)]
 
 mod basic;

@@ -6,8 +6,11 @@
 //! there is beside its token; where it has a name, the name's number is.
 //!
 //! Any value of these types is a tree. Which of them are well formed is said apart from the types. A part that is a
-//! tree is in a box or in a list, never in the node itself: to let a value go is proved for all types at once, at a cost
-//! that grows with what each holds.
+//! tree is in a box or in a list, never in the node itself: to let a value go is proved for all types at once, at a
+//! cost that grows with what each holds.
+//!
+//! Entry: `Unit`, `Expr`, `Declr`, `Stmt`.
+//! It does not know what holds of trees. Above: `c_tree`.
 #![tactic(auto)]
 
 mod declaration;

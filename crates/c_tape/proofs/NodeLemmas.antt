@@ -62,5 +62,6 @@ pub counted : (xs : List rust_assoc.Assoc) → length xs ≡ assoc_count (assocs
 counted [] = refl
 counted (x ∷ xs) = ap suc (counted xs)
 
-pub stmt_item_is : (s : Box rust_stmt.Stmt Global) → block_item_of (rust_block_item.Stmt s) ≡ tree.block_stmt (stmt_of s.value)
+pub stmt_item_is : (s : Box rust_stmt.Stmt Global)
+    → block_item_of (rust_block_item.Stmt s) ≡ tree.block_stmt (stmt_of s.value)
 stmt_item_is s = refl

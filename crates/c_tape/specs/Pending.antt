@@ -8,6 +8,7 @@ use Rattle.c_tape.specs.declared.todo.Task.{Task}
 use Rattle.c_tape.specs.declared.todo.Task.TheVariants as tasks
 use Rattle.c_tape.specs.Tape.{assocs_tape, auto_declrs_tape, identifiers_tape, old_contents, old_declarations_tape, old_declrs_tape, tape_in, exprs_tape, arguments, steps_tape, words_tape, unnamed_tape, struct_items_tape, mem_declrs_tape, enumerators_tape, contents, pieces, params_tape, pointer_words_tape, array_words_tape, quals_tape, init_items_tape, indices_tape, rule_of_items, desigs_tape, init_declrs_tape, block_items_tape, stmt_tape, items_tape}
 
+-- what one task puts on the tape
 abbrev pub task_tape : Task → List Op
 task_tape (tasks.Put op) = op ∷ []
 task_tape (tasks.Expr e called aims) = tape_in called aims (expr_of e.now.value)
@@ -40,11 +41,12 @@ task_tape (tasks.OldContents d ds) = old_contents (map declaration_of ds.now) (d
 task_tape (tasks.OldDeclarations ds) = old_declarations_tape (map declaration_of ds.now)
 task_tape (tasks.OldDeclrs ds) = old_declrs_tape (init_declrs_from ds.now)
 
--- of tasks the last of which comes first
+-- what tasks put on the tape, of which the last is done first
 unfoldable pub pending : List Task → List Op
 pending [] = []
 pending (task ∷ tasks) = pending tasks ++ task_tape task
 
+-- what the next task puts on the tape, if there is one
 abbrev pub next_tape : Option Task → List Op
 next_tape None = []
 next_tape (Some task) = task_tape task

@@ -7,11 +7,12 @@ use Rattle.tape_ops.specs.declared.specifier.TagKind.TheVariants as tags
 use Rattle.c_tree.specs.WellFormed.{has_auto}
 use Rattle.c_tree.specs.Tree.{SpecWords, no_words, more_words, SpecWord, storage, thread, inline_word, noreturn, qualifier, basic, struct_type, enum_type, typedef_name, attribute, SomeBody, no_body, some_body, Declr, pointer, declr_name, declr_paren, array, params, abs_pointer, abs_paren, abs_array, abs_params, no_declr, some_declr, Params, no_params, more_params, InitDeclrs, no_init_declrs, more_init_declrs, BlockItems, no_block_items, more_block_items, BlockItem, block_decl, block_stmt, Stmt, block, expr_stmt, attr_stmt, label, case_stmt, default_stmt, if_stmt, switch_stmt, while_stmt, do_stmt, for_stmt, goto_stmt, continue_stmt, break_stmt, return_stmt, asm_stmt, SomeExpr, no_expr, some_expr, Dots, SomeInit, no_init, some_init, init_value, init_braced, typeof_value, typeof_type, align, auto_word, identifiers, base_name, case_range, goto_value, block_labels}
 
+-- whether a keyword is `void`
 abbrev pub is_void : Keyword → Bool
 is_void keywords.Void = true
 is_void keyword = false
 
--- of the keyword before a tag, `struct` or `union`
+-- what a tag is of, by the keyword before it, `struct` or `union`
 abbrev pub tag_kind : Keyword → TagKind
 tag_kind keywords.Union = tags.Union
 tag_kind keyword = tags.Struct
@@ -51,6 +52,7 @@ has_ellipsis ps (Some dots) = true
 has_ellipsis no_params None = true
 has_ellipsis (more_params words d attrs ps) None = false
 
+-- whether a struct or union has no body
 abbrev pub is_bodiless : SomeBody → Bool
 is_bodiless no_body = true
 is_bodiless (some_body opening items closing) = false
@@ -96,6 +98,7 @@ is_name (abs_params d opening ps dots closing) = false
 is_name (identifiers d opening names closing) = false
 is_name (base_name token) = false
 
+-- whether an expression stands that may be left out
 abbrev pub is_some_expr : SomeExpr → Bool
 is_some_expr no_expr = false
 is_some_expr (some_expr e) = true
@@ -121,6 +124,7 @@ is_value (asm_stmt keyword words group semi) = false
 is_value (case_range keyword e dots e2 colon s) = false
 is_value (goto_value keyword star e semi) = false
 
+-- whether an item of a block is an expression statement with an expression
 abbrev pub is_value_item : BlockItem → Bool
 is_value_item (block_decl d) = false
 is_value_item (block_stmt s) = is_value s
@@ -132,10 +136,12 @@ ends_in_value no_block_items = false
 ends_in_value (more_block_items item no_block_items) = is_value_item item
 ends_in_value (more_block_items item (more_block_items item2 items)) = ends_in_value (more_block_items item2 items)
 
+-- whether no item of a block is left
 abbrev pub is_end : BlockItems → Bool
 is_end no_block_items = true
 is_end (more_block_items item items) = false
 
+-- whether a declarator has an initialiser that is no list
 abbrev pub has_value : SomeInit → Bool
 has_value no_init = false
 has_value (some_init equal (init_value e)) = true
@@ -146,7 +152,8 @@ abbrev pub have_values : InitDeclrs → Bool
 have_values no_init_declrs = true
 have_values (more_init_declrs attrs d asm_label attrs2 init ds) = has_value init && have_values ds
 
--- whether the names of a declaration have the types of their initialisers; without those, as in no well-formed unit, it is one
+-- whether the names of a declaration have the types of their initialisers; without those, as in no well-formed unit, it
+-- is one
 -- like any other
 abbrev pub are_auto : SpecWords → InitDeclrs → Bool
 are_auto words ds = has_auto words && have_values ds

@@ -33,7 +33,8 @@ front_of : {o k : List Lexeme} → EndsWith o k → (front : List Lexeme) × (k 
 front_of whole = ([], refl)
 front_of (later {t} h) = (t ∷ (front_of h).0, ap (λ k. t ∷ k) (front_of h).1)
 
-some_sign_end : (p : Punct) (token : Option ℕ) {o k : List Lexeme} → EndsWith o k → EndsWith o (some_sign_text p token k)
+some_sign_end : (p : Punct) (token : Option ℕ) {o k : List Lexeme} → EndsWith o k
+    → EndsWith o (some_sign_text p token k)
 some_sign_end p None h = h
 some_sign_end p (Some token) h = later h
 
@@ -68,7 +69,8 @@ last_step token next tokens =
     ap (λ (n : ℕ). or_zero (slice_get (next ∷ tokens) n)) here ∙ sym (ap (λ (n : ℕ). or_zero (slice_get (token ∷ next ∷ tokens) n)) there)
 
 -- the last of texts, which are at least one
-last_text_is : (token : ℕ) (tokens : List ℕ) (k : List Lexeme) → (t : Lexeme) × (t.at ≡ last_text (token ∷ tokens)) × EndsWith (t ∷ k) (texts_text (token ∷ tokens) k)
+last_text_is : (token : ℕ) (tokens : List ℕ) (k : List Lexeme)
+    → (t : Lexeme) × (t.at ≡ last_text (token ∷ tokens)) × EndsWith (t ∷ k) (texts_text (token ∷ tokens) k)
 last_text_is token [] k = (record { kind = kinds.Text; at = token }, refl, whole)
 last_text_is token (next ∷ tokens) k =
     let h = last_text_is next tokens k in
@@ -101,7 +103,8 @@ module _ (all : List Lexeme) where
   quals_end [] h = h
   quals_end (q ∷ qs) h = qual_end q (quals_end qs h)
 
-  pointer_words_end : (ws : List PointerWord) {o k : List Lexeme} → EndsWith o k → EndsWith o (pointer_words_text all ws k)
+  pointer_words_end : (ws : List PointerWord) {o k : List Lexeme} → EndsWith o k
+      → EndsWith o (pointer_words_text all ws k)
   pointer_words_end [] h = h
   pointer_words_end (pointer_words.Qual q ∷ ws) h = qual_end q (pointer_words_end ws h)
   pointer_words_end (pointer_words.Attr a ∷ ws) h = attr_end a (pointer_words_end ws h)
@@ -153,7 +156,8 @@ module _ (all : List Lexeme) where
     assoc_end (typed_assoc ws d colon e) h = spec_words_end ws (some_declr_end d (later (expr_end e h)))
     assoc_end (default_assoc keyword colon e) h = later (later (expr_end e h))
 
-    operator_end : (x : Operator) (token : ℕ) {o k : List Lexeme} → EndsWith o k → EndsWith o (operator_text all x token k)
+    operator_end : (x : Operator) (token : ℕ) {o k : List Lexeme} → EndsWith o k
+        → EndsWith o (operator_text all x token k)
     operator_end comma token h = later h
     operator_end (assign p) token h = later h
     operator_end (cond e colon) token h = later (some_expr_end e (later h))
@@ -208,7 +212,8 @@ module _ (all : List Lexeme) where
     mem_declrs_end no_mem_declrs h = h
     mem_declrs_end (more_mem_declrs attrs d ds) h = attrs_end attrs (mem_declr_end d (other_mem_declrs_end ds h))
 
-    other_mem_declrs_end : (x : MemDeclrs) {o k : List Lexeme} → EndsWith o k → EndsWith o (other_mem_declrs_text all x k)
+    other_mem_declrs_end : (x : MemDeclrs) {o k : List Lexeme} → EndsWith o k
+        → EndsWith o (other_mem_declrs_text all x k)
     other_mem_declrs_end no_mem_declrs h = h
     other_mem_declrs_end (more_mem_declrs attrs d ds) h = later (attrs_end attrs (mem_declr_end d (other_mem_declrs_end ds h)))
 
@@ -216,14 +221,16 @@ module _ (all : List Lexeme) where
     mem_declr_end (named d width attrs) h = declr_end d (some_value_end Colon width (attrs_end attrs h))
     mem_declr_end (unnamed colon e attrs) h = later (expr_end e (attrs_end attrs h))
 
-    some_value_end : (mark : Punct) (x : SomeValue) {o k : List Lexeme} → EndsWith o k → EndsWith o (some_value_text all mark x k)
+    some_value_end : (mark : Punct) (x : SomeValue) {o k : List Lexeme} → EndsWith o k
+        → EndsWith o (some_value_text all mark x k)
     some_value_end mark no_value h = h
     some_value_end mark (some_value token e) h = later (expr_end e h)
 
     enum_type_end : (x : EnumType) {o k : List Lexeme} → EndsWith o k → EndsWith o (enum_type_text all x k)
     enum_type_end (enum_of keyword attrs tag body) h = later (attrs_end attrs (tag_end tag (some_enum_body_end body h)))
 
-    some_enum_body_end : (x : SomeEnumBody) {o k : List Lexeme} → EndsWith o k → EndsWith o (some_enum_body_text all x k)
+    some_enum_body_end : (x : SomeEnumBody) {o k : List Lexeme} → EndsWith o k
+        → EndsWith o (some_enum_body_text all x k)
     some_enum_body_end no_enum_body h = h
     some_enum_body_end (some_enum_body opening es last closing) h = later (enumerators_end es (some_sign_end Comma last (later h)))
 
@@ -231,7 +238,8 @@ module _ (all : List Lexeme) where
     enumerators_end no_enumerators h = h
     enumerators_end (more_enumerators name attrs value es) h = later (attrs_end attrs (some_value_end Equal value (other_enumerators_end es h)))
 
-    other_enumerators_end : (x : Enumerators) {o k : List Lexeme} → EndsWith o k → EndsWith o (other_enumerators_text all x k)
+    other_enumerators_end : (x : Enumerators) {o k : List Lexeme} → EndsWith o k
+        → EndsWith o (other_enumerators_text all x k)
     other_enumerators_end no_enumerators h = h
     other_enumerators_end (more_enumerators name attrs value es) h = later (later (attrs_end attrs (some_value_end Equal value (other_enumerators_end es h))))
 
@@ -279,7 +287,8 @@ module _ (all : List Lexeme) where
     init_items_end no_init_items h = h
     init_items_end (more_init_items ds equal init items) h = desigs_end ds (some_sign_end Equal equal (init_end init (other_init_items_end items h)))
 
-    other_init_items_end : (x : InitItems) {o k : List Lexeme} → EndsWith o k → EndsWith o (other_init_items_text all x k)
+    other_init_items_end : (x : InitItems) {o k : List Lexeme} → EndsWith o k
+        → EndsWith o (other_init_items_text all x k)
     other_init_items_end no_init_items h = h
     other_init_items_end (more_init_items ds equal init items) h = later (desigs_end ds (some_sign_end Equal equal (init_end init (other_init_items_end items h))))
 
@@ -301,7 +310,8 @@ module _ (all : List Lexeme) where
     init_declrs_end no_init_declrs h = h
     init_declrs_end (more_init_declrs attrs d asm_label attrs2 init ds) h = attrs_end attrs (declr_end d (label_end asm_label (attrs_end attrs2 (some_init_end init (other_init_declrs_end ds h)))))
 
-    other_init_declrs_end : (x : InitDeclrs) {o k : List Lexeme} → EndsWith o k → EndsWith o (other_init_declrs_text all x k)
+    other_init_declrs_end : (x : InitDeclrs) {o k : List Lexeme} → EndsWith o k
+        → EndsWith o (other_init_declrs_text all x k)
     other_init_declrs_end no_init_declrs h = h
     other_init_declrs_end (more_init_declrs attrs d asm_label attrs2 init ds) h = later (attrs_end attrs (declr_end d (label_end asm_label (attrs_end attrs2 (some_init_end init (other_init_declrs_end ds h))))))
 
@@ -349,16 +359,20 @@ module _ (all : List Lexeme) where
     for_start_end (start_declaration d) h = declaration_end d h
     for_start_end (start_value e semi) h = some_expr_end e (later h)
 
-  closing_is : (k : List Lexeme) (p : Punct) (closing : ℕ) {ts : List Lexeme} → EndsWith (sign_text p closing k) ts → (t : Lexeme) × (t.at ≡ closing) × EndsWith (t ∷ k) ts
+  closing_is : (k : List Lexeme) (p : Punct) (closing : ℕ) {ts : List Lexeme} → EndsWith (sign_text p closing k) ts
+      → (t : Lexeme) × (t.at ≡ closing) × EndsWith (t ∷ k) ts
   closing_is k p closing h = (record { kind = kinds.Punct p; at = closing }, refl, h)
 
-  name_is : (k : List Lexeme) (name : Identifier) {ts : List Lexeme} → EndsWith (identifier_text name k) ts → (t : Lexeme) × (t.at ≡ name.token) × EndsWith (t ∷ k) ts
+  name_is : (k : List Lexeme) (name : Identifier) {ts : List Lexeme} → EndsWith (identifier_text name k) ts
+      → (t : Lexeme) × (t.at ≡ name.token) × EndsWith (t ∷ k) ts
   name_is k name h = (record { kind = kinds.Name name.name; at = name.token }, refl, h)
 
-  list_end_is : (list : InitList) (k : List Lexeme) → (t : Lexeme) × (t.at ≡ list_end list) × EndsWith (t ∷ k) (init_list_text all list k)
+  list_end_is : (list : InitList) (k : List Lexeme)
+      → (t : Lexeme) × (t.at ≡ list_end list) × EndsWith (t ∷ k) (init_list_text all list k)
   list_end_is (init_list opening items last closing) k = closing_is k CloseBrace closing (later (init_items_end items (some_sign_end Comma last whole)))
 
-  last_is : (e : Expr) (k : List Lexeme) → IsExpr all e → (t : Lexeme) × (t.at ≡ last_token e) × EndsWith (t ∷ k) (expr_text all e k)
+  last_is : (e : Expr) (k : List Lexeme) → IsExpr all e
+      → (t : Lexeme) × (t.at ≡ last_token e) × EndsWith (t ∷ k) (expr_text all e k)
   last_is (operation e op token e2) k h = let l = last_is e2 k h.1 in (l.0, l.1, expr_end e (operator_end op token l.2))
   last_is (cast opening ws d closing e) k h = let l = last_is e k h.3 in (l.0, l.1, later (spec_words_end ws (some_declr_end d (later l.2))))
   last_is (prefix token p e) k h = let l = last_is e k h.0 in (l.0, l.1, later l.2)

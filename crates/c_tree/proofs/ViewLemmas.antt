@@ -26,7 +26,6 @@ use Rattle.c_syntax.specs.declared.initialiser.Desig as rust_desig
 use Rattle.c_syntax.specs.declared.initialiser.InitItem as rust_init_item
 use Rattle.c_syntax.specs.declared.initialiser.InitList as rust_init_list
 use Rattle.c_syntax.specs.declared.specifier.Enum as rust_enum
-use Rattle.c_syntax.specs.declared.specifier.Enumerator as rust_enumerator
 use Rattle.c_syntax.specs.declared.specifier.MemDeclr as rust_mem_declr
 use Rattle.c_syntax.specs.declared.specifier.Member as rust_member
 use Rattle.c_syntax.specs.declared.specifier.SpecWord as rust_spec_word
@@ -49,23 +48,28 @@ exprs_row : (n : Count) (row : rust_expr.Row_of-Expr n) → exprs_of row ≡ exp
 exprs_row n rust_expr.end_of-Expr = refl
 exprs_row n (rust_expr.more_of-Expr e rest) = ap (λ (es : tree.Exprs). tree.more_exprs (expr_of e) es) (exprs_row _ rest)
 
-assocs_row : (n : Count) (row : rust_expr.Row_of-Assoc n) → assocs_of row ≡ assocs_from (rust_expr.items-the_row-Assoc n row)
+assocs_row : (n : Count) (row : rust_expr.Row_of-Assoc n)
+    → assocs_of row ≡ assocs_from (rust_expr.items-the_row-Assoc n row)
 assocs_row n rust_expr.end_of-Assoc = refl
 assocs_row n (rust_expr.more_of-Assoc x rest) = ap (λ (xs : tree.Assocs). tree.more_assocs (assoc_of x) xs) (assocs_row _ rest)
 
-words_row : (n : Count) (row : rust_specs.Row_of-SpecWord n) → spec_words_of row ≡ spec_words_from (rust_specs.items-the_row-SpecWord n row)
+words_row : (n : Count) (row : rust_specs.Row_of-SpecWord n)
+    → spec_words_of row ≡ spec_words_from (rust_specs.items-the_row-SpecWord n row)
 words_row n rust_specs.end_of-SpecWord = refl
 words_row n (rust_specs.more_of-SpecWord w rest) = ap (λ (ws : tree.SpecWords). tree.more_words (spec_word_of w) ws) (words_row _ rest)
 
-struct_items_row : (n : Count) (row : rust_struct.Row_of-StructItem n) → struct_items_of row ≡ struct_items_from (rust_struct.items-the_row-StructItem n row)
+struct_items_row : (n : Count) (row : rust_struct.Row_of-StructItem n)
+    → struct_items_of row ≡ struct_items_from (rust_struct.items-the_row-StructItem n row)
 struct_items_row n rust_struct.end_of-StructItem = refl
 struct_items_row n (rust_struct.more_of-StructItem item rest) = ap (λ (items : tree.StructItems). tree.more_struct_items (struct_item_of item) items) (struct_items_row _ rest)
 
-mem_declrs_row : (n : Count) (row : rust_member.Row_of-Member-declrs-2 n) → mem_declrs_of row ≡ mem_declrs_from (rust_member.items-the_row-Member-declrs-2 n row)
+mem_declrs_row : (n : Count) (row : rust_member.Row_of-Member-declrs-2 n)
+    → mem_declrs_of row ≡ mem_declrs_from (rust_member.items-the_row-Member-declrs-2 n row)
 mem_declrs_row n rust_member.end_of-Member-declrs-2 = refl
 mem_declrs_row n (rust_member.more_of-Member-declrs-2 attrs d rest) = ap (λ (ds : tree.MemDeclrs). tree.more_mem_declrs attrs.items (mem_declr_of d) ds) (mem_declrs_row _ rest)
 
-enumerators_row : (n : Count) (row : rust_enum.Row_of-Enumerator n) → enumerators_of row ≡ enumerators_from (rust_enum.items-the_row-Enumerator n row)
+enumerators_row : (n : Count) (row : rust_enum.Row_of-Enumerator n)
+    → enumerators_of row ≡ enumerators_from (rust_enum.items-the_row-Enumerator n row)
 enumerators_row n rust_enum.end_of-Enumerator = refl
 enumerators_row n (rust_enum.more_of-Enumerator name attrs rust_mem_declr.MemDeclr-Named-1-None' rest) = ap (λ (es : tree.Enumerators). tree.more_enumerators name attrs.items tree.no_value es) (enumerators_row _ rest)
 enumerators_row n (rust_enum.more_of-Enumerator name attrs (rust_mem_declr.MemDeclr-Named-1-Some' token p e) rest) =
@@ -74,38 +78,44 @@ enumerators_row n (rust_enum.more_of-Enumerator name attrs (rust_mem_declr.MemDe
 words_shown : (m : _) (row : _) → spec_words_of row ≡ spec_words_from (rows.shown-the_row-SpecWord-0 m row).items
 words_shown m row = words_row _ row ∙ ap spec_words_from (sym (rows.items_shown-the_row-SpecWord-0 m row))
 
-params_row : (n : Count) (row : rust_declr.Row_of-Param n) → params_of row ≡ params_from (rust_declr.items-the_row-Param n row)
+params_row : (n : Count) (row : rust_declr.Row_of-Param n)
+    → params_of row ≡ params_from (rust_declr.items-the_row-Param n row)
 params_row n rust_declr.end_of-Param = refl
 params_row n (rust_declr.more_of-Param m ws rust_declr.Declr-AbsPointer-2-None' attrs rest) =
     both (λ (ws : tree.SpecWords) (ps : tree.Params). tree.more_params ws tree.no_declr attrs.items ps) (words_shown m ws) (params_row _ rest)
 params_row n (rust_declr.more_of-Param m ws (rust_declr.Declr-AbsPointer-2-Some' p d) attrs rest) =
     both (λ (ws : tree.SpecWords) (ps : tree.Params). tree.more_params ws (tree.some_declr (declr_of d)) attrs.items ps) (words_shown m ws) (params_row _ rest)
 
-desigs_row : (n : Count) (row : rust_init_item.Row_of-Desig n) → desigs_of row ≡ desigs_from (rust_init_item.items-the_row-Desig n row)
+desigs_row : (n : Count) (row : rust_init_item.Row_of-Desig n)
+    → desigs_of row ≡ desigs_from (rust_init_item.items-the_row-Desig n row)
 desigs_row n rust_init_item.end_of-Desig = refl
 desigs_row n (rust_init_item.more_of-Desig d rest) = ap (λ (ds : tree.Desigs). tree.more_desigs (desig_of d) ds) (desigs_row _ rest)
 
 desigs_shown : (m : _) (row : _) → desigs_of row ≡ desigs_from (rows.shown-the_row-Desig-4 m row).items
 desigs_shown m row = desigs_row _ row ∙ ap desigs_from (sym (rows.items_shown-the_row-Desig-4 m row))
 
-init_items_row : (n : Count) (row : rust_init_list.Row_of-InitItem n) → init_items_of row ≡ init_items_from (rust_init_list.items-the_row-InitItem n row)
+init_items_row : (n : Count) (row : rust_init_list.Row_of-InitItem n)
+    → init_items_of row ≡ init_items_from (rust_init_list.items-the_row-InitItem n row)
 init_items_row n rust_init_list.end_of-InitItem = refl
 init_items_row n (rust_init_list.more_of-InitItem m ds equal init rest) =
     both (λ (ds : tree.Desigs) (items : tree.InitItems). tree.more_init_items ds equal (init_of init) items) (desigs_shown m ds) (init_items_row _ rest)
 
-init_declrs_row : (n : Count) (row : rust_declaration.Row_of-Declaration-declrs-2 n) → init_declrs_of row ≡ init_declrs_from (rust_declaration.items-the_row-Declaration-declrs-2 n row)
+init_declrs_row : (n : Count) (row : rust_declaration.Row_of-Declaration-declrs-2 n)
+    → init_declrs_of row ≡ init_declrs_from (rust_declaration.items-the_row-Declaration-declrs-2 n row)
 init_declrs_row n rust_declaration.end_of-Declaration-declrs-2 = refl
 init_declrs_row n (rust_declaration.more_of-Declaration-declrs-2 attrs p d asm attrs2 rust_init_declr.InitDeclr-init-None' rest) =
     ap (λ (ds : tree.InitDeclrs). tree.more_init_declrs attrs.items (declr_of d) asm attrs2.items tree.no_init ds) (init_declrs_row _ rest)
 init_declrs_row n (rust_declaration.more_of-Declaration-declrs-2 attrs p d asm attrs2 (rust_init_declr.InitDeclr-init-Some' equal init) rest) =
     ap (λ (ds : tree.InitDeclrs). tree.more_init_declrs attrs.items (declr_of d) asm attrs2.items (tree.some_init equal (init_of init)) ds) (init_declrs_row _ rest)
 
-block_items_row : (n : Count) (row : rust_block.Row_of-BlockItem n) → block_items_of row ≡ block_items_from (rust_block.items-the_row-BlockItem n row)
+block_items_row : (n : Count) (row : rust_block.Row_of-BlockItem n)
+    → block_items_of row ≡ block_items_from (rust_block.items-the_row-BlockItem n row)
 block_items_row n rust_block.end_of-BlockItem = refl
 block_items_row n (rust_block.more_of-BlockItem item rest) = ap (λ (items : tree.BlockItems). tree.more_block_items (block_item_of item) items) (block_items_row _ rest)
 
 -- what is held of a `Vec`
-words_hidden : (v : Vec rust_spec_word.SpecWord Global) → spec_words_of (rows.hidden-the_row-SpecWord-0 v) ≡ spec_words_from v.items
+words_hidden : (v : Vec rust_spec_word.SpecWord Global)
+    → spec_words_of (rows.hidden-the_row-SpecWord-0 v) ≡ spec_words_from v.items
 words_hidden v = words_row _ (rows.hidden-the_row-SpecWord-0 v) ∙ ap spec_words_from (rows.items_hidden-the_row-SpecWord-0 v)
 
 params_hidden : (v : Vec rust_param.Param Global) → params_of (rows.hidden-the_row-Param-1 v) ≡ params_from v.items
@@ -114,7 +124,8 @@ params_hidden v = params_row _ (rows.hidden-the_row-Param-1 v) ∙ ap params_fro
 exprs_hidden : (v : Vec rust_expr.Expr Global) → exprs_of (rows.hidden-the_row-Expr-2 v) ≡ exprs_from v.items
 exprs_hidden v = exprs_row _ (rows.hidden-the_row-Expr-2 v) ∙ ap exprs_from (rows.items_hidden-the_row-Expr-2 v)
 
-block_items_hidden : (v : Vec rust_block_item.BlockItem Global) → block_items_of (rows.hidden-the_row-BlockItem-3 v) ≡ block_items_from v.items
+block_items_hidden : (v : Vec rust_block_item.BlockItem Global)
+    → block_items_of (rows.hidden-the_row-BlockItem-3 v) ≡ block_items_from v.items
 block_items_hidden v = block_items_row _ (rows.hidden-the_row-BlockItem-3 v) ∙ ap block_items_from (rows.items_hidden-the_row-BlockItem-3 v)
 
 desigs_hidden : (v : Vec rust_desig.Desig Global) → desigs_of (rows.hidden-the_row-Desig-4 v) ≡ desigs_from v.items
@@ -123,51 +134,49 @@ desigs_hidden v = desigs_row _ (rows.hidden-the_row-Desig-4 v) ∙ ap desigs_fro
 assocs_hidden : (v : Vec rust_assoc.Assoc Global) → assocs_of (rows.hidden-the_row-Assoc-5 v) ≡ assocs_from v.items
 assocs_hidden v = assocs_row _ (rows.hidden-the_row-Assoc-5 v) ∙ ap assocs_from (rows.items_hidden-the_row-Assoc-5 v)
 
-struct_items_hidden : (v : Vec rust_struct_item.StructItem Global) → struct_items_of (rows.hidden-the_row-StructItem-6 v) ≡ struct_items_from v.items
+struct_items_hidden : (v : Vec rust_struct_item.StructItem Global)
+    → struct_items_of (rows.hidden-the_row-StructItem-6 v) ≡ struct_items_from v.items
 struct_items_hidden v = struct_items_row _ (rows.hidden-the_row-StructItem-6 v) ∙ ap struct_items_from (rows.items_hidden-the_row-StructItem-6 v)
 
-mem_declrs_hidden : (v : Vec (Listed rust_mem_declr.MemDeclr) Global) → mem_declrs_of (rows.hidden-the_row-Member-declrs-2-7 v) ≡ mem_declrs_from v.items
+mem_declrs_hidden : (v : Vec (Listed rust_mem_declr.MemDeclr) Global)
+    → mem_declrs_of (rows.hidden-the_row-Member-declrs-2-7 v) ≡ mem_declrs_from v.items
 mem_declrs_hidden v = mem_declrs_row _ (rows.hidden-the_row-Member-declrs-2-7 v) ∙ ap mem_declrs_from (rows.items_hidden-the_row-Member-declrs-2-7 v)
-
-init_items_hidden : (v : Vec rust_init_item.InitItem Global) → init_items_of (rows.hidden-the_row-InitItem-9 v) ≡ init_items_from v.items
-init_items_hidden v = init_items_row _ (rows.hidden-the_row-InitItem-9 v) ∙ ap init_items_from (rows.items_hidden-the_row-InitItem-9 v)
-
-enumerators_hidden : (v : Vec rust_enumerator.Enumerator Global) → enumerators_of (rows.hidden-the_row-Enumerator-10 v) ≡ enumerators_from v.items
-enumerators_hidden v = enumerators_row _ (rows.hidden-the_row-Enumerator-10 v) ∙ ap enumerators_from (rows.items_hidden-the_row-Enumerator-10 v)
 
 -- what is held of an `Option`
 expr_held : (e : Option (Box rust_expr.Expr Global)) → some_expr_of (rows.back-Expr-Cond-2 e) ≡ some_expr_from e
 expr_held None = refl
 expr_held (Some e) = refl
 
-declr_held : (d : Option (Box rust_declr.Declr Global)) → some_declr_of (rows.back-Declr-AbsPointer-2 d) ≡ some_declr_from d
+declr_held : (d : Option (Box rust_declr.Declr Global))
+    → some_declr_of (rows.back-Declr-AbsPointer-2 d) ≡ some_declr_from d
 declr_held None = refl
 declr_held (Some d) = refl
 
-size_held : (size : Option rust_array_size.ArraySize) → some_size_of (rows.back-Declr-Array-3 size) ≡ some_size_from size
+size_held : (size : Option rust_array_size.ArraySize)
+    → some_size_of (rows.back-Declr-Array-3 size) ≡ some_size_from size
 size_held None = refl
 size_held (Some size) = refl
 
-value_held : (value : Option (Marked (Box rust_expr.Expr Global))) → some_value_of (rows.back-MemDeclr-Named-1 value) ≡ some_value_from value
+value_held : (value : Option (Marked (Box rust_expr.Expr Global)))
+    → some_value_of (rows.back-MemDeclr-Named-1 value) ≡ some_value_from value
 value_held None = refl
 value_held (Some value) = refl
 
-body_held : (body : Option (Braced rust_struct_item.StructItem)) → some_body_of (rows.back-Struct-body body) ≡ some_body_from body
+body_held : (body : Option (Braced rust_struct_item.StructItem))
+    → some_body_of (rows.back-Struct-body body) ≡ some_body_from body
 body_held None = refl
 body_held (Some body) = ap (λ (items : tree.StructItems). tree.some_body body.«open» items body.close) (struct_items_hidden body.items)
 
-else_held : (other : Option (Marked (Box rust_stmt.Stmt Global))) → some_else_of (rows.back-Stmt-If-5 other) ≡ some_else_from other
+else_held : (other : Option (Marked (Box rust_stmt.Stmt Global)))
+    → some_else_of (rows.back-Stmt-If-5 other) ≡ some_else_from other
 else_held None = refl
 else_held (Some other) = refl
 
-enum_body_shown : (body : rust_enum.Held-Enum-body) → some_enum_body_of body ≡ some_enum_body_from (rows.view-Enum-body body)
+enum_body_shown : (body : rust_enum.Held-Enum-body)
+    → some_enum_body_of body ≡ some_enum_body_from (rows.view-Enum-body body)
 enum_body_shown rust_enum.Enum-body-None' = refl
 enum_body_shown (rust_enum.Enum-body-Some' opening m items last closing) =
     ap (λ (items : tree.Enumerators). tree.some_enum_body opening items last closing) (enumerators_row _ items ∙ ap enumerators_from (sym (rows.items_shown-the_row-Enumerator-10 m items)))
-
-pub cond_is : (condition : Box rust_expr.Expr Global) (question : ℕ) (middle : Option (Box rust_expr.Expr Global)) (colon : ℕ) (otherwise : Box rust_expr.Expr Global) →
-    expr_of (rust_expr.Cond condition question middle colon otherwise) ≡ tree.operation (expr_of condition.value) (tree.cond (some_expr_from middle) colon) question (expr_of otherwise.value)
-cond_is condition question middle colon otherwise = ap (λ (e : tree.SomeExpr). tree.operation (expr_of condition.value) (tree.cond e colon) question (expr_of otherwise.value)) (expr_held middle)
 
 pub cast_is : (opening : ℕ) (t : rust_type_name.TypeName) (closing : ℕ) (e : Box rust_expr.Expr Global) →
     expr_of (rust_expr.Cast opening t closing e) ≡ tree.cast opening (spec_words_from t.specs.words.items) (some_declr_from t.declr) closing (expr_of e.value)
@@ -219,10 +228,12 @@ pub typeof_type_is : (word : Word) (opening : ℕ) (t : rust_type_name.TypeName)
     spec_word_of (rust_spec_word.TypeofType word opening t closing) ≡ tree.typeof_type word opening (spec_words_from t.specs.words.items) (some_declr_from t.declr) closing
 typeof_type_is word opening t closing = both (λ (ws : tree.SpecWords) (d : tree.SomeDeclr). tree.typeof_type word opening ws d closing) (words_hidden t.specs.words) (declr_held t.declr)
 
-pub struct_is : (s : Box rust_struct.Struct Global) → spec_word_of (rust_spec_word.Struct s) ≡ tree.struct_type s.value.keyword s.value.attrs.items s.value.tag (some_body_from s.value.body)
+pub struct_is : (s : Box rust_struct.Struct Global)
+    → spec_word_of (rust_spec_word.Struct s) ≡ tree.struct_type s.value.keyword s.value.attrs.items s.value.tag (some_body_from s.value.body)
 struct_is s = ap (λ (body : tree.SomeBody). tree.struct_type s.value.keyword s.value.attrs.items s.value.tag body) (body_held s.value.body)
 
-pub member_is : (m : rust_member.Member) → struct_item_of (rust_struct_item.Member m) ≡ tree.member m.extensions.items (spec_words_from m.specs.words.items) (mem_declrs_from m.declrs.items) m.semi
+pub member_is : (m : rust_member.Member)
+    → struct_item_of (rust_struct_item.Member m) ≡ tree.member m.extensions.items (spec_words_from m.specs.words.items) (mem_declrs_from m.declrs.items) m.semi
 member_is m = both (λ (ws : tree.SpecWords) (ds : tree.MemDeclrs). tree.member m.extensions.items ws ds m.semi) (words_hidden m.specs.words) (mem_declrs_hidden m.declrs)
 
 pub named_is : (d : Box rust_declr.Declr Global) (width : Option (Marked (Box rust_expr.Expr Global))) (attrs : Vec Attr Global) →
@@ -242,7 +253,8 @@ pub params_is : (d : Box rust_declr.Declr Global) (opening : ℕ) (ps : Vec rust
     declr_of (rust_declr.Params d opening ps dots closing) ≡ tree.params (declr_of d.value) opening (params_from ps.items) (option_map dots_of dots) closing
 params_is d opening ps dots closing = ap (λ (ps : tree.Params). tree.params (declr_of d.value) opening ps (option_map dots_of dots) closing) (params_hidden ps)
 
-pub abs_pointer_is : (star : ℕ) (words : Vec PointerWord Global) (d : Option (Box rust_declr.Declr Global)) → declr_of (rust_declr.AbsPointer star words d) ≡ tree.abs_pointer star words.items (some_declr_from d)
+pub abs_pointer_is : (star : ℕ) (words : Vec PointerWord Global) (d : Option (Box rust_declr.Declr Global))
+    → declr_of (rust_declr.AbsPointer star words d) ≡ tree.abs_pointer star words.items (some_declr_from d)
 abs_pointer_is star words d = ap (λ (d : tree.SomeDeclr). tree.abs_pointer star words.items d) (declr_held d)
 
 pub abs_array_is : (d : Option (Box rust_declr.Declr Global)) (opening : ℕ) (words : Vec ArrayWord Global) (size : Option rust_array_size.ArraySize) (closing : ℕ) →
@@ -265,10 +277,12 @@ unfolding views.out-Declaration denote.Hole.Carrier.out
 declaration_is (rust_declaration.Declaration' exts m ws n ds semi) =
     both (λ (ws : tree.SpecWords) (ds : tree.InitDeclrs). tree.declaration exts.items ws ds semi) (words_shown m ws) (init_declrs_row _ ds ∙ ap init_declrs_from (sym (rows.items_shown-the_row-Declaration-declrs-2-8 n ds)))
 
-pub block_is : (block : rust_block.Block) → stmt_of (rust_stmt.Block block) ≡ tree.block block.«open» (block_items_from block.items.items) block.close
+pub block_is : (block : rust_block.Block)
+    → stmt_of (rust_stmt.Block block) ≡ tree.block block.«open» (block_items_from block.items.items) block.close
 block_is block = ap (λ (items : tree.BlockItems). tree.block block.«open» items block.close) (block_items_hidden block.items)
 
-pub expr_stmt_is : (e : Option (Box rust_expr.Expr Global)) (semi : ℕ) → stmt_of (rust_stmt.ExprStmt e semi) ≡ tree.expr_stmt (some_expr_from e) semi
+pub expr_stmt_is : (e : Option (Box rust_expr.Expr Global)) (semi : ℕ)
+    → stmt_of (rust_stmt.ExprStmt e semi) ≡ tree.expr_stmt (some_expr_from e) semi
 expr_stmt_is e semi = ap (λ (e : tree.SomeExpr). tree.expr_stmt e semi) (expr_held e)
 
 pub if_is : (keyword opening : ℕ) (e : Box rust_expr.Expr Global) (closing : ℕ) (s : Box rust_stmt.Stmt Global) (other : Option (Marked (Box rust_stmt.Stmt Global))) →
@@ -280,8 +294,10 @@ pub for_is : (keyword opening : ℕ) (start : rust_for_start.ForStart) (conditio
 for_is keyword opening start condition semi step closing s =
     both (λ (e e2 : tree.SomeExpr). tree.for_stmt keyword opening (for_start_of start) e semi e2 closing (stmt_of s.value)) (expr_held condition) (expr_held step)
 
-pub return_is : (keyword : ℕ) (e : Option (Box rust_expr.Expr Global)) (semi : ℕ) → stmt_of (rust_stmt.Return keyword e semi) ≡ tree.return_stmt keyword (some_expr_from e) semi
+pub return_is : (keyword : ℕ) (e : Option (Box rust_expr.Expr Global)) (semi : ℕ)
+    → stmt_of (rust_stmt.Return keyword e semi) ≡ tree.return_stmt keyword (some_expr_from e) semi
 return_is keyword e semi = ap (λ (e : tree.SomeExpr). tree.return_stmt keyword e semi) (expr_held e)
 
-pub start_value_is : (e : Option (Box rust_expr.Expr Global)) (semi : ℕ) → for_start_of (rust_for_start.Value e semi) ≡ tree.start_value (some_expr_from e) semi
+pub start_value_is : (e : Option (Box rust_expr.Expr Global)) (semi : ℕ)
+    → for_start_of (rust_for_start.Value e semi) ≡ tree.start_value (some_expr_from e) semi
 start_value_is e semi = ap (λ (e : tree.SomeExpr). tree.start_value e semi) (expr_held e)

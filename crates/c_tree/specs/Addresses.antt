@@ -4,6 +4,7 @@ use Rattle.c_words.specs.declared.kinds.Punct.{Punct}
 use Rattle.c_words.specs.declared.kinds.Punct.TheVariants as signs
 use Rattle.c_tree.specs.Tree.{Expr, operation, cast, prefix, sizeof_value, sizeof_type, extension, index, call, dot, arrow, post, compound, name_use, number_use, char_use, text_use, paren, statement_expr, va_arg, va_start, va_copy, offset, complex_part, label_use, compat, choose, generic}
 
+-- whether a prefix leads to its place by a pointer: `*` does where a member is taken of it, other prefixes never do
 abbrev pub by_star : Punct → Bool → Bool
 by_star signs.Star within = within
 by_star p within = false

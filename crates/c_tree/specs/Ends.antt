@@ -5,18 +5,21 @@ use Rattle.c_tree.specs.Tree.{Expr, operation, cast, prefix, sizeof_value, sizeo
 use Rattle.c_tree.specs.Text.{expr_text}
 use Rattle.c_tree.specs.WellFormed.{IsExpr}
 
--- of adjacent texts, which are at least one in a well formed expression; else token 0
+-- the first of adjacent texts, which are at least one in a well formed expression; else token 0
 abbrev pub first_text : List ℕ → ℕ
 first_text [] = 0
 first_text (token ∷ tokens) = token
 
+-- a token that may be absent, with 0 for none
 abbrev pub or_zero : Option ℕ → ℕ
 or_zero None = 0
 or_zero (Some token) = token
 
+-- the last of adjacent texts; token 0 where there are none, as in no well formed expression
 abbrev pub last_text : List ℕ → ℕ
 last_text texts = or_zero (slice_get texts (length texts - 1))
 
+-- the number of the token that an expression begins with
 abbrev pub first_token : Expr → ℕ
 first_token (operation e op token e2) = first_token e
 first_token (cast opening ws d closing e) = opening
@@ -46,9 +49,11 @@ first_token (compat keyword opening ws d separator ws2 d2 closing) = keyword
 first_token (choose keyword opening e separator e2 separator2 e3 closing) = keyword
 first_token (generic keyword opening e xs closing) = keyword
 
+-- the closing brace of a list of initialisers
 abbrev pub list_end : InitList → ℕ
 list_end (init_list opening items last closing) = closing
 
+-- the number of the token that an expression ends with
 abbrev pub last_token : Expr → ℕ
 last_token (operation e op token e2) = last_token e2
 last_token (cast opening ws d closing e) = last_token e
@@ -78,8 +83,8 @@ last_token (compat keyword opening ws d separator ws2 d2 closing) = closing
 last_token (choose keyword opening e separator e2 separator2 e3 closing) = closing
 last_token (generic keyword opening e xs closing) = closing
 
--- the operator of an operation or a prefix, `++` or `--` behind an operand, `.` or `->`, `[` of an index, `(` of a call,
--- and else the first token
+-- the token that an expression is known by: the operator of an operation or a prefix, `++` or `--` behind an operand,
+-- `.` or `->`, `[` of an index, `(` of a call, and else the first token
 abbrev pub key_token : Expr → ℕ
 key_token (operation e op token e2) = token
 key_token (index e opening e2 closing) = opening

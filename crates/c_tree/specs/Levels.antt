@@ -29,6 +29,7 @@ binary_level Slash = 10
 binary_level Percent = 10
 binary_level _ = 0
 
+-- whether a sign is an assignment operator (6.5.16)
 abbrev pub is_assignment : Punct → Bool
 is_assignment Equal = true
 is_assignment StarEqual = true
@@ -71,6 +72,7 @@ right_level (assign p) = 1
 right_level (cond middle colon) = 2
 right_level (binary p) = binary_level p + 3
 
+-- the level of an expression: that of its outermost operator or form
 abbrev pub expr_level : Expr → ℕ
 expr_level (operation e op token e2) = operator_level op
 expr_level (cast opening ws d closing e) = 13

@@ -21,6 +21,7 @@ type_count (more_words (typeof_type a b ws2 d c) ws) = type_count ws + 1
 type_count (more_words (auto_word a) ws) = type_count ws + 1
 type_count (more_words _ ws) = type_count ws
 
+-- the storage words of specifiers, `_Thread_local` among them
 abbrev pub storage_words : SpecWords → List Keyword
 storage_words no_words = []
 storage_words (more_words (storage w) ws) = w.keyword ∷ storage_words ws
@@ -35,16 +36,19 @@ with_signs ws = ws ∷ (Signed ∷ ws) ∷ (Unsigned ∷ ws) ∷ []
 abbrev pub with_complex : List Keyword → List (List Keyword)
 with_complex ws = ws ∷ (Complex ∷ ws) ∷ []
 
--- in wider C `_Complex` goes with a base word, and with each set of `char`, `short`, `int`, `long`, `signed` and `unsigned`
+-- in wider C `_Complex` goes with a base word, and with each set of `char`, `short`, `int`, `long`, `signed` and
+-- `unsigned`
 abbrev pub with_any : List Keyword → List Keyword
 with_any ws = AnyComplex ∷ ws
 
+-- the sets of words of the integer types of C99, `char` among them and `_Bool` not
 abbrev pub integers : List (List Keyword)
 integers =
     (Signed ∷ []) ∷ (Unsigned ∷ []) ∷ [] ++ with_signs (Char ∷ []) ++ with_signs (Int ∷ [])
     ++ with_signs (Short ∷ []) ++ with_signs (Short ∷ Int ∷ []) ++ with_signs (Long ∷ []) ++ with_signs (Long ∷ Int ∷ [])
     ++ with_signs (Long ∷ Long ∷ []) ++ with_signs (Long ∷ Long ∷ Int ∷ [])
 
+-- the sets of words with `_Complex` that wider C takes
 abbrev pub wide_complex : List (List Keyword)
 wide_complex =
     map with_any ([] ∷ (BaseWord ∷ []) ∷ (Float ∷ []) ∷ (Double ∷ []) ∷ (Long ∷ Double ∷ []) ∷ [] ++ integers)
@@ -69,5 +73,6 @@ storages =
     [] ∷ (Typedef ∷ []) ∷ (Extern ∷ []) ∷ (Static ∷ []) ∷ (Auto ∷ []) ∷ (Register ∷ []) ∷ (Thread ∷ [])
     ∷ (Thread ∷ Static ∷ []) ∷ (Thread ∷ Extern ∷ []) ∷ []
 
+-- specifiers that are one type and have storage words that may stand together
 abbrev pub IsMix : SpecWords → Type 0
 IsMix ws = IsOneType ws × Any (IsPermutation (storage_words ws)) storages

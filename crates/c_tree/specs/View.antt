@@ -26,10 +26,12 @@ use Rattle.c_syntax.specs.declared.statement.ForStart as rust_for_start
 use Rattle.c_syntax.specs.declared.statement.Stmt as rust_stmt
 use Rattle.c_tree.specs.Tree.{Expr, operation, cast, prefix, sizeof_value, sizeof_type, extension, index, call, dot, arrow, post, compound, name_use, number_use, char_use, text_use, paren, statement_expr, va_arg, va_start, va_copy, offset, comma, assign, cond, binary, SomeExpr, no_expr, some_expr, Exprs, no_exprs, more_exprs, SpecWords, no_words, more_words, SpecWord, storage, thread, inline_word, noreturn, qualifier, basic, struct_type, enum_type, typedef_name, attribute, SomeBody, no_body, some_body, StructItems, no_struct_items, more_struct_items, StructItem, member, member_semi, member_assert, MemDeclrs, no_mem_declrs, more_mem_declrs, MemDeclr, named, unnamed, SomeValue, no_value, some_value, EnumType, enum_of, SomeEnumBody, no_enum_body, some_enum_body, Enumerators, no_enumerators, more_enumerators, Declr, pointer, declr_name, declr_paren, array, params, abs_pointer, abs_paren, abs_array, abs_params, SomeDeclr, no_declr, some_declr, SomeSize, no_size, some_size, ArraySize, size_value, size_star, Params, no_params, more_params, Init, init_value, init_braced, InitList, init_list, InitItems, no_init_items, more_init_items, Desigs, no_desigs, more_desigs, Desig, member_desig, index_desig, SomeInit, no_init, some_init, InitDeclrs, no_init_declrs, more_init_declrs, Declaration, declaration, Decl, decl_declaration, decl_assert, BlockItems, no_block_items, more_block_items, BlockItem, block_decl, block_stmt, Stmt, block, expr_stmt, attr_stmt, label, case_stmt, default_stmt, if_stmt, switch_stmt, while_stmt, do_stmt, for_stmt, goto_stmt, continue_stmt, break_stmt, return_stmt, asm_stmt, SomeElse, no_else, some_else, ForStart, start_declaration, start_value, Dots, complex_part, label_use, compat, choose, generic, Assocs, no_assocs, more_assocs, Assoc, typed_assoc, default_assoc, typeof_value, typeof_type, align, auto_word, identifiers, base_name, range_desig, old_desig, block_labels, case_range, goto_value}
 
+-- the `...` of a list of parameters
 abbrev pub dots_of : Ellipsis → Dots
 dots_of e = record { comma = e.comma; quals = e.quals.items; dots = e.dots }
 
 abbrev mutual
+  -- an expression
   pub expr_of : rust_expr.Expr → Expr
   expr_of (rust_expr.Comma' _ a t _ b) = operation (expr_of a) comma t (expr_of b)
   expr_of (rust_expr.Assign' _ a t p _ b) = operation (expr_of a) (assign p) t (expr_of b)
@@ -79,26 +81,32 @@ abbrev mutual
   expr_of (rust_expr.Choose' keyword opening _ e separator _ e2 separator2 _ e3 closing) = choose keyword opening (expr_of e) separator (expr_of e2) separator2 (expr_of e3) closing
   expr_of (rust_expr.Generic' keyword opening _ e _ xs closing) = generic keyword opening (expr_of e) (assocs_of xs) closing
 
+  -- the associations of a generic selection
   pub assocs_of : {m : _} → rust_expr.Row_of-Assoc m → Assocs
   assocs_of rust_expr.end_of-Assoc = no_assocs
   assocs_of (rust_expr.more_of-Assoc x xs) = more_assocs (assoc_of x) (assocs_of xs)
 
+  -- one association of a generic selection
   pub assoc_of : rust_assoc.Assoc → Assoc
   assoc_of (rust_assoc.Typed' _ ws d colon _ e) = typed_assoc (spec_words_of ws) (some_declr_of d) colon (expr_of e)
   assoc_of (rust_assoc.Default' keyword colon _ e) = default_assoc keyword colon (expr_of e)
 
+  -- an expression that may be left out
   pub some_expr_of : rust_expr.Held-Expr-Cond-2 → SomeExpr
   some_expr_of rust_expr.Expr-Cond-2-None' = no_expr
   some_expr_of (rust_expr.Expr-Cond-2-Some' _ e) = some_expr (expr_of e)
 
+  -- the arguments of a call
   pub exprs_of : {m : _} → rust_expr.Row_of-Expr m → Exprs
   exprs_of rust_expr.end_of-Expr = no_exprs
   exprs_of (rust_expr.more_of-Expr e es) = more_exprs (expr_of e) (exprs_of es)
 
+  -- the words of specifiers
   pub spec_words_of : {m : _} → rust_specs.Row_of-SpecWord m → SpecWords
   spec_words_of rust_specs.end_of-SpecWord = no_words
   spec_words_of (rust_specs.more_of-SpecWord w ws) = more_words (spec_word_of w) (spec_words_of ws)
 
+  -- one word of specifiers
   pub spec_word_of : rust_spec_word.SpecWord → SpecWord
   spec_word_of (rust_spec_word.Storage word) = storage word
   spec_word_of (rust_spec_word.Thread keyword) = thread keyword
@@ -115,42 +123,52 @@ abbrev mutual
   spec_word_of (rust_spec_word.Align attr) = align attr
   spec_word_of (rust_spec_word.Auto token) = auto_word token
 
+  -- the body of a struct or union, where it has one
   pub some_body_of : rust_struct.Held-Struct-body → SomeBody
   some_body_of rust_struct.Struct-body-None' = no_body
   some_body_of (rust_struct.Struct-body-Some' opening _ items closing) = some_body opening (struct_items_of items) closing
 
+  -- the members of a struct or union
   pub struct_items_of : {m : _} → rust_struct.Row_of-StructItem m → StructItems
   struct_items_of rust_struct.end_of-StructItem = no_struct_items
   struct_items_of (rust_struct.more_of-StructItem item items) = more_struct_items (struct_item_of item) (struct_items_of items)
 
+  -- one member's declaration
   pub struct_item_of : rust_struct_item.StructItem → StructItem
   struct_item_of (rust_struct_item.Member' exts _ ws _ ds semi) = member exts.items (spec_words_of ws) (mem_declrs_of ds) semi
   struct_item_of (rust_struct_item.Semi semi) = member_semi semi
   struct_item_of (rust_struct_item.Assert it) = member_assert it
 
+  -- the declarators of a member's declaration
   pub mem_declrs_of : {m : _} → rust_member.Row_of-Member-declrs-2 m → MemDeclrs
   mem_declrs_of rust_member.end_of-Member-declrs-2 = no_mem_declrs
   mem_declrs_of (rust_member.more_of-Member-declrs-2 attrs d ds) = more_mem_declrs attrs.items (mem_declr_of d) (mem_declrs_of ds)
 
+  -- one declarator of a member, or the width of an unnamed bit-field
   pub mem_declr_of : rust_mem_declr.MemDeclr → MemDeclr
   mem_declr_of (rust_mem_declr.Named' _ d width attrs) = named (declr_of d) (some_value_of width) attrs.items
   mem_declr_of (rust_mem_declr.Unnamed' colon _ e attrs) = unnamed colon (expr_of e) attrs.items
 
+  -- a width or a value, with the sign before it
   pub some_value_of : rust_mem_declr.Held-MemDeclr-Named-1 → SomeValue
   some_value_of rust_mem_declr.MemDeclr-Named-1-None' = no_value
   some_value_of (rust_mem_declr.MemDeclr-Named-1-Some' token _ e) = some_value token (expr_of e)
 
+  -- an enumeration type
   pub enum_type_of : rust_enum.Enum → EnumType
   enum_type_of (rust_enum.Enum' keyword attrs tag body) = enum_of keyword attrs.items tag (some_enum_body_of body)
 
+  -- the body of an enumeration, where it has one
   pub some_enum_body_of : rust_enum.Held-Enum-body → SomeEnumBody
   some_enum_body_of rust_enum.Enum-body-None' = no_enum_body
   some_enum_body_of (rust_enum.Enum-body-Some' opening _ es last closing) = some_enum_body opening (enumerators_of es) last closing
 
+  -- the enumerators of an enumeration
   pub enumerators_of : {m : _} → rust_enum.Row_of-Enumerator m → Enumerators
   enumerators_of rust_enum.end_of-Enumerator = no_enumerators
   enumerators_of (rust_enum.more_of-Enumerator name attrs value es) = more_enumerators name attrs.items (some_value_of value) (enumerators_of es)
 
+  -- a declarator
   pub declr_of : rust_declr.Declr → Declr
   declr_of (rust_declr.Pointer' star words _ d) = pointer star words.items (declr_of d)
   declr_of (rust_declr.DeclName token name) = declr_name token name
@@ -164,67 +182,83 @@ abbrev mutual
   declr_of (rust_declr.Identifiers' _ d opening names closing) = identifiers (declr_of d) opening names.items closing
   declr_of (rust_declr.BaseName token) = base_name token
 
+  -- a declarator that may be absent
   pub some_declr_of : rust_declr.Held-Declr-AbsPointer-2 → SomeDeclr
   some_declr_of rust_declr.Declr-AbsPointer-2-None' = no_declr
   some_declr_of (rust_declr.Declr-AbsPointer-2-Some' _ d) = some_declr (declr_of d)
 
+  -- the size of an array, where it stands
   pub some_size_of : rust_declr.Held-Declr-Array-3 → SomeSize
   some_size_of rust_declr.Declr-Array-3-None' = no_size
   some_size_of (rust_declr.Declr-Array-3-Some' size) = some_size (array_size_of size)
 
+  -- the size of an array: an expression or `*`
   pub array_size_of : rust_array_size.ArraySize → ArraySize
   array_size_of (rust_array_size.Value' _ e) = size_value (expr_of e)
   array_size_of (rust_array_size.Star star) = size_star star
 
+  -- the parameters of a function declarator
   pub params_of : {m : _} → rust_declr.Row_of-Param m → Params
   params_of rust_declr.end_of-Param = no_params
   params_of (rust_declr.more_of-Param _ ws d attrs ps) = more_params (spec_words_of ws) (some_declr_of d) attrs.items (params_of ps)
 
+  -- an initialiser
   pub init_of : rust_init.Init → Init
   init_of (rust_init.Value' _ e) = init_value (expr_of e)
   init_of (rust_init.InitList list) = init_braced (init_list_of list)
 
+  -- a braced list of initialisers
   pub init_list_of : rust_init_list.InitList → InitList
   init_list_of (rust_init_list.InitList' opening _ items last closing) = init_list opening (init_items_of items) last closing
 
+  -- the items of a list of initialisers
   pub init_items_of : {m : _} → rust_init_list.Row_of-InitItem m → InitItems
   init_items_of rust_init_list.end_of-InitItem = no_init_items
   init_items_of (rust_init_list.more_of-InitItem _ ds equal init items) = more_init_items (desigs_of ds) equal (init_of init) (init_items_of items)
 
+  -- designators, or the steps of an offset
   pub desigs_of : {m : _} → rust_init_item.Row_of-Desig m → Desigs
   desigs_of rust_init_item.end_of-Desig = no_desigs
   desigs_of (rust_init_item.more_of-Desig d ds) = more_desigs (desig_of d) (desigs_of ds)
 
+  -- one designator
   pub desig_of : rust_desig.Desig → Desig
   desig_of (rust_desig.Member token name) = member_desig token name
   desig_of (rust_desig.Index' opening _ e closing) = index_desig opening (expr_of e) closing
   desig_of (rust_desig.Range' opening _ e dots _ e2 closing) = range_desig opening (expr_of e) dots (expr_of e2) closing
   desig_of (rust_desig.Old name colon) = old_desig name colon
 
+  -- the initialiser of a declarator, where there is one
   pub some_init_of : rust_init_declr.Held-InitDeclr-init → SomeInit
   some_init_of rust_init_declr.InitDeclr-init-None' = no_init
   some_init_of (rust_init_declr.InitDeclr-init-Some' equal init) = some_init equal (init_of init)
 
+  -- the declarators of a declaration
   pub init_declrs_of : {m : _} → rust_declaration.Row_of-Declaration-declrs-2 m → InitDeclrs
   init_declrs_of rust_declaration.end_of-Declaration-declrs-2 = no_init_declrs
   init_declrs_of (rust_declaration.more_of-Declaration-declrs-2 attrs _ d asm_label attrs2 init ds) = more_init_declrs attrs.items (declr_of d) asm_label attrs2.items (some_init_of init) (init_declrs_of ds)
 
+  -- a declaration
   pub declaration_of : rust_declaration.Declaration → Declaration
   declaration_of (rust_declaration.Declaration' exts _ ws _ ds semi) = declaration exts.items (spec_words_of ws) (init_declrs_of ds) semi
 
+  -- a declaration or a `_Static_assert`
   pub decl_of : rust_decl.Decl → Decl
   decl_of (rust_decl.Declaration' _ d) = decl_declaration (declaration_of d)
   decl_of (rust_decl.Assert it) = decl_assert it
 
+  -- the items of a block
   pub block_items_of : {m : _} → rust_block.Row_of-BlockItem m → BlockItems
   block_items_of rust_block.end_of-BlockItem = no_block_items
   block_items_of (rust_block.more_of-BlockItem item items) = more_block_items (block_item_of item) (block_items_of items)
 
+  -- one item of a block
   pub block_item_of : rust_block_item.BlockItem → BlockItem
   block_item_of (rust_block_item.Decl' _ d) = block_decl (decl_of d)
   block_item_of (rust_block_item.Stmt' _ s) = block_stmt (stmt_of s)
   block_item_of (rust_block_item.Labels keyword names semi) = block_labels keyword names.items semi
 
+  -- a statement
   pub stmt_of : rust_stmt.Stmt → Stmt
   stmt_of (rust_stmt.Block' opening _ items closing) = block opening (block_items_of items) closing
   stmt_of (rust_stmt.ExprStmt' e semi) = expr_stmt (some_expr_of e) semi
@@ -245,10 +279,12 @@ abbrev mutual
   stmt_of (rust_stmt.CaseRange' keyword _ e dots _ e2 colon _ s) = case_range keyword (expr_of e) dots (expr_of e2) colon (stmt_of s)
   stmt_of (rust_stmt.GotoValue' keyword star _ e semi) = goto_value keyword star (expr_of e) semi
 
+  -- the `else` of an `if`, where there is one
   pub some_else_of : rust_stmt.Held-Stmt-If-5 → SomeElse
   some_else_of rust_stmt.Stmt-If-5-None' = no_else
   some_else_of (rust_stmt.Stmt-If-5-Some' keyword _ s) = some_else keyword (stmt_of s)
 
+  -- the first clause of a `for`
   pub for_start_of : rust_for_start.ForStart → ForStart
   for_start_of (rust_for_start.Declaration' _ d) = start_declaration (declaration_of d)
   for_start_of (rust_for_start.Value' e semi) = start_value (some_expr_of e) semi

@@ -36,16 +36,19 @@ prefix_level Tilde = 13
 prefix_level Bang = 13
 prefix_level _ = 17
 
+-- whether a sign is `++` or `--`, which may stand behind an operand (6.5.2.4)
 abbrev pub is_postfix : Punct → Bool
 is_postfix PlusPlus = true
 is_postfix MinusMinus = true
 is_postfix _ = false
 
+-- whether a keyword is `sizeof` or `_Alignof`
 abbrev pub is_sizeof : Keyword → Bool
 is_sizeof Sizeof = true
 is_sizeof Alignof = true
 is_sizeof _ = false
 
+-- whether a keyword is `struct` or `union`
 abbrev pub is_struct : Keyword → Bool
 is_struct Struct = true
 is_struct Union = true
@@ -66,6 +69,7 @@ is_storage Auto = true
 is_storage Register = true
 is_storage _ = false
 
+-- whether a keyword is a type qualifier (6.7.3), `_Atomic` and the named address spaces of wider C among them
 abbrev pub is_qual : Keyword → Bool
 is_qual Const = true
 is_qual Volatile = true
@@ -75,6 +79,7 @@ is_qual AtomicType = true
 is_qual Seg = true
 is_qual _ = false
 
+-- whether a keyword may stand between `asm` and its parenthesis
 abbrev pub is_asm_word : Keyword → Bool
 is_asm_word Volatile = true
 is_asm_word Goto = true
@@ -86,10 +91,12 @@ abbrev pub IsElementKind : TokenKind → Type 0
 IsElementKind (kinds.Qual lattice elem) = Unit {0}
 IsElementKind _ = ⊥
 
+-- tokens that are one `$` word that names an element of a lattice
 abbrev pub IsElement : List Lexeme → Type 0
 IsElement (t ∷ []) = IsElementKind t.kind
 IsElement _ = ⊥
 
+-- a well formed qualifier: the keyword of one, or a `$` word
 abbrev pub IsQual : List Lexeme → Qual → Type 0
 IsQual all (quals.Word w) = is_qual w.keyword ≡ true
 IsQual all (quals.Element token) = IsElement (tokens_between all token token)
@@ -101,25 +108,30 @@ is_word_qual (quals.Word w) = not (is_type_former w.keyword)
 is_word_qual (quals.Element token) = true
 is_word_qual (quals.Index token) = true
 
+-- a qualifier that may stand among specifiers
 abbrev pub IsWordQual : List Lexeme → Qual → Type 0
 IsWordQual all qual = IsQual all qual × (is_word_qual qual ≡ true)
 
+-- a qualifier or an attribute behind the `*` of a pointer
 abbrev pub IsPointerWord : List Lexeme → PointerWord → Type 0
 IsPointerWord all (pointer_words.Qual q) = IsQual all q
 IsPointerWord all (pointer_words.Attr a) = IsGroup all a.group
 
+-- `static` or a qualifier behind the `[` of an array declarator
 abbrev pub IsArrayWord : List Lexeme → ArrayWord → Type 0
 IsArrayWord all (array_words.Static token) = Unit {0}
 IsArrayWord all (array_words.Qual q) = IsQual all q
 
+-- attributes whose groups are groups of the unit
 abbrev pub AreAttrs : List Lexeme → List Attr → Type 0
 AreAttrs all attrs = All (λ a. IsGroup all a.group) attrs
 
+-- the `asm` label of a declarator, if any, has a group of the unit
 abbrev pub IsLabel : List Lexeme → Option AsmLabel → Type 0
 IsLabel all None = Unit {0}
 IsLabel all (Some l) = IsGroup all l.group
 
--- declarators with a name, and those without
+-- whether a declarator has a name, as those do that are not abstract
 abbrev pub is_named : Declr → Bool
 is_named (pointer a b c) = true
 is_named (declr_name a b) = true
@@ -130,7 +142,7 @@ is_named (identifiers a b c d) = true
 is_named (base_name a) = true
 is_named _ = false
 
--- a name alone, parentheses aside
+-- whether a declarator is a name alone, parentheses aside
 abbrev pub is_bare_name : Declr → Bool
 is_bare_name (declr_name token name) = true
 is_bare_name (declr_paren opening attrs d closing) = is_bare_name d
@@ -158,11 +170,12 @@ lists_identifiers (abs_array d opening words size closing) = false
 lists_identifiers (abs_params d opening ps dots closing) = false
 lists_identifiers (base_name token) = false
 
+-- the same of a declarator that may be absent
 abbrev pub some_lists_identifiers : SomeDeclr → Bool
 some_lists_identifiers no_declr = false
 some_lists_identifiers (some_declr d) = lists_identifiers d
 
--- all but pointers
+-- whether a declarator is no pointer, so that brackets and parameters may follow it (6.7.5)
 abbrev pub is_direct : Declr → Bool
 is_direct (pointer a b c) = false
 is_direct (abs_pointer a b c) = false
@@ -176,11 +189,13 @@ IsEllipsis all ps (Some d) = All (IsWordQual all) d.quals
 
 -- a declarator that ends with the star of a pointer takes the attributes behind it
 abbrev mutual
+  -- whether a declarator ends with the star of a pointer
   pub ends_starred : Declr → Bool
   ends_starred (pointer a b d) = ends_starred d
   ends_starred (abs_pointer a b d) = ends_starred_some d
   ends_starred _ = false
 
+  -- whether nothing, or a declarator that ends with a star, stands behind a star
   pub ends_starred_some : SomeDeclr → Bool
   ends_starred_some no_declr = true
   ends_starred_some (some_declr d) = ends_starred d
@@ -197,6 +212,7 @@ abbrev pub IsInitStart : InitDeclrs → Type 0
 IsInitStart no_init_declrs = Unit {0}
 IsInitStart (more_init_declrs attrs a b c d e) = attrs ≡ []
 
+-- no attributes before the first declarator of a member: they are words of its specifiers
 abbrev pub IsMemStart : MemDeclrs → Type 0
 IsMemStart no_mem_declrs = Unit {0}
 IsMemStart (more_mem_declrs attrs d ds) = attrs ≡ []
@@ -206,6 +222,7 @@ abbrev pub HasTagOrBody : Option Identifier → SomeBody → Type 0
 HasTagOrBody None no_body = ⊥
 HasTagOrBody tag body = Unit {0}
 
+-- an enumeration has a tag or a body
 abbrev pub HasTagOrEnumBody : Option Identifier → SomeEnumBody → Type 0
 HasTagOrEnumBody None no_enum_body = ⊥
 HasTagOrEnumBody tag body = Unit {0}
@@ -215,6 +232,7 @@ abbrev pub IsItemsEnd : InitItems → Option ℕ → Type 0
 IsItemsEnd no_init_items (Some token) = ⊥
 IsItemsEnd items last = Unit {0}
 
+-- whether none of these designators is of the old form `m:`
 abbrev pub has_no_old : Desigs → Bool
 has_no_old no_desigs = true
 has_no_old (more_desigs (member_desig a b) ds) = has_no_old ds
@@ -231,12 +249,14 @@ IsDesignated (more_desigs (range_desig a b c d e) ds) (Some equal) = has_no_old 
 IsDesignated (more_desigs (old_desig a b) no_desigs) None = Unit {0}
 IsDesignated _ _ = ⊥
 
+-- a statement that is not attributes and a semicolon alone
 abbrev pub IsNoAttrStmt : Stmt → Type 0
 IsNoAttrStmt (attr_stmt attrs semi) = ⊥
 IsNoAttrStmt _ = Unit {0}
 
 -- a statement behind which an `else` would belong to an `if` in it
 abbrev mutual
+  -- whether a statement ends with an `if` without `else`
   pub takes_else : Stmt → Bool
   takes_else (if_stmt a b c d s other) = other_takes_else other
   takes_else (label a b c s) = takes_else s
@@ -248,6 +268,7 @@ abbrev mutual
   takes_else (for_stmt a b c d e f g s) = takes_else s
   takes_else _ = false
 
+  -- whether an `if` has no `else`, or one whose statement would take a further `else`
   pub other_takes_else : SomeElse → Bool
   other_takes_else no_else = true
   other_takes_else (some_else a s) = takes_else s
@@ -269,17 +290,20 @@ is_auto (typeof_value keyword opening e closing) = false
 is_auto (typeof_type word opening ws d closing) = false
 is_auto (align attr) = false
 
+-- whether `__auto_type` is among specifiers
 abbrev pub has_auto : SpecWords → Bool
 has_auto no_words = false
 has_auto (more_words w ws) = is_auto w || has_auto ws
 
--- Behind words with `__auto_type` one name stands, with an expression that gives it its type; where `typedef` is one of the
+-- Behind words with `__auto_type` one name stands, with an expression that gives it its type; where `typedef` is one of
+-- the
 -- words, it is a base word, which declares nothing.
 abbrev pub IsAutoDeclr : SpecWords → InitDeclrs → Type 0
 IsAutoDeclr ws (more_init_declrs attrs (declr_name token name) None attrs2 (some_init equal (init_value e)) no_init_declrs) = ¬ Contains (storage_words ws) Typedef
 IsAutoDeclr ws (more_init_declrs attrs (base_name token) None attrs2 (some_init equal (init_value e)) no_init_declrs) = Contains (storage_words ws) Typedef
 IsAutoDeclr ws _ = ⊥
 
+-- the rule of `__auto_type`, where it is among the words
 abbrev pub IsAutoWhere : Bool → SpecWords → InitDeclrs → Type 0
 IsAutoWhere false ws ds = Unit {0}
 IsAutoWhere true ws ds = IsAutoDeclr ws ds
@@ -314,10 +338,12 @@ is_labels (block_labels keyword names semi) = true
 is_labels (block_decl d) = false
 is_labels (block_stmt s) = false
 
+-- whether no item declares labels
 abbrev pub has_no_labels : BlockItems → Bool
 has_no_labels no_block_items = true
 has_no_labels (more_block_items item items) = not (is_labels item) && has_no_labels items
 
+-- the items of a block, in which declarations of labels stand before all others
 abbrev pub AreLabelsFirst : BlockItems → Type 0
 AreLabelsFirst no_block_items = Unit {0}
 AreLabelsFirst (more_block_items (block_labels keyword names semi) items) = AreLabelsFirst items
@@ -335,6 +361,7 @@ IsTypeWord _ = Unit {0}
 
 module _ (all : List Lexeme) where
   abbrev mutual
+    -- an expression (6.5) whose operands hold together as tightly as their operators want
     pub IsExpr : Expr → Type 0
     IsExpr (operation e op token e2) = IsExpr e × IsExpr e2 × IsOperator op × IsMiddle op × (left_level op ≤ expr_level e) × (right_level op ≤ expr_level e2)
     IsExpr (cast opening ws d closing e) = IsMix ws × AreTypeWords ws × IsSomeAbstract d × IsExpr e × (13 ≤ expr_level e)
@@ -364,56 +391,68 @@ module _ (all : List Lexeme) where
     IsExpr (choose keyword opening e separator e2 separator2 e3 closing) = IsExpr e × IsExpr e2 × IsExpr e3 × (1 ≤ expr_level e) × (1 ≤ expr_level e2) × (1 ≤ expr_level e3)
     IsExpr (generic keyword opening e xs closing) = IsExpr e × (1 ≤ expr_level e) × (xs ≢ no_assocs) × AreAssocs xs
 
+    -- the associations of `_Generic`, each an assignment expression behind its colon
     pub AreAssocs : Assocs → Type 0
     AreAssocs no_assocs = Unit {0}
     AreAssocs (more_assocs x xs) = IsAssoc x × AreAssocs xs
 
+    -- an association with the name of a type, or with `default`
     pub IsAssoc : Assoc → Type 0
     IsAssoc (typed_assoc ws d colon e) = IsMix ws × AreTypeWords ws × IsSomeAbstract d × IsExpr e × (1 ≤ expr_level e)
     IsAssoc (default_assoc keyword colon e) = IsExpr e × (1 ≤ expr_level e)
 
+    -- the middle of `?:` is any expression, or left out
     pub IsMiddle : Operator → Type 0
     IsMiddle comma = Unit {0}
     IsMiddle (assign p) = Unit {0}
     IsMiddle (cond e colon) = IsSomeExpr e
     IsMiddle (binary p) = Unit {0}
 
+    -- an expression that may be left out
     pub IsSomeExpr : SomeExpr → Type 0
     IsSomeExpr no_expr = Unit {0}
     IsSomeExpr (some_expr e) = IsExpr e
 
+    -- the arguments of a call, each an assignment expression
     pub AreArguments : Exprs → Type 0
     AreArguments no_exprs = Unit {0}
     AreArguments (more_exprs e es) = IsExpr e × (1 ≤ expr_level e) × AreArguments es
 
+    -- the steps of `__builtin_offsetof` behind its first member
     pub AreSteps : Desigs → Type 0
     AreSteps no_desigs = Unit {0}
     AreSteps (more_desigs d ds) = IsStep d × AreSteps ds
 
+    -- a step: a member or an index, and no range or old form
     pub IsStep : Desig → Type 0
     IsStep (member_desig token name) = Unit {0}
     IsStep (index_desig opening e closing) = IsExpr e
     IsStep (range_desig opening e dots e2 closing) = ⊥
     IsStep (old_desig name colon) = ⊥
 
+    -- the designators of an initialiser
     pub AreDesigs : Desigs → Type 0
     AreDesigs no_desigs = Unit {0}
     AreDesigs (more_desigs d ds) = IsDesig d × AreDesigs ds
 
+    -- a designator, whose index or bounds are constant expressions by their level
     pub IsDesig : Desig → Type 0
     IsDesig (member_desig token name) = Unit {0}
     IsDesig (index_desig opening e closing) = IsExpr e × (2 ≤ expr_level e)
     IsDesig (range_desig opening e dots e2 closing) = IsExpr e × (2 ≤ expr_level e) × IsExpr e2 × (2 ≤ expr_level e2)
     IsDesig (old_desig name colon) = Unit {0}
 
+    -- the specifiers of the name of a type (6.7.6)
     pub AreTypeWords : SpecWords → Type 0
     AreTypeWords no_words = Unit {0}
     AreTypeWords (more_words w ws) = IsSpecWord w × IsTypeWord w × AreTypeWords ws
 
+    -- the specifiers of a declaration, a member or a parameter
     pub AreSpecWords : SpecWords → Type 0
     AreSpecWords no_words = Unit {0}
     AreSpecWords (more_words w ws) = IsSpecWord w × AreSpecWords ws
 
+    -- a word of specifiers has a keyword of its kind, and well formed parts
     pub IsSpecWord : SpecWord → Type 0
     IsSpecWord (storage word) = is_storage word.keyword ≡ true
     IsSpecWord (thread keyword) = Unit {0}
@@ -430,42 +469,52 @@ module _ (all : List Lexeme) where
     IsSpecWord (align attr) = IsGroup all attr.group
     IsSpecWord (auto_word token) = Unit {0}
 
+    -- the body of a struct or union, if any
     pub IsBody : SomeBody → Type 0
     IsBody no_body = Unit {0}
     IsBody (some_body opening items closing) = AreStructItems items
 
+    -- the members of a struct or union
     pub AreStructItems : StructItems → Type 0
     AreStructItems no_struct_items = Unit {0}
     AreStructItems (more_struct_items item items) = IsStructItem item × AreStructItems items
 
+    -- a member's declaration (6.7.2.1), which has no `__auto_type`
     pub IsStructItem : StructItem → Type 0
     IsStructItem (member exts ws ds semi) = IsMix ws × AreSpecWords ws × (has_auto ws ≡ false) × IsMemStart ds × AreMemDeclrs ds
     IsStructItem (member_semi semi) = Unit {0}
     IsStructItem (member_assert it) = IsGroup all it.group
 
+    -- the declarators of a member's declaration
     pub AreMemDeclrs : MemDeclrs → Type 0
     AreMemDeclrs no_mem_declrs = Unit {0}
     AreMemDeclrs (more_mem_declrs attrs d ds) = AreAttrs all attrs × IsMemDeclr d × AreMemDeclrs ds
 
+    -- a member's declarator with a name, maybe with a width, or a width alone
     pub IsMemDeclr : MemDeclr → Type 0
     IsMemDeclr (named d width attrs) = IsDeclr d × (is_named d ≡ true) × IsSomeValue width × AreAttrs all attrs × (lists_identifiers d ≡ false)
     IsMemDeclr (unnamed colon e attrs) = IsExpr e × (2 ≤ expr_level e) × AreAttrs all attrs
 
+    -- a width or a value that may be left out, a constant expression by its level
     pub IsSomeValue : SomeValue → Type 0
     IsSomeValue no_value = Unit {0}
     IsSomeValue (some_value token e) = IsExpr e × (2 ≤ expr_level e)
 
+    -- an enumeration type (6.7.2.2)
     pub IsEnum : EnumType → Type 0
     IsEnum (enum_of keyword attrs tag body) = AreAttrs all attrs × HasTagOrEnumBody tag body × IsEnumBody body
 
+    -- the body of an enumeration, if any, has an enumerator at least
     pub IsEnumBody : SomeEnumBody → Type 0
     IsEnumBody no_enum_body = Unit {0}
     IsEnumBody (some_enum_body opening es last closing) = (es ≢ no_enumerators) × AreEnumerators es
 
+    -- the enumerators of an enumeration
     pub AreEnumerators : Enumerators → Type 0
     AreEnumerators no_enumerators = Unit {0}
     AreEnumerators (more_enumerators name attrs value es) = AreAttrs all attrs × IsSomeValue value × AreEnumerators es
 
+    -- a declarator: one with a name has named declarators inside, and an abstract one has abstract ones
     pub IsDeclr : Declr → Type 0
     IsDeclr (pointer star words d) = All (IsPointerWord all) words × IsDeclr d × (is_named d ≡ true)
     IsDeclr (declr_name token name) = Unit {0}
@@ -479,65 +528,81 @@ module _ (all : List Lexeme) where
     IsDeclr (identifiers d opening names closing) = IsDeclr d × (is_bare_name d ≡ true) × (names ≢ [])
     IsDeclr (base_name token) = Unit {0}
 
+    -- an abstract declarator, or none
     pub IsSomeAbstract : SomeDeclr → Type 0
     IsSomeAbstract no_declr = Unit {0}
     IsSomeAbstract (some_declr d) = IsDeclr d × (is_named d ≡ false)
 
+    -- an abstract declarator that is no pointer, or none, before brackets or parameters
     pub IsSomeDirect : SomeDeclr → Type 0
     IsSomeDirect no_declr = Unit {0}
     IsSomeDirect (some_declr d) = IsDeclr d × (is_named d ≡ false) × (is_direct d ≡ true)
 
+    -- what stands in the brackets of an array declarator
     pub IsSize : SomeSize → Type 0
     IsSize no_size = Unit {0}
     IsSize (some_size size) = IsArraySize size
 
+    -- the size of an array: an assignment expression or `*`
     pub IsArraySize : ArraySize → Type 0
     IsArraySize (size_value e) = IsExpr e × (1 ≤ expr_level e)
     IsArraySize (size_star star) = Unit {0}
 
+    -- the parameters of a function declarator
     pub AreParams : Params → Type 0
     AreParams no_params = Unit {0}
     AreParams (more_params ws d attrs ps) = IsMix ws × AreSpecWords ws × (has_auto ws ≡ false) × IsSomeDeclr d × AreAttrs all attrs × IsParamEnd d attrs × AreParams ps × (some_lists_identifiers d ≡ false)
 
+    -- a declarator that may be absent, with a name or without
     pub IsSomeDeclr : SomeDeclr → Type 0
     IsSomeDeclr no_declr = Unit {0}
     IsSomeDeclr (some_declr d) = IsDeclr d
 
+    -- an initialiser: an assignment expression, or a braced list
     pub IsInit : Init → Type 0
     IsInit (init_value e) = IsExpr e × (1 ≤ expr_level e)
     IsInit (init_braced list) = IsInitList list
 
+    -- a braced list of initialisers
     pub IsInitList : InitList → Type 0
     IsInitList (init_list opening items last closing) = AreInitItems items × IsItemsEnd items last
 
+    -- the items of a list of initialisers
     pub AreInitItems : InitItems → Type 0
     AreInitItems no_init_items = Unit {0}
     AreInitItems (more_init_items ds equal init items) = AreDesigs ds × IsDesignated ds equal × IsInit init × AreInitItems items
 
+    -- an initialiser that may be left out
     pub IsSomeInit : SomeInit → Type 0
     IsSomeInit no_init = Unit {0}
     IsSomeInit (some_init equal init) = IsInit init
 
+    -- the declarators of a declaration, each with a name
     pub AreInitDeclrs : InitDeclrs → Type 0
     AreInitDeclrs no_init_declrs = Unit {0}
     AreInitDeclrs (more_init_declrs attrs d asm_label attrs2 init ds) = AreAttrs all attrs × IsDeclr d × (is_named d ≡ true) × IsLabel all asm_label × AreAttrs all attrs2 × IsSomeInit init × AreInitDeclrs ds × (lists_identifiers d ≡ false)
 
+    -- a declaration (6.7)
     pub IsDeclaration : Declaration → Type 0
     IsDeclaration (declaration exts ws ds semi) = IsMix ws × AreSpecWords ws × IsInitStart ds × AreInitDeclrs ds × IsAutoWhere (has_auto ws) ws ds × IsBaseStart ws ds
 
+    -- a declaration, or a `_Static_assert` with a group
     pub IsDecl : Decl → Type 0
     IsDecl (decl_declaration d) = IsDeclaration d
     IsDecl (decl_assert it) = IsGroup all it.group
 
+    -- the items of a block
     pub AreBlockItems : BlockItems → Type 0
     AreBlockItems no_block_items = Unit {0}
     AreBlockItems (more_block_items item items) = IsBlockItem item × AreBlockItems items
 
+    -- an item of a block; a declaration of labels has one at least
     pub IsBlockItem : BlockItem → Type 0
     IsBlockItem (block_decl d) = IsDecl d
     IsBlockItem (block_stmt s) = IsStmt s
     IsBlockItem (block_labels keyword names semi) = names ≢ []
 
+    -- a statement (6.8)
     pub IsStmt : Stmt → Type 0
     IsStmt (block opening items closing) = AreBlockItems items × AreLabelsFirst items
     IsStmt (expr_stmt e semi) = IsSomeExpr e
@@ -563,6 +628,7 @@ module _ (all : List Lexeme) where
     IsOther before no_else = Unit {0}
     IsOther before (some_else keyword s) = IsStmt s × (takes_else before ≡ false)
 
+    -- the first clause of a `for`
     pub IsStart : ForStart → Type 0
     IsStart (start_declaration d) = IsDeclaration d
     IsStart (start_value e semi) = IsSomeExpr e

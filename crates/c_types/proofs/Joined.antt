@@ -3,9 +3,9 @@ use Rattle.std.proofs.Common.{arith, ◌≡◌, ℕ, suc, ◌-◌, List, [], ◌
 use Rattle.tape_ops.specs.declared.op.Op.{Op}
 use Rattle.c_lexer.specs.Tokens.{Lexed}
 use Rattle.name_rules.specs.Spellings.{Spelling}
-use Rattle.name_steps.specs.Units.{Tape}
-use Rattle.name_laws.specs.NameLaws.{tape_of_source}
-use Rattle.source_spelling.specs.Tokens.{spelling_behind}
+use Rattle.name_rules.specs.NameSteps.Units.{Tape}
+use Rattle.resolve_laws.specs.NameLaws.NameLaws.{tape_of_source}
+use Rattle.c_types.specs.SourceSpelling.Tokens.{spelling_behind}
 use Rattle.type_rules.specs.Program as rules
 use Rattle.unit_types.specs.declared.program.UnitTape.{UnitTape}
 use Rattle.unit_types.specs.Resolved.{tape_of, tapes_of}
@@ -35,7 +35,8 @@ before_last units it = ap all_but_last (lexed_more units it) ∙ but_last (lexed
 -- the tokens and the tapes of one unit more
 pub parts_more : (units : List UnitRead) (unit : UnitRead) (lexed : Lexed) (ops : List Op) (tokens : List Lexed) (tapes : List UnitTape)
     (spelling : Spelling) (tape : UnitTape) → AreParts units tokens tapes → IsTaped unit lexed ops
-    → spelling ≡ spelling_behind (lexed_of units) lexed → tape_of tape ≡ (let t : Tape = record { spelling = spelling; ops = ops } in t)
+    → spelling ≡ spelling_behind (lexed_of units) lexed
+    → tape_of tape ≡ (let t : Tape = record { spelling = spelling; ops = ops } in t)
     → AreParts (units ++ unit ∷ []) (tokens ++ lexed ∷ []) (tapes ++ tape ∷ [])
 parts_more units unit lexed ops tokens tapes spelling tape are is spelled made = record {
   tokens_are =
@@ -51,7 +52,8 @@ parts_more units unit lexed ops tokens tapes spelling tape are is spelled made =
 }
 
 -- the last of some units stands behind those before it
-pub last_behind : (units : List Lexed) (it : Lexed) → slice_get units (length units - 1) ≡ Some it → all_but_last units ++ it ∷ [] ≡ units
+pub last_behind : (units : List Lexed) (it : Lexed) → slice_get units (length units - 1) ≡ Some it
+    → all_but_last units ++ it ∷ [] ≡ units
 last_behind [] it is = absurd cc
 last_behind (u ∷ []) it is = let same : it ≡ u = cc in ap (λ (one : Lexed). one ∷ []) same
 last_behind (u ∷ v ∷ units) it is =

@@ -4,11 +4,11 @@ use Rattle.std.specs.Prelude.{All, IfSome}
 use Rattle.name_rules.specs.Faults.{Fault, IsFirst}
 use Rattle.name_rules.specs.Scopes.{Names}
 use Rattle.name_rules.specs.Linking.{body_faults}
-use Rattle.name_laws.specs.NameLaws.{NamesOfTapes, IsSound, tape_of_source}
-use Rattle.name_steps.specs.Units.{Tape}
-use Rattle.shape_laws.specs.Laws.{found_on, all_found, FirstFaultIsFound, NoneIsFound}
-use Rattle.shape_steps.specs.State.{nothing}
-use Rattle.shape_steps.specs.Found.{faults_found}
+use Rattle.resolve_laws.specs.NameLaws.NameLaws.{NamesOfTapes, IsSound, tape_of_source}
+use Rattle.name_rules.specs.NameSteps.Units.{Tape}
+use Rattle.resolve_laws.specs.ShapeLaws.Laws.{found_on, all_found, FirstFaultIsFound, NoneIsFound}
+use Rattle.name_rules.specs.ShapeSteps.State.{nothing}
+use Rattle.name_rules.specs.ShapeSteps.Found.{faults_found}
 use Rattle.type_rules.specs.Program.{Source, names_of, HasNoFault, IsFirstFault}
 use Rattle.unit_types.specs.declared.fault.ShapeFault.{ShapeFault}
 use Rattle.unit_types.specs.declared.program.UnitTape.{UnitTape}

@@ -5,7 +5,7 @@ use Rattle.c_tree.specs.Unit.{Item, items_of}
 use Rattle.type_rules.specs.Program as rules
 use Rattle.unit_types.specs.declared.fault.ShapeFault.{ShapeFault}
 use Rattle.unit_types.specs.Faults.{fault_in}
-use Rattle.source_spelling.specs.Tokens.{spelling_behind}
+use Rattle.c_types.specs.SourceSpelling.Tokens.{spelling_behind}
 use Rattle.c_types.specs.declared.source.Source.{Source}
 
 -- a unit with its tokens
@@ -13,12 +13,15 @@ pub record UnitRead : Type 0 where
   pub lexed : Lexed
   pub items : List Item
 
+-- the tokens and the items of a source
 abbrev pub unit_of : Source → UnitRead
 unit_of it = record { lexed = it.tokens; items = items_of it.unit }
 
+-- the tokens and the items of each source
 abbrev pub units_of : List Source → List UnitRead
 units_of sources = map unit_of sources
 
+-- the tokens of each unit
 abbrev pub lexed_of : List UnitRead → List Lexed
 lexed_of units = map (λ (it : UnitRead). it.lexed) units
 
@@ -31,9 +34,11 @@ abbrev pub sources_behind : List Lexed → List UnitRead → List rules.Source
 sources_behind earlier [] = []
 sources_behind earlier (it ∷ units) = source_behind earlier it ∷ sources_behind (earlier ++ it.lexed ∷ []) units
 
+-- units as the rules see them, the first of all with none before it
 abbrev pub sources_in : List UnitRead → List rules.Source
 sources_in units = sources_behind [] units
 
+-- sources as the rules see them
 abbrev pub sources_of : List Source → List rules.Source
 sources_of sources = sources_in (units_of sources)
 

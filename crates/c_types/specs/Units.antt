@@ -3,8 +3,8 @@ use Rattle.std.specs.Prelude.{◌≡◌, All, List, [], ◌∷◌, map}
 use Rattle.tape_ops.specs.declared.op.Op.{Op}
 use Rattle.c_lexer.specs.Tokens.{Lexed}
 use Rattle.c_tape.specs.Tape.{tape_of}
-use Rattle.name_laws.specs.NameLaws.{IsSound, tape_of_source}
-use Rattle.source_spelling.specs.Keys.{AreNamesOf}
+use Rattle.resolve_laws.specs.NameLaws.NameLaws.{IsSound, tape_of_source}
+use Rattle.c_types.specs.SourceSpelling.Keys.{AreNamesOf}
 use Rattle.type_rules.specs.Program as rules
 use Rattle.unit_types.specs.declared.program.UnitTape.{UnitTape}
 use Rattle.unit_types.specs.Resolved.{tapes_of}

@@ -1,7 +1,7 @@
 //! Names and types of sources.
 
 ghost use Rattle.std.specs.Prelude.{◌≡◌, All, List, map, IfOk, IfErr};
-ghost use Rattle.name_laws.specs.NameLaws.{IsSound, tape_of_source};
+ghost use Rattle.resolve_laws.specs.NameLaws.NameLaws.{IsSound, tape_of_source};
 ghost use Rattle.type_rules.specs.Program as rules;
 ghost use Rattle.type_rules.specs.Program.{HasNoFault, names_of};
 ghost use Rattle.unit_shapes.specs.Views.{names_in};
@@ -11,8 +11,8 @@ ghost use Rattle.c_types.specs.Units.{AreTapesOf};
 
 use crate::source::Source;
 use crate::tapes::unit_tapes;
-use name_laws::names_of_tapes;
-use shape_laws::{first_fault_is_found, none_is_found};
+use resolve_laws::name_laws::names_of_tapes;
+use resolve_laws::shape_laws::{first_fault_is_found, none_is_found};
 use std::alloc::Global;
 use unit_types::{Program, ShapeFault, UnitTape, resolve_units};
 

@@ -4,17 +4,17 @@ ghost use Rattle.std.specs.Prelude.{◌≡◌, ◌++◌, ◌∷◌, [], List, fa
 ghost use Rattle.c_lexer.specs.Tokens.{Lexed};
 ghost use Rattle.c_tape.specs.Tape.{tape_of};
 ghost use Rattle.c_tree.specs.Unit.{items_of};
-ghost use Rattle.name_laws.specs.NameLaws.{tape_of_source};
-ghost use Rattle.source_spelling.specs.Keys.{AreNamesOf};
+ghost use Rattle.resolve_laws.specs.NameLaws.NameLaws.{tape_of_source};
+ghost use Rattle.c_types.specs.SourceSpelling.Keys.{AreNamesOf};
 ghost use Rattle.unit_types.specs.Resolved.{tape_of as tape_of_unit, tapes_of};
 ghost use Rattle.c_types.specs.Sources.{unit_of, source_behind, sources_of};
 
 use crate::ops::ops_of;
 use crate::source::Source;
+use crate::source_spelling::{EarlierNames, spelling_behind};
 use c_syntax::Unit;
 use c_tape::tape;
 use qual_base::NoMemory;
-use source_spelling::{EarlierNames, spelling_behind};
 use std::alloc::Global;
 use tape_ops::Op;
 use unit_types::UnitTape;

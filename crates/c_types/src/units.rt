@@ -3,16 +3,16 @@
 ghost use Rattle.std.specs.Prelude.{◌≡◌, ◌++◌, ◌∷◌, [], List, IfOk, OnOk};
 ghost use Rattle.c_tape.specs.Tape.{tape_of};
 ghost use Rattle.c_tree.specs.Unit.{items_of};
-ghost use Rattle.source_spelling.specs.Keys.{AreNamesOf};
+ghost use Rattle.c_types.specs.SourceSpelling.Keys.{AreNamesOf};
 ghost use Rattle.c_types.specs.Sources.{UnitRead, unit_of};
 ghost use Rattle.c_types.specs.Units.{all_but_last, AreParts, AreReduced, IsTaped};
 
 use crate::source::Source;
+use crate::source_spelling::{EarlierNames, spelling_behind};
 use crate::tapes::unit_ops;
 use c_lexer::Tokens;
 use c_syntax::Unit;
 use qual_base::NoMemory;
-use source_spelling::{EarlierNames, spelling_behind};
 use std::alloc::Global;
 use tape_ops::Op;
 use unit_types::UnitTape;

@@ -2,7 +2,8 @@
 -- read, the name of that declarator.
 --
 -- A name's scope begins behind its declarator. Until then the name is held: it is not visible and has no kind, and an
--- enumerator inside its declarator, whose scope would be the same, cannot take it. One held name a scope is enough, since
+-- enumerator inside its declarator, whose scope would be the same, cannot take it. One held name a scope is enough,
+-- since
 -- inside a declarator only enumerators are declared in the scope of its name.
 use Rattle.std.specs.Prelude.{ℕ, nat_eq, Bool, true, false, List, [], ◌∷◌, Option, None, Some, if◌then◌else◌}
 use Rattle.typedef_scope.specs.declared.kind.Kind.{Kind}
@@ -27,6 +28,7 @@ new_scope wide = record { names = []; held = None; wide = wide }
 abbrev pub file_scope : Bool → HeldScopes
 file_scope wide = new_scope wide ∷ []
 
+-- the innermost of the scopes that are open
 abbrev pub innermost : HeldScopes → HeldScope
 innermost [] = new_scope false
 innermost (scope ∷ outer) = scope
@@ -40,10 +42,11 @@ abbrev pub leave : HeldScopes → HeldScopes
 leave [] = []
 leave (scope ∷ outer) = outer
 
--- a scope inside the others: one without names, or one that was closed before
+-- a scope without names inside the others
 abbrev pub enter : HeldScopes → HeldScopes
 enter scopes = new_scope (is_wide scopes) ∷ scopes
 
+-- a scope that was closed before, inside the others
 abbrev pub reopen : HeldScope → HeldScopes → HeldScopes
 reopen scope scopes = scope ∷ scopes
 
@@ -52,10 +55,12 @@ abbrev pub kind_of : HeldScopes → ℕ → Option Kind
 kind_of [] name = None
 kind_of (scope ∷ outer) name = else_in (kind_in scope.names name) (kind_of outer name)
 
+-- whether a name of this kind is a typedef name
 abbrev pub is_typedef : Option Kind → Bool
 is_typedef (Some Typedef) = true
 is_typedef kind = false
 
+-- whether a name is a typedef name here
 abbrev pub names_type : HeldScopes → ℕ → Bool
 names_type scopes name = is_typedef (kind_of scopes name)
 
@@ -64,9 +69,11 @@ abbrev pub admits : Option Kind → Kind → Bool
 admits None kind = true
 admits (Some known) kind = is_same known kind
 
+-- whether a scope may declare a name of this kind: it has not declared it of another
 abbrev pub may_declare : HeldScope → ℕ → Kind → Bool
 may_declare scope name kind = admits (kind_in scope.names name) kind
 
+-- whether the name that a scope holds, if any, is this one
 abbrev pub is_name : Option ℕ → ℕ → Bool
 is_name None name = false
 is_name (Some held) name = nat_eq held name
@@ -76,6 +83,7 @@ abbrev pub with_kind : Option Kind → HeldScope → ℕ → Kind → HeldScope
 with_kind None scope name kind = record scope { names = (name, kind) ∷ scope.names }
 with_kind (Some known) scope name kind = scope
 
+-- a scope with a name of this kind, where it has not yet declared the name
 abbrev pub with_name : HeldScope → ℕ → Kind → HeldScope
 with_name scope name kind = with_kind (kind_in scope.names name) scope name kind
 
@@ -91,6 +99,7 @@ abbrev pub release_as : Option ℕ → Kind → HeldScopes → HeldScopes
 release_as None kind scopes = scopes
 release_as (Some name) kind scopes = record (with_name (innermost scopes) name kind) { held = None } ∷ leave scopes
 
+-- the innermost scope declares the name that it holds, if any
 abbrev pub release : Kind → HeldScopes → HeldScopes
 release kind scopes = release_as (innermost scopes).held kind scopes
 

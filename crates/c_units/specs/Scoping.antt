@@ -2,9 +2,11 @@
 -- it by those before it, or none where a name in it has not the kind that its place wants. The parts of a form are
 -- gone through in the order of its text.
 --
--- A name's scope begins behind its declarator, an enumerator's behind its value. Parameters, blocks, the statements that
+-- A name's scope begins behind its declarator, an enumerator's behind its value. Parameters, blocks, the statements
+-- that
 -- choose and repeat and each direct part of these have scopes of their own (C99, 6.8.4 and 6.8.5); the parameters of a
--- function are in the scope of its body (6.9.1), with the enumerators that stand among them. A typedef holds from there on;
+-- function are in the scope of its body (6.9.1), with the enumerators that stand among them. A typedef holds from there
+-- on;
 -- a later one of the same name in its scope changes nothing. Labels, tags and members are no ordinary names.
 use Rattle.std.specs.Prelude.{ℕ, Bool, true, false, ◌&&◌, not, List, [], ◌∷◌, Option, None, Some, if◌then◌else◌}
 use Rattle.c_words.specs.declared.kinds.Keyword.{Keyword}
@@ -31,10 +33,12 @@ abbrev pub where_true : Bool → HeldScopes → Option HeldScopes
 where_true true scopes = Some scopes
 where_true false scopes = None
 
+-- whether a keyword is `typedef`
 abbrev pub is_typedef_word : Keyword → Bool
 is_typedef_word TypedefWord = true
 is_typedef_word word = false
 
+-- whether `typedef` is among storage words
 abbrev pub has_typedef_word : List Keyword → Bool
 has_typedef_word [] = false
 has_typedef_word (word ∷ words) = if is_typedef_word word then true else has_typedef_word words
@@ -48,7 +52,7 @@ abbrev pub at_name : Option Kind → ℕ → HeldScopes → Option HeldScopes
 at_name None name scopes = Some scopes
 at_name (Some kind) name scopes = hold name kind scopes
 
--- a base word alone
+-- whether a declarator is a base word alone
 abbrev pub is_base : Declr → Bool
 is_base (base_name token) = true
 is_base (declr_name token name) = false
@@ -76,6 +80,7 @@ first_name (abs_params d opening ps dots closing) = None
 first_name (identifiers d opening names closing) = first_name d
 first_name (base_name token) = None
 
+-- whether a declarator begins with a name that is a typedef name here
 abbrev pub begins_with_type : HeldScopes → Option ℕ → Bool
 begins_with_type scopes None = false
 begins_with_type scopes (Some name) = names_type scopes name
@@ -88,6 +93,7 @@ identifiers_scopes (it ∷ names) s = behind (where_true (not (names_type s it.n
 -- In a parameter's declarator a name right behind a parenthesis and its attributes is no typedef name: it would be the
 -- first word of a parameter there (C99, 6.7.5.3 paragraph 11).
 abbrev mutual
+  -- whether no name right behind a parenthesis in a declarator is a typedef name
   pub shows_no_type : HeldScopes → Declr → Bool
   shows_no_type scopes (pointer star words d) = shows_no_type scopes d
   shows_no_type scopes (declr_name token name) = true
@@ -101,11 +107,13 @@ abbrev mutual
   shows_no_type scopes (identifiers d opening names closing) = shows_no_type scopes d
   shows_no_type scopes (base_name token) = true
 
+  -- the same of a declarator that may be absent
   pub some_shows_no_type : HeldScopes → SomeDeclr → Bool
   some_shows_no_type scopes no_declr = true
   some_shows_no_type scopes (some_declr d) = shows_no_type scopes d
 
 abbrev mutual
+  -- behind an expression; only the type names and blocks in it declare names
   pub expr_scopes : Expr → HeldScopes → Option HeldScopes
   expr_scopes (operation e op token e2) s = behind (behind (expr_scopes e s) (operator_scopes op)) (expr_scopes e2)
   expr_scopes (cast opening ws d closing e) s = behind (behind (spec_words_scopes ws s) (some_declr_scopes None d)) (expr_scopes e)
@@ -136,32 +144,39 @@ abbrev mutual
   expr_scopes (choose keyword opening e separator e2 separator2 e3 closing) s = behind (behind (expr_scopes e s) (expr_scopes e2)) (expr_scopes e3)
   expr_scopes (generic keyword opening e xs closing) s = behind (expr_scopes e s) (assocs_scopes xs)
 
+  -- behind the associations of `_Generic`
   pub assocs_scopes : Assocs → HeldScopes → Option HeldScopes
   assocs_scopes no_assocs s = Some s
   assocs_scopes (more_assocs x xs) s = behind (assoc_scopes x s) (assocs_scopes xs)
 
+  -- behind an association
   pub assoc_scopes : Assoc → HeldScopes → Option HeldScopes
   assoc_scopes (typed_assoc ws d colon e) s = behind (behind (spec_words_scopes ws s) (some_declr_scopes None d)) (expr_scopes e)
   assoc_scopes (default_assoc keyword colon e) s = expr_scopes e s
 
+  -- behind an operator, with the middle of `?:`
   pub operator_scopes : Operator → HeldScopes → Option HeldScopes
   operator_scopes comma s = Some s
   operator_scopes (assign p) s = Some s
   operator_scopes (cond e colon) s = some_expr_scopes e s
   operator_scopes (binary p) s = Some s
 
+  -- behind an expression that may be left out
   pub some_expr_scopes : SomeExpr → HeldScopes → Option HeldScopes
   some_expr_scopes no_expr s = Some s
   some_expr_scopes (some_expr e) s = expr_scopes e s
 
+  -- behind the arguments of a call
   pub exprs_scopes : Exprs → HeldScopes → Option HeldScopes
   exprs_scopes no_exprs s = Some s
   exprs_scopes (more_exprs e es) s = behind (expr_scopes e s) (exprs_scopes es)
 
+  -- behind specifiers
   pub spec_words_scopes : SpecWords → HeldScopes → Option HeldScopes
   spec_words_scopes no_words s = Some s
   spec_words_scopes (more_words w ws) s = behind (spec_word_scopes w s) (spec_words_scopes ws)
 
+  -- behind a word of specifiers, whose enumerators are declared in it
   pub spec_word_scopes : SpecWord → HeldScopes → Option HeldScopes
   spec_word_scopes (storage word) s = Some s
   spec_word_scopes (thread keyword) s = Some s
@@ -178,10 +193,12 @@ abbrev mutual
   spec_word_scopes (align attr) s = Some s
   spec_word_scopes (auto_word token) s = Some s
 
+  -- behind the body of a struct or union, if any
   pub some_body_scopes : SomeBody → HeldScopes → Option HeldScopes
   some_body_scopes no_body s = Some s
   some_body_scopes (some_body opening items closing) s = struct_items_scopes items s
 
+  -- behind the members of a struct or union
   pub struct_items_scopes : StructItems → HeldScopes → Option HeldScopes
   struct_items_scopes no_struct_items s = Some s
   struct_items_scopes (more_struct_items item items) s = behind (struct_item_scopes item s) (struct_items_scopes items)
@@ -192,21 +209,26 @@ abbrev mutual
   struct_item_scopes (member_semi semi) s = Some s
   struct_item_scopes (member_assert it) s = Some s
 
+  -- behind the declarators of a member's declaration
   pub mem_declrs_scopes : MemDeclrs → HeldScopes → Option HeldScopes
   mem_declrs_scopes no_mem_declrs s = Some s
   mem_declrs_scopes (more_mem_declrs attrs d ds) s = behind (mem_declr_scopes d s) (mem_declrs_scopes ds)
 
+  -- behind a member's declarator and its width
   pub mem_declr_scopes : MemDeclr → HeldScopes → Option HeldScopes
   mem_declr_scopes (named d width attrs) s = behind (declr_scopes None d s) (some_value_scopes width)
   mem_declr_scopes (unnamed colon e attrs) s = expr_scopes e s
 
+  -- behind a width or a value, if any
   pub some_value_scopes : SomeValue → HeldScopes → Option HeldScopes
   some_value_scopes no_value s = Some s
   some_value_scopes (some_value token e) s = expr_scopes e s
 
+  -- behind an enumeration type
   pub enum_type_scopes : EnumType → HeldScopes → Option HeldScopes
   enum_type_scopes (enum_of keyword attrs tag body) s = some_enum_body_scopes body s
 
+  -- behind the body of an enumeration, if any
   pub some_enum_body_scopes : SomeEnumBody → HeldScopes → Option HeldScopes
   some_enum_body_scopes no_enum_body s = Some s
   some_enum_body_scopes (some_enum_body opening es last closing) s = enumerators_scopes es s
@@ -231,14 +253,17 @@ abbrev mutual
   declr_scopes kind (identifiers d opening names closing) s = behind (declr_scopes kind d s) (λ t. behind (where_true (is_wide t) t) (identifiers_scopes names))
   declr_scopes kind (base_name token) s = where_true (is_wide s && is_typedef kind) s
 
+  -- behind a declarator that may be absent
   pub some_declr_scopes : Option Kind → SomeDeclr → HeldScopes → Option HeldScopes
   some_declr_scopes kind no_declr s = Some s
   some_declr_scopes kind (some_declr d) s = declr_scopes kind d s
 
+  -- behind the size of an array, if any
   pub some_size_scopes : SomeSize → HeldScopes → Option HeldScopes
   some_size_scopes no_size s = Some s
   some_size_scopes (some_size size) s = array_size_scopes size s
 
+  -- behind the size of an array: an expression or `*`
   pub array_size_scopes : ArraySize → HeldScopes → Option HeldScopes
   array_size_scopes (size_value e) s = expr_scopes e s
   array_size_scopes (size_star star) s = Some s
@@ -250,27 +275,33 @@ abbrev mutual
       behind (behind (behind (spec_words_scopes ws s) (λ t. where_true (some_shows_no_type t d) t)) (some_declr_scopes (Some Value) d))
       (λ t. params_scopes ps (release Value t))
 
+  -- behind an initialiser
   pub init_scopes : Init → HeldScopes → Option HeldScopes
   init_scopes (init_value e) s = expr_scopes e s
   init_scopes (init_braced list) s = init_list_scopes list s
 
+  -- behind a braced list of initialisers
   pub init_list_scopes : InitList → HeldScopes → Option HeldScopes
   init_list_scopes (init_list opening items last closing) s = init_items_scopes items s
 
+  -- behind the items of a braced list
   pub init_items_scopes : InitItems → HeldScopes → Option HeldScopes
   init_items_scopes no_init_items s = Some s
   init_items_scopes (more_init_items ds equal init items) s = behind (behind (desigs_scopes ds s) (init_scopes init)) (init_items_scopes items)
 
+  -- behind the designators of an item, or the steps of an offset
   pub desigs_scopes : Desigs → HeldScopes → Option HeldScopes
   desigs_scopes no_desigs s = Some s
   desigs_scopes (more_desigs d ds) s = behind (desig_scopes d s) (desigs_scopes ds)
 
+  -- behind a designator; a range and the old form `m:` stand in wider C alone
   pub desig_scopes : Desig → HeldScopes → Option HeldScopes
   desig_scopes (member_desig token name) s = Some s
   desig_scopes (index_desig opening e closing) s = expr_scopes e s
   desig_scopes (range_desig opening e dots e2 closing) s = behind (behind (expr_scopes e s) (λ t. where_true (is_wide t) t)) (expr_scopes e2)
   desig_scopes (old_desig name colon) s = where_true (is_wide s) s
 
+  -- behind the initialiser of a declarator, if any
   pub some_init_scopes : SomeInit → HeldScopes → Option HeldScopes
   some_init_scopes no_init s = Some s
   some_init_scopes (some_init equal init) s = init_scopes init s
@@ -287,23 +318,28 @@ abbrev mutual
   auto_declrs_scopes (more_init_declrs attrs d asm_label attrs2 init ds) s =
       behind (behind (behind (if is_base d then Some s else declr_scopes (Some Value) d s) (some_init_scopes init)) (λ t. Some (release Value t))) (auto_declrs_scopes ds)
 
+  -- behind a declaration
   pub declaration_scopes : Declaration → HeldScopes → Option HeldScopes
   declaration_scopes (declaration exts ws ds semi) s =
       behind (spec_words_scopes ws s) (if has_auto ws then auto_declrs_scopes ds else init_declrs_scopes (declared_kind ws) ds)
 
+  -- behind a declaration or a `_Static_assert`
   pub decl_scopes : Decl → HeldScopes → Option HeldScopes
   decl_scopes (decl_declaration d) s = declaration_scopes d s
   decl_scopes (decl_assert it) s = Some s
 
+  -- behind the items of a block, in its scope
   pub block_items_scopes : BlockItems → HeldScopes → Option HeldScopes
   block_items_scopes no_block_items s = Some s
   block_items_scopes (more_block_items item items) s = behind (block_item_scopes item s) (block_items_scopes items)
 
+  -- behind an item of a block
   pub block_item_scopes : BlockItem → HeldScopes → Option HeldScopes
   block_item_scopes (block_decl d) s = decl_scopes d s
   block_item_scopes (block_stmt t) s = stmt_scopes t s
   block_item_scopes (block_labels keyword names semi) s = Some s
 
+  -- behind a statement, when the scopes of its own are left
   pub stmt_scopes : Stmt → HeldScopes → Option HeldScopes
   stmt_scopes (block opening items closing) s = in_own_scope (block_items_scopes items) s
   stmt_scopes (expr_stmt e semi) s = some_expr_scopes e s
@@ -326,10 +362,12 @@ abbrev mutual
   stmt_scopes (case_range keyword e dots e2 colon t) s = behind (behind (behind (expr_scopes e s) (λ u. where_true (is_wide u) u)) (expr_scopes e2)) (stmt_scopes t)
   stmt_scopes (goto_value keyword star e semi) s = behind (where_true (is_wide s) s) (expr_scopes e)
 
+  -- behind the `else` of an `if`, if any
   pub some_else_scopes : SomeElse → HeldScopes → Option HeldScopes
   some_else_scopes no_else s = Some s
   some_else_scopes (some_else keyword t) s = in_own_scope (stmt_scopes t) s
 
+  -- behind the first clause of a `for`, in the scope of the statement
   pub for_start_scopes : ForStart → HeldScopes → Option HeldScopes
   for_start_scopes (start_declaration d) s = declaration_scopes d s
   for_start_scopes (start_value e semi) s = some_expr_scopes e s

@@ -1,4 +1,5 @@
--- The well-formed units of preprocessed C: their tokens are those of the grammar, the rules beside the grammar hold, each
+-- The well-formed units of preprocessed C: their tokens are those of the grammar, the rules beside the grammar hold,
+-- each
 -- name has the kind of its place by scope, and the height is at most 500.
 use Rattle.std.specs.Prelude.{◌≡◌, ℕ, Bool, suc, List, [], ◌∷◌, Option, None, Some}
 use Rattle.c_words.specs.declared.kinds.TokenKind.{TokenKind}
@@ -28,10 +29,12 @@ pub record OwnParams : Type 0 where
   pub name : ℕ
   pub params : Params
 
+-- these parameters, where a declarator is a name alone, or else those found further in
 abbrev pub or_those_of : Option ℕ → Params → Option OwnParams → Option OwnParams
 or_those_of None ps inner = inner
 or_those_of (Some name) ps inner = Some (record { name = name; params = ps })
 
+-- the parameters directly around the name of a declarator, if any, with the name
 abbrev pub own_params : Declr → Option OwnParams
 own_params (declr_name token name) = None
 own_params (declr_paren opening attrs d closing) = own_params d
@@ -61,12 +64,14 @@ abbrev pub declarations_scopes : List Declaration → HeldScopes → Option Held
 declarations_scopes [] s = Some s
 declarations_scopes (d ∷ ds) s = behind (declaration_scopes d s) (declarations_scopes ds)
 
--- Such a function's declarations stand in the scope of its parameters, while its name is held; it is declared behind the last of these.
+-- Such a function's declarations stand in the scope of its parameters, while its name is held; it is declared behind
+-- the last of these.
 abbrev pub old_function_scopes : SpecWords → Declr → List Declaration → BlockItems → HeldScopes → Option HeldScopes
 old_function_scopes ws d ds items s =
     behind (spec_words_scopes ws s) (λ t. behind (declr_scopes (Some Value) d t) (λ u. behind (declarations_scopes ds (enter u))
     (λ w. behind (block_items_scopes items (reopen (innermost w) (release Value (leave w)))) (λ inner. Some (leave inner)))))
 
+-- the scopes behind an item of a unit, by those before it
 abbrev pub item_scopes : Item → HeldScopes → Option HeldScopes
 item_scopes (function_item exts ws d attrs opening items closing) s = function_scopes ws d items s
 item_scopes (old_function_item exts ws d attrs ds opening items closing) s = old_function_scopes ws d ds items s
@@ -74,11 +79,13 @@ item_scopes (decl_item d) s = decl_scopes d s
 item_scopes (asm_item keyword group semi) s = Some s
 item_scopes (semi_item semi) s = Some s
 
+-- the scopes behind items one behind another
 abbrev pub items_scopes : List Item → HeldScopes → Option HeldScopes
 items_scopes [] s = Some s
 items_scopes (item ∷ items) s = behind (item_scopes item s) (items_scopes items)
 
--- The tokens are those of these items, which obey the grammar and the rules beside it, and each name has the kind of its
+-- The tokens are those of these items, which obey the grammar and the rules beside it, and each name has the kind of
+-- its
 -- place. The unit is read as wider C or not.
 pub record IsWellFormed (wide : Bool) (all : List Lexeme) (items : List Item) : Type 0 where
   pub tokens : AreTokensOf all items
@@ -91,5 +98,6 @@ abbrev pub numbered_from : ℕ → List TokenKind → List Lexeme
 numbered_from n [] = []
 numbered_from n (kind ∷ kinds) = record { kind = kind; at = n } ∷ numbered_from (suc n) kinds
 
+-- tokens of these kinds, numbered from 0
 abbrev pub numbered : List TokenKind → List Lexeme
 numbered kinds = numbered_from 0 kinds

@@ -30,7 +30,8 @@ module _ (sys : System) where
 
   -- parts that are plain one by one
   plain_of : (orders : List Order) (parts : List Part) → length parts ≡ length orders →
-      ((n : ℕ) (order : Order) (part : Part) → slice_get orders n ≡ Some order → slice_get parts n ≡ Some part → IsPart sys order part × HasNames sys part) → ArePlain sys orders parts
+      ((n : ℕ) (order : Order) (part : Part) → slice_get orders n ≡ Some order → slice_get parts n ≡ Some part → IsPart sys order part × HasNames sys part)
+      → ArePlain sys orders parts
   plain_of [] [] many each = tt
   plain_of [] (p ∷ ps) many each = absurd (omega (arith, many))
   plain_of (o ∷ os) [] many each = absurd (omega (arith, many))

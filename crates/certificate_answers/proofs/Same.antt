@@ -33,13 +33,15 @@ module _ (one other : Part) (firsts : (v : ℕ) → slice_index one.first.items 
   same_pair : (x y : Named) → pair_of one.pairs.items x y ≡ pair_of other.pairs.items x y
   same_pair x y = ap (λ (b : Bool). cond b ((x.name, y.name) ∷ []) []) (pairs x.var y.var)
 
-  same_with : (x : Named) (names : List Named) → pairs_with one.pairs.items x names ≡ pairs_with other.pairs.items x names
+  same_with : (x : Named) (names : List Named)
+      → pairs_with one.pairs.items x names ≡ pairs_with other.pairs.items x names
   same_with x [] = refl
   same_with x (y ∷ names) =
       ap (λ (ps : List (ℕ × ℕ)). ps ++ pairs_with one.pairs.items x names) (same_pair x y)
       ∙ ap (λ (ps : List (ℕ × ℕ)). pair_of other.pairs.items x y ++ ps) (same_with x names)
 
-  same_pairs : (names others : List Named) → pairs_of one.pairs.items names others ≡ pairs_of other.pairs.items names others
+  same_pairs : (names others : List Named)
+      → pairs_of one.pairs.items names others ≡ pairs_of other.pairs.items names others
   same_pairs [] others = refl
   same_pairs (x ∷ names) others =
       ap (λ (ps : List (ℕ × ℕ)). ps ++ pairs_of one.pairs.items names others) (same_with x others)
@@ -53,7 +55,8 @@ module _ (one other : Part) (firsts : (v : ℕ) → slice_index one.first.items 
 
 module _ (sys : System) where
   -- two certificates that are written of a lattice
-  same_written : (lattice : ℕ) (one other : Part) → IsWritten sys lattice (certificate_of one) → IsWritten sys lattice (certificate_of other) → written sys one ≡ written sys other
+  same_written : (lattice : ℕ) (one other : Part) → IsWritten sys lattice (certificate_of one)
+      → IsWritten sys lattice (certificate_of other) → written sys one ≡ written sys other
   same_written lattice one other a b =
       same_lines one other
       (λ v. same_set (slice_index one.first.items v) (slice_index other.first.items v) (λ e h. (b.first v e).1 ((a.first v e).0 h)) (λ e h. (a.first v e).1 ((b.first v e).0 h)))
@@ -73,7 +76,8 @@ module _ (sys : System) where
       ap (λ (w : Written). w ∷ map (λ (part : Part). written sys part) ps) (each 0 p q refl refl) ∙ ap (λ (ws : List Written). written sys q ∷ ws) rest
 
 -- an order for each part
-order_at : (orders : List Order) (parts : List Part) (n : ℕ) (part : Part) → length parts ≡ length orders → slice_get parts n ≡ Some part → (order : Order) × (slice_get orders n ≡ Some order)
+order_at : (orders : List Order) (parts : List Part) (n : ℕ) (part : Part) → length parts ≡ length orders
+    → slice_get parts n ≡ Some part → (order : Order) × (slice_get orders n ≡ Some order)
 order_at orders [] n part many there = absurd cc
 order_at [] (p ∷ ps) n part many there = absurd (omega (arith, many))
 order_at (o ∷ os) (p ∷ ps) zero part many there = (o, refl)

@@ -21,7 +21,8 @@ pub empty_of : (set : ℕ) → ((e : ℕ) → has set e ≡ true → ⊥) → se
 empty_of set none = same_from_bits set 0 (λ e. no_bit set e (none e) ∙ sym (bit_at-zero e))
 
 -- sets with the same elements are the same
-pub same_set : (one other : ℕ) → ((e : ℕ) → has one e ≡ true → has other e ≡ true) → ((e : ℕ) → has other e ≡ true → has one e ≡ true) → one ≡ other
+pub same_set : (one other : ℕ) → ((e : ℕ) → has one e ≡ true → has other e ≡ true)
+    → ((e : ℕ) → has other e ≡ true → has one e ≡ true) → one ≡ other
 same_set one other to from = same_from_bits one other (λ e. elim (eqb_tells (bit_at one e) 1) [
   | inl is ↦ is.1 ∙ sym (bit_of other e (to e (of_bit one e is.1)))
   | inr not ↦

@@ -61,13 +61,15 @@ same_at (p ∷ ps) (q ∷ qs) (suc n) one same there = same_at ps qs n one same.
 
 module _ (sys : System) (orders : List Order) where
   -- no certificate obeys the rules where the same one breaks one
-  not_both : (ones others : List Part) (n : ℕ) (rule : CertRule) → AreSame ones others → FailsFirst sys orders ones n rule → ObeysAt sys orders others n → ⊥
+  not_both : (ones others : List Part) (n : ℕ) (rule : CertRule) → AreSame ones others
+      → FailsFirst sys orders ones n rule → ObeysAt sys orders others n → ⊥
   not_both ones others n rule same fails obeys =
       let found = same_at ones others n fails.part same fails.at in
       fails.fails.fails (subst (λ (c : Certificate). ObeysRule sys n fails.order c rule) (sym found.2) (obeys fails.order found.0 fails.there found.1 rule))
 
   -- and of the rules that it breaks one is the lowest
-  not_lower : (ones others : List Part) (n : ℕ) (rule other : CertRule) → AreSame ones others → FailsFirst sys orders ones n rule → FailsFirst sys orders others n other →
+  not_lower : (ones others : List Part) (n : ℕ) (rule other : CertRule) → AreSame ones others
+      → FailsFirst sys orders ones n rule → FailsFirst sys orders others n other →
       number_of rule < number_of other → ⊥
   not_lower ones others n rule other same a b low =
       let found = same_at ones others n a.part same a.at in
@@ -77,7 +79,8 @@ module _ (sys : System) (orders : List Order) where
       let Of : Certificate → Type 0 = λ c. ObeysRule sys n a.order c rule in
       a.fails.fails (subst Of (sym (found.2 ∙ ap certificate_of part)) (subst In (sym order) (b.fails.before rule low)))
 
-  same_rule : (ones others : List Part) (n : ℕ) (rule other : CertRule) → AreSame ones others → AreSame others ones → FailsFirst sys orders ones n rule → FailsFirst sys orders others n other →
+  same_rule : (ones others : List Part) (n : ℕ) (rule other : CertRule) → AreSame ones others → AreSame others ones
+      → FailsFirst sys orders ones n rule → FailsFirst sys orders others n other →
       rule ≡ other
   same_rule ones others n rule other same back a b = elim (cases_order (number_of rule) (number_of other)) [
     | inl is ↦ some_rule (sym (at_number rule) ∙ ap (λ (k : ℕ). slice_get rules (k - 1)) is ∙ at_number other)
@@ -87,7 +90,8 @@ module _ (sys : System) (orders : List Order) where
     ]
   ]
 
-  same_failing : (ones others : List Part) (n m : ℕ) (rule other : CertRule) → AreSame ones others → AreSame others ones → FailsFirst sys orders ones n rule → FailsFirst sys orders others m other →
+  same_failing : (ones others : List Part) (n m : ℕ) (rule other : CertRule) → AreSame ones others → AreSame others ones
+      → FailsFirst sys orders ones n rule → FailsFirst sys orders others m other →
       Fails (n + 1) rule ≡ Fails (m + 1) other
   same_failing ones others n m rule other same back a b = elim (cases_order n m) [
     | inl is ↦
@@ -107,10 +111,12 @@ nameless_is e = cc
 
 module _ (reads : ReadsOnce) (once : OneFault) (none : TextHasNoFault) (sys : System) (orders : List Order) (text : List ℕ) (bounded : IsBounded sys orders) where
   -- a text that reads does not stop at a line, nor name what is no variable
-  no_misfit : (parts : List Part) (line : ℕ) → ReadsAs sys orders text parts → IsPlaced sys orders (lines_of text) (Grammar line) → ⊥
+  no_misfit : (parts : List Part) (line : ℕ) → ReadsAs sys orders text parts
+      → IsPlaced sys orders (lines_of text) (Grammar line) → ⊥
   no_misfit parts line is placed = let wrong : Grammar line ≡ NoMemory = none sys orders text parts (Grammar line) bounded is placed in cc
 
-  no_nameless : (parts : List Part) (line : ℕ) → ReadsAs sys orders text parts → IsPlaced sys orders (lines_of text) (NoSuchVariable line) → ⊥
+  no_nameless : (parts : List Part) (line : ℕ) → ReadsAs sys orders text parts
+      → IsPlaced sys orders (lines_of text) (NoSuchVariable line) → ⊥
   no_nameless parts line is placed = let wrong : NoSuchVariable line ≡ NoMemory = none sys orders text parts (NoSuchVariable line) bounded is placed in cc
 
   one_of : (one other : Verdict) → ComesTo sys orders text one → ComesTo sys orders text other → one ≡ other

@@ -1,4 +1,7 @@
 //! What is written as certificates, and what texts of certificates come to: laws without code.
+//!
+//! Entry: `written_reads`, `one_verdict`.
+//! It does not know any algorithm. Above: the laws of the tool.
 #![tactic(auto)]
 
 mod laws;

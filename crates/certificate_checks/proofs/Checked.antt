@@ -19,7 +19,8 @@ some_part e = cc
 some_order : {x y : Order} → Some x ≡ Some y → x ≡ y
 some_order e = cc
 
-pub order_there : (lattices : List LatticeView) (n : ℕ) (view : LatticeView) → slice_get lattices n ≡ Some view → slice_get (orders_of lattices) n ≡ Some view.order
+pub order_there : (lattices : List LatticeView) (n : ℕ) (view : LatticeView) → slice_get lattices n ≡ Some view
+    → slice_get (orders_of lattices) n ≡ Some view.order
 order_there lattices n view is = slice_get-map (λ (lattice : LatticeView). lattice.order) lattices n ∙ ap (option_map (λ (lattice : LatticeView). lattice.order)) is
 
 pub all_orders : (lattices : List LatticeView) → length (orders_of lattices) ≡ length lattices
@@ -35,7 +36,8 @@ module _ (sys : System) where
   as_many (o ∷ os) (p ∷ ps) plain = ap suc (as_many os ps plain.2)
 
   -- and each is one of its lattice
-  pub part_of : (orders : List Order) (parts : List Part) (n : ℕ) (order : Order) (part : Part) → ArePlain sys orders parts → slice_get orders n ≡ Some order → slice_get parts n ≡ Some part →
+  pub part_of : (orders : List Order) (parts : List Part) (n : ℕ) (order : Order) (part : Part)
+      → ArePlain sys orders parts → slice_get orders n ≡ Some order → slice_get parts n ≡ Some part →
       IsPart sys order part
   part_of [] parts n order part plain o p = absurd cc
   part_of (x ∷ os) [] n order part plain o p = absurd cc
@@ -55,7 +57,8 @@ module _ (sys : System) (orders : List Order) (parts : List Part) where
   none_first = record { obey = λ n below. absurd (omega (arith, below)); accepted = λ n order below there. absurd (omega (arith, below)) }
 
   -- and so of one more
-  pub next_first : (count : ℕ) (order : Order) (part : Part) → slice_get orders count ≡ Some order → slice_get parts count ≡ Some part → Obeys sys count order (certificate_of part) →
+  pub next_first : (count : ℕ) (order : Order) (part : Part) → slice_get orders count ≡ Some order
+      → slice_get parts count ≡ Some part → Obeys sys count order (certificate_of part) →
       IsAcceptedIn sys count order → FirstObey sys orders parts count → FirstObey sys orders parts (count + 1)
   next_first count order part o_there p_there own accepted first = record {
     obey = λ n below o p o_is p_is.

@@ -28,14 +28,18 @@ pub record FailsFirst (sys : System) (orders : List Order) (parts : List Part) (
   pub fails : IsLowestFailing sys n order (certificate_of part) rule
   pub before : (m : ℕ) → m < n → ObeysAt sys orders parts m
 
--- What a text comes to as a certificate over a system: it reads and obeys the rules in every lattice, it reads and breaks one, or it
+-- What a text comes to as a certificate over a system: it reads and obeys the rules in every lattice, it reads and
+-- breaks one, or it
 -- does not read.
 pub data ComesTo (sys : System) (orders : List Order) (text : List ℕ) : Verdict → Type 0 where
-  Proves : (parts : List Part) → ReadsAs sys orders text parts → ((n : ℕ) → ObeysAt sys orders parts n) → ComesTo sys orders text Holds
-  Breaks : (parts : List Part) (n : ℕ) (rule : CertRule) → ReadsAs sys orders text parts → FailsFirst sys orders parts n rule →
+  Proves : (parts : List Part) → ReadsAs sys orders text parts → ((n : ℕ) → ObeysAt sys orders parts n)
+      → ComesTo sys orders text Holds
+  Breaks : (parts : List Part) (n : ℕ) (rule : CertRule) → ReadsAs sys orders text parts
+      → FailsFirst sys orders parts n rule →
       ComesTo sys orders text (Fails (n + 1) rule)
   StopsAt : (line : ℕ) → IsPlaced sys orders (lines_of text) (Grammar line) → ComesTo sys orders text (Unread line V1)
-  NamesNone : (line : ℕ) → IsPlaced sys orders (lines_of text) (NoSuchVariable line) → ComesTo sys orders text (Unread line V2)
+  NamesNone : (line : ℕ) → IsPlaced sys orders (lines_of text) (NoSuchVariable line)
+      → ComesTo sys orders text (Unread line V2)
 
 -- what a certificate that does not read comes to
 abbrev pub unread_of : CertFault → Option Verdict

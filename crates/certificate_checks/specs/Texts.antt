@@ -8,6 +8,7 @@ use Rattle.certificate_checks.specs.declared.judging.CertCode.TheVariants.{V1, V
 use Rattle.certificate_checks.specs.declared.judging.Verdict.{Verdict}
 use Rattle.certificate_checks.specs.declared.judging.Verdict.TheVariants.{Holds, Fails, Unread}
 
+-- the name of a rule
 abbrev pub rule_text : CertRule → List ℕ
 rule_text A1 = codes "A1"
 rule_text A2 = codes "A2"
@@ -19,6 +20,7 @@ rule_text A7 = codes "A7"
 rule_text A8 = codes "A8"
 rule_text A9 = codes "A9"
 
+-- the name of a reason why a certificate does not read
 abbrev pub code_text : CertCode → List ℕ
 code_text V1 = codes "V1"
 code_text V2 = codes "V2"
@@ -27,6 +29,7 @@ code_text V2 = codes "V2"
 abbrev pub bad_text : List ℕ → ℕ → List ℕ → List ℕ
 bad_text front number name = front ++ decimal number ++ codes ": " ++ name ++ 10 ∷ []
 
+-- the line that says what a certificate comes to, with its line feed
 abbrev pub verdict_text : Verdict → List ℕ
 verdict_text Holds = codes "certificate holds" ++ 10 ∷ []
 verdict_text (Fails lattice rule) = bad_text (codes "certificate bad in lattice ") lattice (rule_text rule)

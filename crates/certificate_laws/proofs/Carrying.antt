@@ -41,38 +41,45 @@ module _ (sys : System) (lattice : ℕ) (order : Order) (c : Certificate) (obeys
   homed : (e v : ℕ) (sites : List ℕ) → owner_of sys v ≡ Nobody → Carries sys lattice c e v sites → c.first v e ≡ true
   homed e v sites is r = (obeys A2 v).1 is e (second_of e v sites r)
 
-  pub at_home : (e v : ℕ) (sites : List ℕ) → Carries sys lattice c e v sites → Carries sys lattice c e v (seen_from (owner_of sys v) sites)
+  pub at_home : (e v : ℕ) (sites : List ℕ) → Carries sys lattice c e v sites
+      → Carries sys lattice c e v (seen_from (owner_of sys v) sites)
   at_home e v sites r = by_owner (owner_of sys v) refl
     where
       by_owner : (o : Owner) → owner_of sys v ≡ o → Carries sys lattice c e v (seen_from o sites)
       by_owner Nobody is = homed e v sites is r
       by_owner (Function f) is = r
 
-  pub from_home : (e v : ℕ) (sites : List ℕ) → Carries sys lattice c e v (seen_from (owner_of sys v) sites) → Carries sys lattice c e v sites
+  pub from_home : (e v : ℕ) (sites : List ℕ) → Carries sys lattice c e v (seen_from (owner_of sys v) sites)
+      → Carries sys lattice c e v sites
   from_home e v sites r = by_owner (owner_of sys v) refl r
     where
-      by_owner : (o : Owner) → owner_of sys v ≡ o → Carries sys lattice c e v (seen_from o sites) → Carries sys lattice c e v sites
+      by_owner : (o : Owner) → owner_of sys v ≡ o → Carries sys lattice c e v (seen_from o sites)
+          → Carries sys lattice c e v sites
       by_owner Nobody is r = anywhere sys lattice c e v sites r
       by_owner (Function f) is r = r
 
   -- what goes on in both ways goes on in each copy
-  goes_on : (e u v : ℕ) (sites : List ℕ) → (c.first u e ≡ true → c.first v e ≡ true) → ((z : ℕ) → c.paired z u ≡ true → c.paired z v ≡ true) →
+  goes_on : (e u v : ℕ) (sites : List ℕ) → (c.first u e ≡ true → c.first v e ≡ true)
+      → ((z : ℕ) → c.paired z u ≡ true → c.paired z v ≡ true) →
       Carries sys lattice c e u sites → Carries sys lattice c e v sites
   goes_on e u v [] firsts pairs p = firsts p
   goes_on e u v (s ∷ sites) firsts pairs (inl p) = inl (firsts p)
   goes_on e u v (s ∷ sites) firsts pairs (inr (n, w, a, st, r, pair)) = inr (n, w, a, st, r, pairs a pair)
 
-  pub flowed : (e n u v : ℕ) (sites : List ℕ) → Stands sys lattice n (Le u v) → Carries sys lattice c e u sites → Carries sys lattice c e v sites
+  pub flowed : (e n u v : ℕ) (sites : List ℕ) → Stands sys lattice n (Le u v) → Carries sys lattice c e u sites
+      → Carries sys lattice c e v sites
   flowed e n u v sites st r = by_owner (owner_of sys v) refl
     where
       by_owner : (o : Owner) → owner_of sys v ≡ o → Carries sys lattice c e v sites
       by_owner Nobody is = anywhere sys lattice c e v sites ((obeys A2 v).1 is e ((obeys A3 n u v st).1 e (second_of e u sites r)))
       by_owner (Function f) is = goes_on e u v sites ((obeys A3 n u v st).0 e) (λ z pair. obeys A6 n u v z f st is pair) r
 
-  pub entered : (e s n u x : ℕ) (sites : List ℕ) → Stands sys lattice n (Enter s u x) → Carries sys lattice c e u sites → Carries sys lattice c e x (s ∷ sites)
+  pub entered : (e s n u x : ℕ) (sites : List ℕ) → Stands sys lattice n (Enter s u x) → Carries sys lattice c e u sites
+      → Carries sys lattice c e x (s ∷ sites)
   entered e s n u x sites st r = inr (n, u, x, st, r, (obeys A5 n s u x st).1)
 
-  pub left : (e s m y v : ℕ) (sites : List ℕ) → Stands sys lattice m (Leave s y v) → Carries sys lattice c e y (s ∷ sites) → Carries sys lattice c e v sites
+  pub left : (e s m y v : ℕ) (sites : List ℕ) → Stands sys lattice m (Leave s y v)
+      → Carries sys lattice c e y (s ∷ sites) → Carries sys lattice c e v sites
   left e s m y v sites st2 (inl p) = anywhere sys lattice c e v sites (obeys A4 m s y v st2 e p)
   left e s m y v sites st2 (inr (n, u, a, st, r, pair)) =
       let on = obeys A7 n m s u a y v st pair st2 in

@@ -47,7 +47,9 @@ module _ (sys : System) (lattice : ℕ) (order : Order) (c : Certificate) (lat :
   least v sites = (one v sites).1
 
   -- what is carried to one copy is carried to another
-  raised : (u v : ℕ) (here there : List ℕ) → ((e : ℕ) → Carries sys lattice c e u here → Carries sys lattice c e v there) → leq order (copies u here) (copies v there) ≡ true
+  raised : (u v : ℕ) (here there : List ℕ)
+      → ((e : ℕ) → Carries sys lattice c e u here → Carries sys lattice c e v there)
+      → leq order (copies u here) (copies v there) ≡ true
   raised u v here there h = (least u here).least (copies v there) (least v there).element (λ e r. (least v there).upper e (h e r.0, r.1))
 
   rising : (depth : ℕ) → Rises sys lattice order depth copies

@@ -21,7 +21,8 @@ module _ (sys : System) (lattice s : ℕ) (Outer Inner : ℕ → Type 0) (outer 
   abbrev pub Way : ℕ → Type 0
   Way n = (u : ℕ) × (a : ℕ) × Stands sys lattice n (Enter s u a) × Outer u × Inner a
 
-  by_parts : (n : ℕ) (c : Constraint) (u a : ℕ) → slice_get sys.constraints n ≡ Some c → c.link ≡ Enter s u a → bit_at c.lattices lattice ≡ 1 →
+  by_parts : (n : ℕ) (c : Constraint) (u a : ℕ) → slice_get sys.constraints n ≡ Some c → c.link ≡ Enter s u a
+      → bit_at c.lattices lattice ≡ 1 →
       Decided (Outer u) → Decided (Inner a) → Decided (Way n)
   by_parts n c u a is link_is carried (inl r) (inl m) = inl (u, a, record { constraint = c; there = is; link_is = link_is; carried = carried }, r, m)
   by_parts n c u a is link_is carried (inr not) inside = inr (λ way.
@@ -31,16 +32,19 @@ module _ (sys : System) (lattice s : ℕ) (Outer Inner : ℕ → Type 0) (outer 
       let same : Enter s u a ≡ Enter s way.0 way.1 = sym link_is ∙ link_at sys lattice n c (Enter s way.0 way.1) is way.2 in
       not (subst Inner (sym (enter_inner same)) way.4))
 
-  no_way : (n : ℕ) (c : Constraint) → slice_get sys.constraints n ≡ Some c → ((u a : ℕ) → c.link ≡ Enter s u a → ⊥) → Way n → ⊥
+  no_way : (n : ℕ) (c : Constraint) → slice_get sys.constraints n ≡ Some c → ((u a : ℕ) → c.link ≡ Enter s u a → ⊥)
+      → Way n → ⊥
   no_way n c is no_enter way = no_enter way.0 way.1 (link_at sys lattice n c (Enter s way.0 way.1) is way.2)
 
-  by_mask : (n : ℕ) (c : Constraint) (u a : ℕ) → slice_get sys.constraints n ≡ Some c → c.link ≡ Enter s u a → Decided (Way n)
+  by_mask : (n : ℕ) (c : Constraint) (u a : ℕ) → slice_get sys.constraints n ≡ Some c → c.link ≡ Enter s u a
+      → Decided (Way n)
   by_mask n c u a is link_is = elim (eqb_tells (bit_at c.lattices lattice) 1) [
     | inl carried ↦ by_parts n c u a is link_is carried.1 (outer u) (inner a)
     | inr other ↦ inr (λ way. other.1 (ap (λ c. bit_at c.lattices lattice) (some_is (sym is ∙ way.2.there)) ∙ way.2.carried))
   ]
 
-  by_link : (n : ℕ) (c : Constraint) → slice_get sys.constraints n ≡ Some c → (link : Link) → c.link ≡ link → Decided (Way n)
+  by_link : (n : ℕ) (c : Constraint) → slice_get sys.constraints n ≡ Some c → (link : Link) → c.link ≡ link
+      → Decided (Way n)
   by_link n c is (Le u x) link_is = inr (no_way n c is (λ y a same. let wrong : Le u x ≡ Enter s y a = sym link_is ∙ same in cc))
   by_link n c is (Const l d x) link_is = inr (no_way n c is (λ y a same. let wrong : Const l d x ≡ Enter s y a = sym link_is ∙ same in cc))
   by_link n c is (Bound x l b) link_is = inr (no_way n c is (λ y a same. let wrong : Bound x l b ≡ Enter s y a = sym link_is ∙ same in cc))

@@ -39,20 +39,23 @@ module _ (sys : System) (lattice : ℕ) (owned : IsWellOwned sys) where
   call_on e n s u x st (inr c) = inr (calls_on u x s n c st)
 
   -- a pair goes on by one part
-  joined_flow : (n u v z f : ℕ) → Stands sys lattice n (Le u v) → owner_of sys v ≡ Function f → IsJoined sys lattice z u → IsJoined sys lattice z v
+  joined_flow : (n u v z f : ℕ) → Stands sys lattice n (Le u v) → owner_of sys v ≡ Function f → IsJoined sys lattice z u
+      → IsJoined sys lattice z v
   joined_flow n u v z f st is joined =
       let path = path_of z u joined in
       let same : path.0 ≡ f = same_function sys lattice owned n u v st path.0 f (end_owner sys lattice path.0 z u path.1) is in
       (joined.0, inr (path.0, u, path.1, flow path.0 u v n st (is ∙ ap (λ f. Function f) (sym same))))
 
-  joined_group : (n m s u x y v z : ℕ) → Stands sys lattice n (Enter s u x) → IsJoined sys lattice x y → Stands sys lattice m (Leave s y v) → IsJoined sys lattice z u → IsJoined sys lattice z v
+  joined_group : (n m s u x y v z : ℕ) → Stands sys lattice n (Enter s u x) → IsJoined sys lattice x y
+      → Stands sys lattice m (Leave s y v) → IsJoined sys lattice z u → IsJoined sys lattice z v
   joined_group n m s u x y v z st inside st2 joined =
       let path = path_of z u joined in
       let within = path_of x y inside in
       let outer : owner_of sys v ≡ Function path.0 = sym (same_outer sys lattice owned n m s u x y v st st2) ∙ end_owner sys lattice path.0 z u path.1 in
       (joined.0, inr (path.0, u, path.1, group path.0 u x y v s within.0 n m st within.1 st2 outer))
 
-  return_group : (e n m s u x y v : ℕ) → Stands sys lattice n (Enter s u x) → IsJoined sys lattice x y → Stands sys lattice m (Leave s y v) → Returning sys lattice e u → Returning sys lattice e v
+  return_group : (e n m s u x y v : ℕ) → Stands sys lattice n (Enter s u x) → IsJoined sys lattice x y
+      → Stands sys lattice m (Leave s y v) → Returning sys lattice e u → Returning sys lattice e v
   return_group e n m s u x y v st inside st2 p = let within = path_of x y inside in grouped u x y v s within.0 n m p st within.1 st2
 
 module _ (sys : System) (lattice : ℕ) (order : Order) (c : Certificate) (owned : IsWellOwned sys) (ordered : IsOrder order)

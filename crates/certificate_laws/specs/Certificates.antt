@@ -1,4 +1,5 @@
--- Certificates of acceptance: pairs of variables and two sets of elements for each variable, and the rules that they obey.
+-- Certificates of acceptance: pairs of variables and two sets of elements for each variable, and the rules that they
+-- obey.
 use Rattle.std.specs.Prelude.{◌≡◌, ℕ, ◌<◌, Bool, true, ◌↔◌, ◌⊎◌}
 use Rattle.qual_base.specs.declared.places.Owner.TheVariants.{Nobody, Function}
 use Rattle.lattice_core.specs.Order.{Order, leq}
@@ -8,7 +9,8 @@ use Rattle.flow_graph.specs.Paths.{Match, Returning, Lead}
 use Rattle.certificate_laws.specs.declared.rule.CertRule.{CertRule}
 use Rattle.certificate_laws.specs.declared.rule.CertRule.TheVariants.{A1, A2, A3, A4, A5, A6, A7, A8, A9}
 
--- Tests of two variables, whether they are a pair, and of a variable and an element, whether it is in the variable's set:
+-- Tests of two variables, whether they are a pair, and of a variable and an element, whether it is in the variable's
+-- set:
 -- the first set is of what may leave by any call, the second of all that may come.
 pub record Certificate : Type 0 where
   pub paired : ℕ → ℕ → Bool

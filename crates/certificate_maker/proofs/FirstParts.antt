@@ -23,16 +23,19 @@ some_order e = cc
 pub of_found : (Is : Part → Type 0) (found : Option Part) (part : Part) → found ≡ Some part → IfSome found Is → Is part
 of_found Is found part is said = subst (λ (f : Option Part). IfSome f Is) is said
 
-pub order_there : (lattices : List LatticeView) (n : ℕ) (view : LatticeView) → slice_get lattices n ≡ Some view → slice_get (orders_of lattices) n ≡ Some view.order
+pub order_there : (lattices : List LatticeView) (n : ℕ) (view : LatticeView) → slice_get lattices n ≡ Some view
+    → slice_get (orders_of lattices) n ≡ Some view.order
 order_there lattices n view is = slice_get-map (λ (lattice : LatticeView). lattice.order) lattices n ∙ ap (option_map (λ (lattice : LatticeView). lattice.order)) is
 
 -- where a bound is exceeded, no assignment meets the unfolding at some depth
-pub exceeded_unmet : (sys : System) (lattice : ℕ) (order : Order) (n : ℕ) → IsExceeded sys lattice order n → IsAcceptedIn sys lattice order → ⊥
+pub exceeded_unmet : (sys : System) (lattice : ℕ) (order : Order) (n : ℕ) → IsExceeded sys lattice order n
+    → IsAcceptedIn sys lattice order → ⊥
 exceeded_unmet sys lattice order n over accepted =
     let met = accepted over.depth in
     over.unmet met.0 met.1.rises (met.1.bound n)
 
-before_or_at : (xs : List Part) (x : Part) (n : ℕ) (y : Part) → slice_get (xs ++ x ∷ []) n ≡ Some y → (slice_get xs n ≡ Some y) ⊎ ((n ≡ length xs) × (x ≡ y))
+before_or_at : (xs : List Part) (x : Part) (n : ℕ) (y : Part) → slice_get (xs ++ x ∷ []) n ≡ Some y
+    → (slice_get xs n ≡ Some y) ⊎ ((n ≡ length xs) × (x ≡ y))
 before_or_at [] x zero y is = inr (refl, some_part is)
 before_or_at [] x (suc n) y is = absurd cc
 before_or_at (z ∷ xs) x zero y is = inl is
@@ -50,7 +53,8 @@ none_first sys orders = record { count_is = refl; each = λ n order part o p. ab
 
 module _ (sys : System) (orders : List Order) (count : ℕ) (order : Order) (there : slice_get orders count ≡ Some order) where
   -- and so have the first so many and one more
-  pub next_first : (old new : List Part) (part : Part) → new ≡ old ++ part ∷ [] → IsPart sys order part × IsWritten sys count (certificate_of part) → IsAcceptedIn sys count order →
+  pub next_first : (old new : List Part) (part : Part) → new ≡ old ++ part ∷ []
+      → IsPart sys order part × IsWritten sys count (certificate_of part) → IsAcceptedIn sys count order →
       AreFirst sys orders count old → AreFirst sys orders (count + 1) new
   next_first old new part more own accepted first = record {
     count_is = (let l = length-append old (part ∷ []) in let m : length new ≡ length (old ++ part ∷ []) = ap length more in let c = first.count_is in omega arith);

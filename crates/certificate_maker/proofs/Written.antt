@@ -80,7 +80,8 @@ module _ (sys : System) (lattice vars : ℕ) (below : AllBelow sys vars) where
     sets_of order named = record { size_is = made.size_is; elements = λ v e is. lead_element sys lattice order named e v (leads e v (in_leads v e is)) }
 
 -- the pairs as a certificate reads them
-pub pairs_say : (sys : System) (lattice : ℕ) (pairs : List (ℕ × ℕ)) → AreJoined sys lattice pairs → (x v : ℕ) → (is_among pairs x v ≡ true) ↔ IsJoined sys lattice x v
+pub pairs_say : (sys : System) (lattice : ℕ) (pairs : List (ℕ × ℕ)) → AreJoined sys lattice pairs → (x v : ℕ)
+    → (is_among pairs x v ≡ true) ↔ IsJoined sys lattice x v
 pairs_say sys lattice pairs joined x v = (
   λ among. (joined x v).0 (among_item pairs x v among),
   λ path. let place = place_of pairs (x, v) ((joined x v).1 path) in among_place pairs place.0 x v place.1,

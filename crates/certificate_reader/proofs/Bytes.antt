@@ -58,7 +58,8 @@ pub two_words : (a b : List ℕ) → has 32 a ≡ false → has 32 b ≡ false �
 two_words a b p q =
     slice_split_at (λ c. c == 32) a 32 b (all_lack 32 a p) refl ∙ ap (λ (ws : List (List ℕ)). a ∷ ws) (slice_split_none (λ c. c == 32) b (all_lack 32 b q))
 
-pub three_words : (a b c : List ℕ) → has 32 a ≡ false → has 32 b ≡ false → has 32 c ≡ false → words (a ++ 32 ∷ (b ++ 32 ∷ c)) ≡ a ∷ b ∷ c ∷ []
+pub three_words : (a b c : List ℕ) → has 32 a ≡ false → has 32 b ≡ false → has 32 c ≡ false
+    → words (a ++ 32 ∷ (b ++ 32 ∷ c)) ≡ a ∷ b ∷ c ∷ []
 three_words a b c p q r =
     slice_split_at (λ d. d == 32) a 32 (b ++ 32 ∷ c) (all_lack 32 a p) refl ∙ ap (λ (ws : List (List ℕ)). a ∷ ws) (two_words b c q r)
 
@@ -67,19 +68,23 @@ pub joined : (bytes : List ℕ) (ws : List (List ℕ)) → words bytes ≡ ws �
 joined bytes ws is = sym (join_with_byte-slice_split 32 bytes) ∙ ap (join_with_byte 32) is
 
 -- a text whose first part ends before a line feed
-pub first_part : (text part rest : List ℕ) → slice_split (λ b. b == 10) text ≡ part ∷ slice_split (λ b. b == 10) rest → text ≡ part ++ 10 ∷ rest
+pub first_part : (text part rest : List ℕ) → slice_split (λ b. b == 10) text ≡ part ∷ slice_split (λ b. b == 10) rest
+    → text ≡ part ++ 10 ∷ rest
 first_part text part rest is =
     let more = split_parts (λ b. b == 10) rest in
     sym (join_with_byte-slice_split 10 text) ∙ ap (join_with_byte 10) is ∙ ap (λ (ps : List (List ℕ)). join_with_byte 10 (part ∷ ps)) more.2
     ∙ ap (λ (ps : List (List ℕ)). part ++ 10 ∷ join_with_byte 10 ps) (sym more.2)
     ∙ ap (λ (bs : List ℕ). part ++ 10 ∷ bs) (join_with_byte-slice_split 10 rest)
 
-two_parts : (x part : List ℕ) (parts : List (List ℕ)) → lines_in (x ∷ part ∷ parts) ≡ line_kind x ∷ lines_in (part ∷ parts)
+two_parts : (x part : List ℕ) (parts : List (List ℕ))
+    → lines_in (x ∷ part ∷ parts) ≡ line_kind x ∷ lines_in (part ∷ parts)
 two_parts [] part parts = refl
 two_parts (b ∷ bs) part parts = refl
 
 -- a text whose first part is a line has it as its first
-pub lines_of-parts : (text part rest : List ℕ) → slice_split (λ b. b == 10) text ≡ part ∷ slice_split (λ b. b == 10) rest → lines_of text ≡ line_kind part ∷ lines_of rest
+pub lines_of-parts : (text part rest : List ℕ)
+    → slice_split (λ b. b == 10) text ≡ part ∷ slice_split (λ b. b == 10) rest
+    → lines_of text ≡ line_kind part ∷ lines_of rest
 lines_of-parts text part rest is =
     let more = split_parts (λ b. b == 10) rest in
     ap lines_in is ∙ ap (λ (ps : List (List ℕ)). lines_in (part ∷ ps)) more.2 ∙ two_parts part more.0 more.1
@@ -90,7 +95,8 @@ line_first x rest free =
     ap lines_of (append_assoc x (10 ∷ []) rest) ∙ lines_of-parts (x ++ 10 ∷ rest) x rest (slice_split_at (λ b. b == 10) x 10 rest (all_lack 10 x free) refl)
 
 -- what stands behind the last line feed is no line that fits
-pub lines_of-whole : (text : List ℕ) → slice_split (λ b. b == 10) text ≡ text ∷ [] → lines_of text ≡ (if bytes_eq text [] then [] else Other ∷ [])
+pub lines_of-whole : (text : List ℕ) → slice_split (λ b. b == 10) text ≡ text ∷ []
+    → lines_of text ≡ (if bytes_eq text [] then [] else Other ∷ [])
 lines_of-whole [] whole = refl
 lines_of-whole (b ∷ text) whole = ap lines_in whole
 
@@ -117,7 +123,8 @@ end_in-last d c =
     ∙ ap (by_letter (number_of d)) (index_own d c)
 
 -- what stands behind a word that a line begins with
-behind_by : (word bytes rest : List ℕ) (b : Bool) → bytes_eq (take (length word) bytes) word ≡ b → cond b (Some (drop (length word) bytes)) None ≡ Some rest → bytes ≡ word ++ rest
+behind_by : (word bytes rest : List ℕ) (b : Bool) → bytes_eq (take (length word) bytes) word ≡ b
+    → cond b (Some (drop (length word) bytes)) None ≡ Some rest → bytes ≡ word ++ rest
 behind_by word bytes rest true is h =
     let left : drop (length word) bytes ≡ rest = cc in
     sym (take-append-drop (length word) bytes)

@@ -19,7 +19,8 @@ digit_is k small = grind arith
 pub digit_bounds : (d : ℕ) → is_ascii_digit d ≡ true → (48 ≤ d) × (d < 58)
 digit_bounds d h = grind (arith, h)
 
-pub append_behind : (v w : ℕ) (ds : List ℕ) (e : ℕ) → number_behind v ds ≡ Some w → is_ascii_digit e ≡ true → number_behind v (ds ++ e ∷ []) ≡ Some (10 * w + (e - 48))
+pub append_behind : (v w : ℕ) (ds : List ℕ) (e : ℕ) → number_behind v ds ≡ Some w → is_ascii_digit e ≡ true
+    → number_behind v (ds ++ e ∷ []) ≡ Some (10 * w + (e - 48))
 append_behind v w [] e is digit = let same : v ≡ w = cc in rw (digit, same) refl
 append_behind v w (d ∷ ds) e is digit =
     (elim (is_ascii_digit d) as
@@ -72,7 +73,8 @@ record Last (v n : ℕ) (ds : List ℕ) : Type 0 where
   low : 48 ≤ digit
   high : digit < 58
 
-by_digit : {A : Type 0} → (d n : ℕ) (rest : Option ℕ) (b : Bool) → is_ascii_digit d ≡ b → cond b rest None ≡ Some n → (is_ascii_digit d ≡ true → rest ≡ Some n → A) → A
+by_digit : {A : Type 0} → (d n : ℕ) (rest : Option ℕ) (b : Bool) → is_ascii_digit d ≡ b → cond b rest None ≡ Some n
+    → (is_ascii_digit d ≡ true → rest ≡ Some n → A) → A
 by_digit d n rest true is h then_ = then_ is h
 by_digit d n rest false is h then_ = absurd cc
 
@@ -107,7 +109,8 @@ record Longer (n : ℕ) (xs : List ℕ) : Type 0 where
   parts : xs ≡ front ++ (48 + n % 10) ∷ []
   writes : number_of front ≡ Some (n / 10)
 
-by_lead : {A : Type 0} → (d n : ℕ) (rest : Option ℕ) (b : Bool) → (d == 48) ≡ b → cond b None rest ≡ Some n → ((d == 48) ≡ false → rest ≡ Some n → A) → A
+by_lead : {A : Type 0} → (d n : ℕ) (rest : Option ℕ) (b : Bool) → (d == 48) ≡ b → cond b None rest ≡ Some n
+    → ((d == 48) ≡ false → rest ≡ Some n → A) → A
 by_lead d n rest true is h then_ = absurd cc
 by_lead d n rest false is h then_ = then_ is h
 

@@ -22,13 +22,15 @@ bare_lacks c (x ∷ xs) low bare =
     rw other (bare_lacks c xs low (All-tail (λ b. 48 ≤ b) x xs bare))
 
 -- one more digit
-pub digit_more : (ds : List ℕ) (at n : ℕ) → at < length ds → number_behind 0 (take at ds) ≡ Some n → is_ascii_digit (get_or ds at 0) ≡ true →
+pub digit_more : (ds : List ℕ) (at n : ℕ) → at < length ds → number_behind 0 (take at ds) ≡ Some n
+    → is_ascii_digit (get_or ds at 0) ≡ true →
     number_behind 0 (take (at + 1) ds) ≡ Some (10 * n + (get_or ds at 0 - 48))
 digit_more ds at n within is digit =
     ap (number_behind 0) (take_more ds at 0 within) ∙ append_behind 0 n (take at ds) (get_or ds at 0) is digit
 
 -- what is taken of a text is a numeral
-pub numeral_taken : (text : List ℕ) (at n : ℕ) → number_behind 0 (take at text) ≡ Some n → All (λ b. 48 ≤ b) (take at text) →
+pub numeral_taken : (text : List ℕ) (at n : ℕ) → number_behind 0 (take at text) ≡ Some n
+    → All (λ b. 48 ≤ b) (take at text) →
     number_of (take at text) ≡ number_behind 0 (take at text) → BeginsWith (λ word. number_of word) text n (take (length text - at) (drop at text))
 numeral_taken text at n is bare numeral = record {
   word = take at text;
@@ -38,7 +40,8 @@ numeral_taken text at n is bare numeral = record {
 }
 
 -- a numeral and a letter are a name
-pub name_taken : (text more rest : List ℕ) (n c end : ℕ) → BeginsWith (λ word. number_of word) text n more → more ≡ c ∷ rest → 48 ≤ c → by_letter (Some n) c ≡ Some end →
+pub name_taken : (text more rest : List ℕ) (n c end : ℕ) → BeginsWith (λ word. number_of word) text n more
+    → more ≡ c ∷ rest → 48 ≤ c → by_letter (Some n) c ≡ Some end →
     BeginsWith (λ word. end_in word) text end rest
 name_taken text more rest n c end it letter above is = record {
   word = it.word ++ c ∷ [];
@@ -48,7 +51,8 @@ name_taken text more rest n c end it letter above is = record {
 }
 
 -- a word and the byte that ends it
-pub ends : (read : List ℕ → Option ℕ) (end : ℕ) (text more rest : List ℕ) (n : ℕ) → BeginsWith read text n more → more ≡ end ∷ rest → EndsAt read end text n rest
+pub ends : (read : List ℕ → Option ℕ) (end : ℕ) (text more rest : List ℕ) (n : ℕ) → BeginsWith read text n more
+    → more ≡ end ∷ rest → EndsAt read end text n rest
 ends read end text more rest n it is =
     record { word = it.word; parts = it.parts ∙ ap (λ (xs : List ℕ). it.word ++ xs) is; read_is = it.read_is; bare = it.bare }
 
@@ -57,7 +61,8 @@ bits_fit n small = let yes : nat_lt n (2 ^ 64) ≡ true = grind (arith, small) i
 
 module _ (text rest : List ℕ) where
   -- a name and two sets
-  pub sets_front : (more last : List ℕ) (name first second : ℕ) → EndsAt (λ word. end_in word) 32 text name more → EndsAt (λ word. number_of word) 32 more first last →
+  pub sets_front : (more last : List ℕ) (name first second : ℕ) → EndsAt (λ word. end_in word) 32 text name more
+      → EndsAt (λ word. number_of word) 32 more first last →
       EndsAt (λ word. number_of word) 10 last second rest → first < 2 ^ 64 → second < 2 ^ 64 → BeginsWords (λ words. set_kind words) text (Set name first second) rest
   sets_front more last name first second one two three low also =
       let a = one.word in
@@ -78,7 +83,8 @@ module _ (text rest : List ℕ) where
       }
 
   -- two names
-  pub pair_front : (more : List ℕ) (from to : ℕ) → EndsAt (λ word. end_in word) 32 text from more → EndsAt (λ word. end_in word) 10 more to rest →
+  pub pair_front : (more : List ℕ) (from to : ℕ) → EndsAt (λ word. end_in word) 32 text from more
+      → EndsAt (λ word. end_in word) 10 more to rest →
       BeginsWords (λ words. pair_kind words) text (Pair from to) rest
   pair_front more from to one two =
       let a = one.word in
@@ -94,7 +100,8 @@ module _ (text rest : List ℕ) where
       }
 
 -- a word that lacks line feeds in front of a line
-cut_behind : (word text part rest : List ℕ) → has 10 word ≡ false → slice_split (λ b. b == 10) text ≡ part ∷ slice_split (λ b. b == 10) rest →
+cut_behind : (word text part rest : List ℕ) → has 10 word ≡ false
+    → slice_split (λ b. b == 10) text ≡ part ∷ slice_split (λ b. b == 10) rest →
     slice_split (λ b. b == 10) (word ++ text) ≡ (word ++ part) ∷ slice_split (λ b. b == 10) rest
 cut_behind [] text part rest bare cut = cut
 cut_behind (x ∷ xs) text part rest bare cut =
@@ -102,20 +109,24 @@ cut_behind (x ∷ xs) text part rest bare cut =
     slice_split-cons_no (λ b. b == 10) x (xs ++ text) both.0 ∙ ap (onto_first x) (cut_behind xs text part rest both.1 cut)
 
 -- what stands behind a line is shorter
-cut_shorter : (text part rest : List ℕ) → slice_split (λ b. b == 10) text ≡ part ∷ slice_split (λ b. b == 10) rest → length rest < length text
+cut_shorter : (text part rest : List ℕ) → slice_split (λ b. b == 10) text ≡ part ∷ slice_split (λ b. b == 10) rest
+    → length rest < length text
 cut_shorter text part rest cut =
     let long = length-append part (10 ∷ rest) in
     let same = ap (λ (xs : List ℕ). length xs) (first_part text part rest cut) in
     omega (arith, long, same)
 
 -- a line behind its first word
-pub line_begins : (word text more rest : List ℕ) (kind : Line) (kind_of : List (List ℕ) → Line) → text ≡ word ++ more → has 10 word ≡ false →
-    ((x : List ℕ) → line_kind (word ++ x) ≡ kind_of (words x)) → BeginsWords kind_of more kind rest → BeginsLine text kind rest
+pub line_begins : (word text more rest : List ℕ) (kind : Line) (kind_of : List (List ℕ) → Line) → text ≡ word ++ more
+    → has 10 word ≡ false →
+    ((x : List ℕ) → line_kind (word ++ x) ≡ kind_of (words x)) → BeginsWords kind_of more kind rest
+    → BeginsLine text kind rest
 line_begins word text more rest kind kind_of is bare reads it =
     let cut = ap (slice_split (λ b. b == 10)) is ∙ cut_behind word more it.part rest bare it.cut in
     record { part = word ++ it.part; cut = cut; kind_is = it.kind_is ∙ sym (reads it.part); shorter = cut_shorter text (word ++ it.part) rest cut }
 
 -- what is so of what is found, where something else is
-pub if_some : {A : Type 0} (P Q : A → Type 0) (found : Option A) → ((x : A) → P x → Q x) → IfSome found P → IfSome found Q
+pub if_some : {A : Type 0} (P Q : A → Type 0) (found : Option A) → ((x : A) → P x → Q x) → IfSome found P
+    → IfSome found Q
 if_some P Q (Some x) on is = on x is
 if_some P Q None on is = tt

@@ -34,22 +34,26 @@ name_last : (last : Option ℕ) (sets : List SetLine) (it : SetLine) → last_na
 name_last last [] it = refl
 name_last last (x ∷ sets) it = name_last (Some x.name) sets it
 
-pair_last : (last : Option (ℕ × ℕ)) (pairs : List (ℕ × ℕ)) (pair : ℕ × ℕ) → last_pair last (pairs ++ pair ∷ []) ≡ Some pair
+pair_last : (last : Option (ℕ × ℕ)) (pairs : List (ℕ × ℕ)) (pair : ℕ × ℕ)
+    → last_pair last (pairs ++ pair ∷ []) ≡ Some pair
 pair_last last [] pair = refl
 pair_last last (x ∷ pairs) pair = pair_last (Some x) pairs pair
 
 -- one more line of sets, and one more pair
-sets_fit_more : (all : ℕ) (last : Option ℕ) (sets : List SetLine) (it : SetLine) → SetsFit all last sets → name_behind (last_name last sets) it.name ≡ true →
+sets_fit_more : (all : ℕ) (last : Option ℕ) (sets : List SetLine) (it : SetLine) → SetsFit all last sets
+    → name_behind (last_name last sets) it.name ≡ true →
     sets_fit all it.first it.second ≡ true → SetsFit all last (sets ++ it ∷ [])
 sets_fit_more all last [] it fit later fits = (later, fits, tt)
 sets_fit_more all last (x ∷ sets) it fit later fits = (fit.0, fit.1, sets_fit_more all (Some x.name) sets it fit.2 later fits)
 
-pairs_fit_more : (last : Option (ℕ × ℕ)) (pairs : List (ℕ × ℕ)) (pair : ℕ × ℕ) → PairsFit last pairs → pair_behind (last_pair last pairs) pair ≡ true → PairsFit last (pairs ++ pair ∷ [])
+pairs_fit_more : (last : Option (ℕ × ℕ)) (pairs : List (ℕ × ℕ)) (pair : ℕ × ℕ) → PairsFit last pairs
+    → pair_behind (last_pair last pairs) pair ≡ true → PairsFit last (pairs ++ pair ∷ [])
 pairs_fit_more last [] pair fit later = (later, tt)
 pairs_fit_more last (x ∷ pairs) pair fit later = (fit.0, pairs_fit_more (Some x) pairs pair fit.1 later)
 
 -- what is so of all and of one more
-all_more : {A : Type 0} → (P : A → Type 0) (xs : List A) (y : A) → ((k : ℕ) (x : A) → slice_get xs k ≡ Some x → P x) → P y → (k : ℕ) (x : A) → slice_get (xs ++ y ∷ []) k ≡ Some x → P x
+all_more : {A : Type 0} → (P : A → Type 0) (xs : List A) (y : A) → ((k : ℕ) (x : A) → slice_get xs k ≡ Some x → P x)
+    → P y → (k : ℕ) (x : A) → slice_get (xs ++ y ∷ []) k ≡ Some x → P x
 all_more P [] y all one zero x there = let same : y ≡ x = cc in subst P same one
 all_more P [] y all one (suc k) x there = absurd cc
 all_more P (z ∷ xs) y all one zero x there = all 0 x there
@@ -60,7 +64,8 @@ sets_more : (sets : List SetLine) (it : SetLine) → sets_text (sets ++ it ∷ [
 sets_more [] it = append-nil (set_text it)
 sets_more (x ∷ sets) it = ap (λ (t : List ℕ). set_text x ++ t) (sets_more sets it) ∙ sym (append_assoc (set_text x) (sets_text sets) (set_text it))
 
-pairs_more : (pairs : List (ℕ × ℕ)) (pair : ℕ × ℕ) → pairs_text (pairs ++ pair ∷ []) ≡ pairs_text pairs ++ pair_text pair
+pairs_more : (pairs : List (ℕ × ℕ)) (pair : ℕ × ℕ)
+    → pairs_text (pairs ++ pair ∷ []) ≡ pairs_text pairs ++ pair_text pair
 pairs_more [] pair = append-nil (pair_text pair)
 pairs_more (x ∷ pairs) pair = ap (λ (t : List ℕ). pair_text x ++ t) (pairs_more pairs pair) ∙ sym (append_assoc (pair_text x) (pairs_text pairs) (pair_text pair))
 
@@ -97,7 +102,8 @@ module _ (sys : System) where
       ∙ sym (append_assoc (line (codes "certificate")) (parts_text 1 (map (λ p. written sys p) parts)) (part_text (1 + length parts) (written sys part)))
       ∙ ap (λ (j : ℕ). certificate_text sys parts ++ part_text j (written sys part)) same
 
-  made_more : (alls : List ℕ) (parts : List Part) (part : Part) → AreMade sys alls parts → length parts < length alls → IsMade sys (slice_index alls (length parts)) part →
+  made_more : (alls : List ℕ) (parts : List Part) (part : Part) → AreMade sys alls parts → length parts < length alls
+      → IsMade sys (slice_index alls (length parts)) part →
       AreMade sys alls (parts ++ part ∷ [])
   made_more [] [] part made low one = absurd (omega (arith, low))
   made_more [] (x ∷ parts) part made low one = absurd made
@@ -133,10 +139,12 @@ module _ (sys : System) where
     nothing_held : (sets : List SetLine) (pairs : List (ℕ × ℕ)) → sets ≡ [] → pairs ≡ [] → AreLines sys sets pairs
     nothing_held sets pairs one two = rw (one, two) (record { all = 0; sets_fit = tt; pairs_fit = tt; named = none_named })
 
-    open_lines : (k : ℕ) (parts : List Part) (sets : List SetLine) (pairs : List (ℕ × ℕ)) → IsOpen k parts sets pairs → AreLines sys sets pairs
+    open_lines : (k : ℕ) (parts : List Part) (sets : List SetLine) (pairs : List (ℕ × ℕ)) → IsOpen k parts sets pairs
+        → AreLines sys sets pairs
     open_lines k parts sets pairs open_ = record { all = slice_index alls (k - 1); sets_fit = open_.sets_fit; pairs_fit = open_.pairs_fit; named = open_.named }
 
-    pub held_lines : (section : Section) (parts : List Part) (sets : List SetLine) (pairs : List (ℕ × ℕ)) → IsHeld section parts sets pairs → AreLines sys sets pairs
+    pub held_lines : (section : Section) (parts : List Part) (sets : List SetLine) (pairs : List (ℕ × ℕ))
+        → IsHeld section parts sets pairs → AreLines sys sets pairs
     held_lines Start parts sets pairs held = nothing_held sets pairs held.1 held.2
     held_lines Opened parts sets pairs held = nothing_held sets pairs held.1 held.2
     held_lines (InSets k last) parts sets pairs held = open_lines k parts sets pairs held.0
@@ -147,14 +155,16 @@ module _ (sys : System) where
       held : IsHeld to parts sets pairs
       text_is : held_text to parts sets pairs ≡ text ++ line bytes
 
-    begins : (k : ℕ) (parts : List Part) (bytes : List ℕ) → AreMade sys alls parts → k ≡ length parts + 1 → k ≤ length alls → bytes ≡ lattice_bytes k →
+    begins : (k : ℕ) (parts : List Part) (bytes : List ℕ) → AreMade sys alls parts → k ≡ length parts + 1
+        → k ≤ length alls → bytes ≡ lattice_bytes k →
         Goes (InSets k None) parts [] [] (certificate_text sys parts) bytes
     begins k parts bytes made number within is = record {
       held = (record { made = made; number = number; within = within; sets_fit = tt; pairs_fit = tt; named = none_named }, refl, refl);
       text_is = lattice_joined (certificate_text sys parts) (lattice_text k) ∙ ap (λ (b : List ℕ). certificate_text sys parts ++ line b) (sym is);
     }
 
-    set_goes : (k : ℕ) (last : Option ℕ) (parts : List Part) (sets : List SetLine) (it : SetLine) (bytes : List ℕ) → IsOpen k parts sets [] → last ≡ last_name None sets →
+    set_goes : (k : ℕ) (last : Option ℕ) (parts : List Part) (sets : List SetLine) (it : SetLine) (bytes : List ℕ)
+        → IsOpen k parts sets [] → last ≡ last_name None sets →
         name_behind last it.name ≡ true → sets_fit (slice_index alls (k - 1)) it.first it.second ≡ true → is_name sys it.name ≡ true → bytes ≡ set_bytes it →
         Goes (InSets k (Some it.name)) parts (sets ++ it ∷ []) [] (open_text k parts sets []) bytes
     set_goes k last parts sets it bytes open_ was later fits named is = record {
@@ -175,7 +185,8 @@ module _ (sys : System) where
           ∙ ap (λ (b : List ℕ). open_text k parts sets [] ++ line b) (sym is);
     }
 
-    pair_goes : (k : ℕ) (parts : List Part) (sets : List SetLine) (pairs : List (ℕ × ℕ)) (pair : ℕ × ℕ) (bytes : List ℕ) → IsOpen k parts sets pairs →
+    pair_goes : (k : ℕ) (parts : List Part) (sets : List SetLine) (pairs : List (ℕ × ℕ)) (pair : ℕ × ℕ) (bytes : List ℕ)
+        → IsOpen k parts sets pairs →
         pair_behind (last_pair None pairs) pair ≡ true → is_name sys pair.0 ≡ true → is_name sys pair.1 ≡ true → bytes ≡ pair_bytes pair →
         Goes (InPairs k pair.0 pair.1) parts sets (pairs ++ pair ∷ []) (open_text k parts sets pairs) bytes
     pair_goes k parts sets pairs pair bytes open_ later one two is = record {
@@ -204,7 +215,8 @@ module _ (sys : System) where
       pub many : length parts ≡ k
       pub text_is : certificate_text sys parts ≡ text
 
-    ends : (k : ℕ) (old : Held) (parts : List Part) (sets : List SetLine) (pairs : List (ℕ × ℕ)) → IsOpen k old.parts old.sets old.pairs →
+    ends : (k : ℕ) (old : Held) (parts : List Part) (sets : List SetLine) (pairs : List (ℕ × ℕ))
+        → IsOpen k old.parts old.sets old.pairs →
         Closed sys old parts sets pairs → Ends k parts (open_text k old.parts old.sets old.pairs)
     ends k old parts sets pairs open_ closed =
         let less : k - 1 ≡ length old.parts = omega (arith, open_.number) in
@@ -221,7 +233,8 @@ module _ (sys : System) where
         } in
         subst (λ (ps : List Part). Ends k ps (open_text k old.parts old.sets old.pairs)) (sym closed.parts_are) now
 
-    ends_and_begins : (k n : ℕ) (old : Held) (parts : List Part) (sets : List SetLine) (pairs : List (ℕ × ℕ)) (bytes : List ℕ) → IsOpen k old.parts old.sets old.pairs →
+    ends_and_begins : (k n : ℕ) (old : Held) (parts : List Part) (sets : List SetLine) (pairs : List (ℕ × ℕ)) (bytes : List ℕ)
+        → IsOpen k old.parts old.sets old.pairs →
         Closed sys old parts sets pairs → n ≡ k + 1 → k < length alls → bytes ≡ lattice_bytes n →
         Goes (InSets n None) parts sets pairs (open_text k old.parts old.sets old.pairs) bytes
     ends_and_begins k n old parts sets pairs bytes open_ closed same low is =
@@ -231,7 +244,8 @@ module _ (sys : System) where
         (begins n parts bytes end.made (omega (arith, same, end.many)) (omega (arith, same, low)) is))
 
     -- a section that is given by a test
-    by_test : {A : Type 0} → (section to : Section) (b : Bool) → cond b (Some section) None ≡ Some to → (b ≡ true → section ≡ to → A) → A
+    by_test : {A : Type 0} → (section to : Section) (b : Bool) → cond b (Some section) None ≡ Some to
+        → (b ≡ true → section ≡ to → A) → A
     by_test section to true h then_ = then_ refl cc
     by_test section to false h then_ = absurd cc
 
@@ -241,7 +255,8 @@ module _ (sys : System) where
     is_low : (k n : ℕ) → nat_lt k n ≡ true → k < n
     is_low k n h = grind (arith, h)
 
-    by_lattice : {A : Type 0} → (k n : ℕ) (to : Section) → cond ((n == k + 1) && nat_lt k (length alls)) (Some (InSets n None)) None ≡ Some to →
+    by_lattice : {A : Type 0} → (k n : ℕ) (to : Section)
+        → cond ((n == k + 1) && nat_lt k (length alls)) (Some (InSets n None)) None ≡ Some to →
         (n ≡ k + 1 → k < length alls → InSets n None ≡ to → A) → A
     by_lattice k n to h then_ = by_test (InSets n None) to ((n == k + 1) && nat_lt k (length alls)) h
         (λ test is. both_true (n == k + 1) (nat_lt k (length alls)) test
@@ -303,18 +318,21 @@ module _ (sys : System) where
     goes (InPairs k x y) to (Set name first second) bytes ps ss qs parts sets pairs held follows known keeps is = absurd cc
     goes (InPairs k x y) to Other bytes ps ss qs parts sets pairs held follows known keeps is = absurd cc
 
-    -- The reader has taken the lines in front of number n: it holds what they say, and what fails behind them is what fails.
+    -- The reader has taken the lines in front of number n: it holds what they say, and what fails behind them is what
+    -- fails.
     pub record StandsAt (bytes : List ℕ) (held : Held) (n : ℕ) (rest : List ℕ) : Type 0 where
       pub held_is : IsHeld held.section held.parts held.sets held.pairs
       pub text_is : bytes ≡ held_text held.section held.parts held.sets held.pairs ++ rest
       pub fault_is : fault_from sys alls held.section n (lines_of rest) ≡ fault_from sys alls Start 1 (lines_of bytes)
 
-    pub stands_first : (bytes : List ℕ) → StandsAt bytes (record { section = Start; parts = []; sets = []; pairs = [] }) 1 bytes
+    pub stands_first : (bytes : List ℕ)
+        → StandsAt bytes (record { section = Start; parts = []; sets = []; pairs = [] }) 1 bytes
     stands_first bytes = record { held_is = (refl, refl, refl); text_is = refl; fault_is = refl }
 
     -- the names and the number of a line that may stand there are small
     module _ (few : length sys.constraints ≤ most_constraints) (short : length alls ≤ 16) where
-      number_small : (k n : ℕ) (to : Section) → cond ((n == k + 1) && nat_lt k (length alls)) (Some (InSets n None)) None ≡ Some to → n < 2 ^ 32 - 1
+      number_small : (k n : ℕ) (to : Section)
+          → cond ((n == k + 1) && nat_lt k (length alls)) (Some (InSets n None)) None ≡ Some to → n < 2 ^ 32 - 1
       number_small k n to h = by_lattice k n to h (λ same low now. omega (arith, same, low, short))
 
       lattice_small : (section to : Section) (n : ℕ) → next alls section (Lattice n) ≡ Some to → n < 2 ^ 32 - 1
@@ -323,7 +341,8 @@ module _ (sys : System) where
       lattice_small (InSets k last) to n h = number_small k n to h
       lattice_small (InPairs k u v) to n h = number_small k n to h
 
-      line_small : (section to : Section) (kind : Line) → next alls section kind ≡ Some to → is_known sys kind ≡ true → IsSmallLine kind
+      line_small : (section to : Section) (kind : Line) → next alls section kind ≡ Some to → is_known sys kind ≡ true
+          → IsSmallLine kind
       line_small section to Certificate follows known = tt
       line_small section to (Lattice n) follows known = lattice_small section to n follows
       line_small section to (Set name first second) follows known = small_name sys name few known
@@ -331,17 +350,20 @@ module _ (sys : System) where
       line_small section to Other follows known = tt
 
       -- the fault behind a line that was taken
-      fault_moves : (section to : Section) (n : ℕ) (kind : Line) (lines : List Line) (first : Option CertFault) → next alls section kind ≡ Some to → is_known sys kind ≡ true →
+      fault_moves : (section to : Section) (n : ℕ) (kind : Line) (lines : List Line) (first : Option CertFault)
+          → next alls section kind ≡ Some to → is_known sys kind ≡ true →
           fault_from sys alls section n (kind ∷ lines) ≡ first → fault_from sys alls to (n + 1) lines ≡ first
       fault_moves section to n kind lines first follows known h =
           let met : fault_behind sys n kind (Some to) (λ s. fault_from sys alls s (n + 1) lines) ≡ first =
           subst (λ (o : Option Section). fault_behind sys n kind o (λ s. fault_from sys alls s (n + 1) lines) ≡ first) follows h in
           subst (λ (b : Bool). cond b (fault_from sys alls to (n + 1) lines) (Some (NoSuchVariable n)) ≡ first) known met
 
-      next_line : (rest behind : List ℕ) (kind : Line) → BeginsLine rest kind behind → lines_of rest ≡ kind ∷ lines_of behind
+      next_line : (rest behind : List ℕ) (kind : Line) → BeginsLine rest kind behind
+          → lines_of rest ≡ kind ∷ lines_of behind
       next_line rest behind kind it = lines_of-parts rest it.part behind it.cut ∙ ap (λ (k : Line). k ∷ lines_of behind) (sym it.kind_is)
 
-      pub takes_here : (bytes : List ℕ) (old new : Held) (n : ℕ) (rest behind : List ℕ) (kind : Line) → StandsAt bytes old n rest → BeginsLine rest kind behind →
+      pub takes_here : (bytes : List ℕ) (old new : Held) (n : ℕ) (rest behind : List ℕ) (kind : Line)
+          → StandsAt bytes old n rest → BeginsLine rest kind behind →
           Takes sys alls kind old new → StandsAt bytes new (n + 1) behind
       takes_here bytes old new n rest behind kind stands it takes =
           let part = it.part in
@@ -358,8 +380,10 @@ module _ (sys : System) where
                 (ap (fault_from sys alls old.section n) (sym (next_line rest behind kind it)) ∙ stands.fault_is);
           }
 
-      pub fails_here : (bytes : List ℕ) (old : Held) (n : ℕ) (rest behind : List ℕ) (kind : Line) (e : CertFault) → StandsAt bytes old n rest → BeginsLine rest kind behind →
-          (e ≡ NoMemory) ⊎ FailsAt sys alls old.section n kind e → (e ≡ NoMemory) ⊎ (fault_from sys alls Start 1 (lines_of bytes) ≡ Some e)
+      pub fails_here : (bytes : List ℕ) (old : Held) (n : ℕ) (rest behind : List ℕ) (kind : Line) (e : CertFault)
+          → StandsAt bytes old n rest → BeginsLine rest kind behind →
+          (e ≡ NoMemory) ⊎ FailsAt sys alls old.section n kind e
+          → (e ≡ NoMemory) ⊎ (fault_from sys alls Start 1 (lines_of bytes) ≡ Some e)
       fails_here bytes old n rest behind kind e stands it (inl out) = inl out
       fails_here bytes old n rest behind kind e stands it (inr fails) =
           inr (sym stands.fault_is ∙ ap (fault_from sys alls old.section n) (next_line rest behind kind it) ∙ fails (λ s. fault_from sys alls s (n + 1) (lines_of behind)))
@@ -371,21 +395,25 @@ module _ (sys : System) where
       no_other (InPairs k u v) = refl
 
       -- what stands behind the last line feed is no line
-      pub fails_unended : (bytes : List ℕ) (held : Held) (n : ℕ) (rest : List ℕ) → StandsAt bytes held n rest → lines_of rest ≡ Other ∷ [] →
+      pub fails_unended : (bytes : List ℕ) (held : Held) (n : ℕ) (rest : List ℕ) → StandsAt bytes held n rest
+          → lines_of rest ≡ Other ∷ [] →
           fault_from sys alls Start 1 (lines_of bytes) ≡ Some (Grammar n)
       fails_unended bytes held n rest stands is =
           sym stands.fault_is ∙ ap (fault_from sys alls held.section n) is
           ∙ ap (λ (o : Option Section). fault_behind sys n Other o (λ s. fault_from sys alls s (n + 1) [])) (no_other held.section)
 
       -- and the end comes too soon
-      pub fails_at_end : (bytes : List ℕ) (held : Held) (n : ℕ) (rest : List ℕ) (e : CertFault) → StandsAt bytes held n rest → lines_of rest ≡ [] →
-          (e ≡ NoMemory) ⊎ ((may_end alls held.section ≡ false) × (e ≡ Grammar n)) → (e ≡ NoMemory) ⊎ (fault_from sys alls Start 1 (lines_of bytes) ≡ Some e)
+      pub fails_at_end : (bytes : List ℕ) (held : Held) (n : ℕ) (rest : List ℕ) (e : CertFault)
+          → StandsAt bytes held n rest → lines_of rest ≡ [] →
+          (e ≡ NoMemory) ⊎ ((may_end alls held.section ≡ false) × (e ≡ Grammar n))
+          → (e ≡ NoMemory) ⊎ (fault_from sys alls Start 1 (lines_of bytes) ≡ Some e)
       fails_at_end bytes held n rest e stands is (inl out) = inl out
       fails_at_end bytes held n rest e stands is (inr (soon, fault)) =
           inr (sym stands.fault_is ∙ ap (fault_from sys alls held.section n) is ∙ ap (λ (b : Bool). cond b None (Some (Grammar n))) soon ∙ ap Some (sym fault))
 
       -- the certificates of a whole text
-      ends_whole : (k : ℕ) (bytes text : List ℕ) (parts : List Part) → (length alls == k) ≡ true → bytes ≡ text ++ [] → Ends k parts text → IsReadAs sys alls bytes parts
+      ends_whole : (k : ℕ) (bytes text : List ℕ) (parts : List Part) → (length alls == k) ≡ true → bytes ≡ text ++ []
+          → Ends k parts text → IsReadAs sys alls bytes parts
       ends_whole k bytes text parts all is end = record {
         text_is = is ∙ append-nil text ∙ sym end.text_is;
         made = end.made;
@@ -405,8 +433,10 @@ module _ (sys : System) where
       whole (InPairs k u v) bytes ps ss qs parts sets pairs held is all closes =
           ends_whole k bytes (open_text k ps ss qs) parts all is (ends k (record { section = InPairs k u v; parts = ps; sets = ss; pairs = qs }) parts sets pairs held.0 closes)
 
-      pub reads_whole : (bytes : List ℕ) (held : Held) (n : ℕ) (rest : List ℕ) (parts : List Part) → StandsAt bytes held n rest → rest ≡ [] → may_end alls held.section ≡ true →
-          (sets : List SetLine) × (pairs : List (ℕ × ℕ)) × Closes sys held.section held parts sets pairs → IsReadAs sys alls bytes parts
+      pub reads_whole : (bytes : List ℕ) (held : Held) (n : ℕ) (rest : List ℕ) (parts : List Part)
+          → StandsAt bytes held n rest → rest ≡ [] → may_end alls held.section ≡ true →
+          (sets : List SetLine) × (pairs : List (ℕ × ℕ)) × Closes sys held.section held parts sets pairs
+          → IsReadAs sys alls bytes parts
       reads_whole bytes held n rest parts stands none all closes =
           whole held.section bytes held.parts held.sets held.pairs parts closes.0 closes.1 stands.held_is
           (stands.text_is ∙ ap (λ (t : List ℕ). held_text held.section held.parts held.sets held.pairs ++ t) none) all closes.2
@@ -430,12 +460,14 @@ pub none_left : (rest : List ℕ) (b : Bool) → b ≡ true → b ≡ (length re
 none_left rest b is empty = nil_from_length rest (zero_is (length rest) (sym empty ∙ is))
 
 -- what is so of a value, from two facts
-pub both_ok : {X E A : Type 0} → (P Q : X → Type 0) (r : Result X E) → ((x : X) → A → P x → Q x) → OnOk r A → IfOk r P → IfOk r Q
+pub both_ok : {X E A : Type 0} → (P Q : X → Type 0) (r : Result X E) → ((x : X) → A → P x → Q x) → OnOk r A → IfOk r P
+    → IfOk r Q
 both_ok P Q (Ok x) f one two = f x one two
 both_ok P Q (Err e) f one two = tt
 
 -- what a reader gives is plain
-pub made_plain : (sys : System) (orders : List Order) (parts : List Part) → AreMade sys (alls_of orders) parts → length parts ≡ length (alls_of orders) →
+pub made_plain : (sys : System) (orders : List Order) (parts : List Part) → AreMade sys (alls_of orders) parts
+    → length parts ≡ length (alls_of orders) →
     ArePlain sys orders parts
 made_plain sys [] [] made many = tt
 made_plain sys [] (part ∷ parts) made many = absurd made

@@ -122,10 +122,12 @@ module _ (sys : System) where
         )
 
   module _ (part other : Part) (same : written sys part ≡ written sys other) (names : HasNames sys part) (others : HasNames sys other) where
-    both_none : (v : ℕ) → slice_index part.second.items v ≡ 0 → slice_index other.second.items v ≡ 0 → Agree part other same names v
+    both_none : (v : ℕ) → slice_index part.second.items v ≡ 0 → slice_index other.second.items v ≡ 0
+        → Agree part other same names v
     both_none v one two = (names.firsts v one ∙ sym (others.firsts v two), one ∙ sym two)
 
-    by_some : (v n : ℕ) → name_of sys v ≡ Some n → (a b : Bool) → (slice_index part.second.items v == 0) ≡ a → (slice_index other.second.items v == 0) ≡ b → Agree part other same names v
+    by_some : (v n : ℕ) → name_of sys v ≡ Some n → (a b : Bool) → (slice_index part.second.items v == 0) ≡ a
+        → (slice_index other.second.items v == 0) ≡ b → Agree part other same names v
     by_some v n is false b some also = set_too part other same names v n is some
     by_some v n is true false some also = let back = set_too other part (sym same) others v n is also in (sym back.0, sym back.1)
     by_some v n is true true some also = both_none v (zero_is (slice_index part.second.items v) some) (zero_is (slice_index other.second.items v) also)
@@ -144,7 +146,8 @@ module _ (sys : System) where
     seconds_same : length part.second.items ≡ length other.second.items → part.second.items ≡ other.second.items
     seconds_same long = ext_get_or 0 part.second.items other.second.items long (λ v low. (by_name v (name_of sys v) refl).1)
 
-  all_same : (orders : List Order) (parts others : List Part) → ArePlain sys orders parts → ArePlain sys orders others → writtens sys parts ≡ writtens sys others → AreSame parts others
+  all_same : (orders : List Order) (parts others : List Part) → ArePlain sys orders parts → ArePlain sys orders others
+      → writtens sys parts ≡ writtens sys others → AreSame parts others
   all_same [] [] [] one two same = tt
   all_same [] [] (other ∷ others) one two same = absurd two
   all_same [] (part ∷ parts) others one two same = absurd one

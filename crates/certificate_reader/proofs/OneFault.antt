@@ -33,7 +33,8 @@ there_within (y ∷ xs) (suc k) x there = let deeper = there_within xs k x there
 
 module _ (sys : System) (orders : List Order) where
   -- what begins a text begins it with fewer lines
-  pub begins_sooner : (lines : List Line) (k m : ℕ) → k ≤ m → BeginsText orders (take m lines) → BeginsText orders (take k lines)
+  pub begins_sooner : (lines : List Line) (k m : ℕ) → k ≤ m → BeginsText orders (take m lines)
+      → BeginsText orders (take k lines)
   begins_sooner lines k m short begins =
       let more = longer_front lines k m short in (
         more.0 ++ begins.0,
@@ -43,14 +44,16 @@ module _ (sys : System) (orders : List Order) where
   pub shaped_begins : (lines : List Line) (k : ℕ) → IsShaped orders lines → BeginsText orders (take k lines)
   shaped_begins lines k shaped = let more = front lines k in (more.0, subst (λ (ls : List Line). IsShaped orders ls) more.1 shaped)
 
-  pub known_there : (lines : List Line) (j k : ℕ) (line : Line) → AreKnown sys (take k lines) → slice_get lines j ≡ Some line → j < k → is_known sys line ≡ true
+  pub known_there : (lines : List Line) (j k : ℕ) (line : Line) → AreKnown sys (take k lines)
+      → slice_get lines j ≡ Some line → j < k → is_known sys line ≡ true
   known_there [] j k line known there low = absurd cc
   known_there (l ∷ lines) j zero line known there low = absurd (omega (arith, low))
   known_there (l ∷ lines) zero (suc k) line known there low = let same : l ≡ line = cc in subst (λ (it : Line). is_known sys it ≡ true) same known.0
   known_there (l ∷ lines) (suc j) (suc k) line known there low = known_there lines j k line known.1 there (omega (arith, low))
 
   -- the first line that does not fit has no other that does not fit before it
-  not_sooner : (lines : List Line) (m n : ℕ) (one : IsMisfit sys orders lines m) (other : IsMisfit sys orders lines n) → one.before < other.before → ⊥
+  not_sooner : (lines : List Line) (m n : ℕ) (one : IsMisfit sys orders lines m) (other : IsMisfit sys orders lines n)
+      → one.before < other.before → ⊥
   not_sooner lines m n one other sooner =
       one.misfit (omega (arith, sooner, other.within)) (begins_sooner lines (suc one.before) other.before (omega (arith, sooner)) other.begins)
 
@@ -65,7 +68,8 @@ module _ (sys : System) (orders : List Order) where
   unknown_clash : {A : Type 0} → (line : Line) → is_known sys line ≡ true → is_known sys line ≡ false → A
   unknown_clash line known unknown = absurd cc
 
-  misfit_or_name : {A : Type 0} → (lines : List Line) (m n : ℕ) → IsMisfit sys orders lines m → NamesNone sys orders lines n → A
+  misfit_or_name : {A : Type 0} → (lines : List Line) (m n : ℕ) → IsMisfit sys orders lines m
+      → NamesNone sys orders lines n → A
   misfit_or_name lines m n one other = elim (cases_order one.before other.before) [
     | inl same ↦
         absurd (one.misfit (omega (arith, same, there_within lines other.before other.line other.there))
@@ -83,7 +87,8 @@ module _ (sys : System) (orders : List Order) where
     | inr (inr later) ↦ unknown_clash other.line (known_there lines other.before one.before other.line one.known other.there later) other.unknown
   ]
 
-  all_known : (lines : List Line) (j : ℕ) (line : Line) → AreKnown sys lines → slice_get lines j ≡ Some line → is_known sys line ≡ true
+  all_known : (lines : List Line) (j : ℕ) (line : Line) → AreKnown sys lines → slice_get lines j ≡ Some line
+      → is_known sys line ≡ true
   all_known lines j line known there =
       known_there lines j (length lines) line (subst (λ (ls : List Line). AreKnown sys ls) (sym (all_taken lines)) known) there (there_within lines j line there)
 
@@ -95,7 +100,8 @@ module _ (sys : System) (orders : List Order) where
     | inr (inr high) ↦ omega (arith, high, is.within)
   ]
 
-  pub shaped_has_none : (lines : List Line) (fault : CertFault) → IsShaped orders lines → AreKnown sys lines → IsPlaced sys orders lines fault → fault ≡ NoMemory
+  pub shaped_has_none : (lines : List Line) (fault : CertFault) → IsShaped orders lines → AreKnown sys lines
+      → IsPlaced sys orders lines fault → fault ≡ NoMemory
   shaped_has_none lines (Grammar n) shaped known is = absurd (misfit_of_none lines n shaped is)
   shaped_has_none lines (NoSuchVariable n) shaped known is = unknown_clash is.line (all_known lines is.before is.line known is.there) is.unknown
   shaped_has_none lines NoMemory shaped known is = refl

@@ -9,7 +9,8 @@ use Rattle.certificate_reader.specs.Grammar.{all_of, alls_of}
 use Rattle.certificate_reader.specs.Reader.{AreSmall}
 
 module _ (lattices : List LatticeView) (at : ℕ) (lattice : LatticeView) (there : slice_get lattices at ≡ Some lattice) where
-  pub alls_more : (out after : List ℕ) (set : ℕ) → set ≡ all_of lattice.order → after ≡ out ++ set ∷ [] → out ++ alls_of (orders_of (drop at lattices)) ≡ alls_of (orders_of lattices) →
+  pub alls_more : (out after : List ℕ) (set : ℕ) → set ≡ all_of lattice.order → after ≡ out ++ set ∷ []
+      → out ++ alls_of (orders_of (drop at lattices)) ≡ alls_of (orders_of lattices) →
       after ++ alls_of (orders_of (drop (at + 1) lattices)) ≡ alls_of (orders_of lattices)
   alls_more out after set is puts done =
       let next : suc at ≡ at + 1 = omega arith in
@@ -24,7 +25,8 @@ module _ (lattices : List LatticeView) (at : ℕ) (lattice : LatticeView) (there
       let both : Some lattice.order ≡ Some order = sym (slice_get-map (λ (view : LatticeView). view.order) lattices at ∙ ap (option_map (λ (view : LatticeView). view.order)) there) ∙ is in
       cc
 
-  by_place : AreSmall at (orders_of lattices) → size lattice.order ≤ 64 → (n : ℕ) (order : Order) → n < at + 1 → at ≤ n → slice_get (orders_of lattices) n ≡ Some order → size order ≤ 64
+  by_place : AreSmall at (orders_of lattices) → size lattice.order ≤ 64 → (n : ℕ) (order : Order) → n < at + 1 → at ≤ n
+      → slice_get (orders_of lattices) n ≡ Some order → size order ≤ 64
   by_place small one n order low high is =
       let same : n ≡ at = omega (arith, low, high) in
       subst (λ (o : Order). size o ≤ 64) (same_order order (subst (λ (k : ℕ). slice_get (orders_of lattices) k ≡ Some order) same is)) one

@@ -40,15 +40,6 @@ set_other (y ∷ xs) zero (suc v) x apart = refl
 set_other (y ∷ xs) (suc u) zero x apart = refl
 set_other (y ∷ xs) (suc u) (suc v) x apart = set_other xs u v x (λ same. apart (ap suc same))
 
--- the sets of no line are empty
-pub fill_none : (sys : System) (first second : List ℕ) → length first ≡ vars_of sys → length second ≡ vars_of sys → ((v : ℕ) → slice_index first v ≡ 0) → ((v : ℕ) → slice_index second v ≡ 0) →
-    AreFilled sys [] first second
-fill_none sys first second one two none also = record {
-  first_size = one;
-  second_size = two;
-  at = λ v. inr (record { none = λ it there var. absurd (among_contained [] it there); first_is = none v; second_is = also v });
-}
-
 -- one more line sets the sets of its variable
 module _ (sys : System) (sets : List SetLine) (it : SetLine) (first second : List ℕ) (u x y : ℕ) (filled : AreFilled sys sets first second)
     (var : var_at sys it.name ≡ u) (within : u < vars_of sys) (one : x ≡ it.first) (two : y ≡ it.second) where
@@ -61,7 +52,8 @@ module _ (sys : System) (sets : List SetLine) (it : SetLine) (first second : Lis
     second_is = subst (λ (w : ℕ). slice_index (slice_set second u y) w ≡ it.second) same (set_here second u y (omega (arith, within, filled.second_size)) ∙ two);
   }
 
-  said_before : (v : ℕ) → (u ≡ v → ⊥) → IsSaid sys sets first second v → IsSaid sys (sets ++ it ∷ []) (slice_set first u x) (slice_set second u y) v
+  said_before : (v : ℕ) → (u ≡ v → ⊥) → IsSaid sys sets first second v
+      → IsSaid sys (sets ++ it ∷ []) (slice_set first u x) (slice_set second u y) v
   said_before v apart said = record {
     it = said.it;
     there = contained_among (sets ++ it ∷ []) said.it (among_left sets (it ∷ []) said.it (among_contained sets said.it said.there));
@@ -70,7 +62,8 @@ module _ (sys : System) (sets : List SetLine) (it : SetLine) (first second : Lis
     second_is = set_other second u v y apart ∙ said.second_is;
   }
 
-  unsaid_still : (v : ℕ) → (u ≡ v → ⊥) → IsUnsaid sys sets first second v → IsUnsaid sys (sets ++ it ∷ []) (slice_set first u x) (slice_set second u y) v
+  unsaid_still : (v : ℕ) → (u ≡ v → ⊥) → IsUnsaid sys sets first second v
+      → IsUnsaid sys (sets ++ it ∷ []) (slice_set first u x) (slice_set second u y) v
   unsaid_still v apart unsaid = record {
     none = λ other there is. elim (among_either sets (it ∷ []) other (among_contained (sets ++ it ∷ []) other there)) [
       | inl before ↦ unsaid.none other (contained_among sets other before) is
@@ -81,7 +74,8 @@ module _ (sys : System) (sets : List SetLine) (it : SetLine) (first second : Lis
     second_is = set_other second u v y apart ∙ unsaid.second_is;
   }
 
-  at_one : (v : ℕ) → IsSaid sys (sets ++ it ∷ []) (slice_set first u x) (slice_set second u y) v ⊎ IsUnsaid sys (sets ++ it ∷ []) (slice_set first u x) (slice_set second u y) v
+  at_one : (v : ℕ)
+      → IsSaid sys (sets ++ it ∷ []) (slice_set first u x) (slice_set second u y) v ⊎ IsUnsaid sys (sets ++ it ∷ []) (slice_set first u x) (slice_set second u y) v
   at_one v = elim (eqb_tells u v) [
     | inl same ↦ inl (said_now v same.1)
     | inr apart ↦ elim (filled.at v) [ inl said ↦ inl (said_before v apart.1 said) | inr unsaid ↦ inr (unsaid_still v apart.1 unsaid) ]
@@ -101,7 +95,8 @@ below_highest (c ∷ cs) (suc zero) v there = let same : second_end c.link ≡ v
 below_highest (c ∷ cs) (suc (suc k)) v there = omega (arith, below_highest cs k v there)
 
 -- pairs of variables that were put in order
-pub pairs_found : (sys : System) (pairs numbers sorted found : List (ℕ × ℕ)) → numbers ≡ map (λ pair. vars_at sys pair) pairs → IsStrictlySortedBy pair_cmp sorted →
+pub pairs_found : (sys : System) (pairs numbers sorted found : List (ℕ × ℕ))
+    → numbers ≡ map (λ pair. vars_at sys pair) pairs → IsStrictlySortedBy pair_cmp sorted →
     ((p : ℕ × ℕ) → Contains numbers p ↔ Contains sorted p) → found ≡ sorted → ArePairsOf sys pairs found
 pairs_found sys pairs numbers sorted found are ascending keeps is =
     subst (λ (ps : List (ℕ × ℕ)). ArePairsOf sys pairs ps) (sym is)
@@ -130,7 +125,8 @@ fits_of all it h = both_hold (not (it.second == 0)) _ h
     (λ some rest. both_hold (not (nat_lt all it.first)) (not (nat_lt all it.second)) rest
     (λ one two. record { some = not_so _ some; first = within_all all it.first (not_so _ one); second = within_all all it.second (not_so _ two) }))
 
-each_fits : (all : ℕ) (last : Option ℕ) (sets : List SetLine) → SetsFit all last sets → (it : SetLine) → Among it sets → Fits all it
+each_fits : (all : ℕ) (last : Option ℕ) (sets : List SetLine) → SetsFit all last sets → (it : SetLine) → Among it sets
+    → Fits all it
 each_fits all last [] fit it there = absurd there
 each_fits all last (x ∷ sets) fit it (inl same) = subst (λ (s : SetLine). Fits all s) (sym same) (fits_of all x fit.1)
 each_fits all last (x ∷ sets) fit it (inr later) = each_fits all (Some x.name) sets fit.2 it later
@@ -145,7 +141,8 @@ never_by_name x y one two = omega (arith, one, two)
 name_low : (last name : ℕ) → name_behind (Some last) name ≡ true → last < name
 name_low last name h = grind (arith, h)
 
-behind_all : (all last : ℕ) (sets : List SetLine) → SetsFit all (Some last) sets → (y : SetLine) → Among y sets → last < y.name
+behind_all : (all last : ℕ) (sets : List SetLine) → SetsFit all (Some last) sets → (y : SetLine) → Among y sets
+    → last < y.name
 behind_all all last [] fit y there = absurd there
 behind_all all last (x ∷ sets) fit y (inl same) = subst (λ (s : SetLine). last < s.name) (sym same) (name_low last x.name fit.0)
 behind_all all last (x ∷ sets) fit y (inr later) = omega (arith, name_low last x.name fit.0, behind_all all x.name sets fit.2 y later)
@@ -170,7 +167,8 @@ pairs_in_order last [] fit = tt
 pairs_in_order last (p ∷ pairs) fit = (pairs_behind p pairs fit.1, pairs_in_order (Some p) pairs fit.1)
 
 -- a name has one line
-one_line : (sets : List SetLine) → Rises ByName sets → (x y : SetLine) → Among x sets → Among y sets → x.name ≡ y.name → x ≡ y
+one_line : (sets : List SetLine) → Rises ByName sets → (x y : SetLine) → Among x sets → Among y sets → x.name ≡ y.name
+    → x ≡ y
 one_line [] rise x y one two same = absurd one
 one_line (z ∷ sets) rise x y (inl here) (inl also) same = here ∙ sym also
 one_line (z ∷ sets) rise x y (inl here) (inr later) same =
@@ -185,18 +183,21 @@ written_rise part [] rise = tt
 written_rise part (x ∷ names) rise = by_test (slice_index part.second.items x.var == 0) (written_rise part names rise.1)
     (λ y there. (let from = set_from part names y there in subst (λ (s : SetLine). x.name < s.name) (sym from.is) (rise.0 from.x from.there)))
   where
-    by_test : (b : Bool) → Rises ByName (sets_of part names) → ((y : SetLine) → Among y (sets_of part names) → x.name < y.name) →
+    by_test : (b : Bool) → Rises ByName (sets_of part names)
+        → ((y : SetLine) → Among y (sets_of part names) → x.name < y.name) →
         Rises ByName (cond b [] (record { name = x.name; first = slice_index part.first.items x.var; second = slice_index part.second.items x.var } ∷ []) ++ sets_of part names)
     by_test true over low = over
     by_test false over low = (low, over)
 
 -- what a list is mapped from
-mapped : (sys : System) (pairs : List (ℕ × ℕ)) (q : ℕ × ℕ) → Among q (map (λ pair. vars_at sys pair) pairs) → (p : ℕ × ℕ) × Among p pairs × (q ≡ vars_at sys p)
+mapped : (sys : System) (pairs : List (ℕ × ℕ)) (q : ℕ × ℕ) → Among q (map (λ pair. vars_at sys pair) pairs)
+    → (p : ℕ × ℕ) × Among p pairs × (q ≡ vars_at sys p)
 mapped sys [] q there = absurd there
 mapped sys (p ∷ pairs) q (inl same) = (p, inl refl, same)
 mapped sys (p ∷ pairs) q (inr later) = let deeper = mapped sys pairs q later in (deeper.0, inr deeper.1, deeper.2)
 
-maps_to : (sys : System) (pairs : List (ℕ × ℕ)) (p : ℕ × ℕ) → Among p pairs → Among (vars_at sys p) (map (λ pair. vars_at sys pair) pairs)
+maps_to : (sys : System) (pairs : List (ℕ × ℕ)) (p : ℕ × ℕ) → Among p pairs
+    → Among (vars_at sys p) (map (λ pair. vars_at sys pair) pairs)
 maps_to sys [] p there = absurd there
 maps_to sys (x ∷ pairs) p (inl same) = inl (ap (λ (q : ℕ × ℕ). vars_at sys q) same)
 maps_to sys (x ∷ pairs) p (inr later) = inr (maps_to sys pairs p later)
@@ -245,7 +246,8 @@ module _ (sys : System) (sets : List SetLine) (pairs : List (ℕ × ℕ)) (lines
   named_var n v named is = subst (λ (u : ℕ). name_of sys u ≡ Some n) (sym (var_there sys n named.var named.end_is) ∙ is) named.named
 
   module _ (part : Part) (filled : AreFilled sys sets part.first.items part.second.items) (paired : ArePairsOf sys pairs part.pairs.items) where
-    said_named : (v : ℕ) (said : IsSaid sys sets part.first.items part.second.items v) → name_of sys v ≡ Some said.it.name
+    said_named : (v : ℕ) (said : IsSaid sys sets part.first.items part.second.items v)
+        → name_of sys v ≡ Some said.it.name
     said_named v said = named_var said.it.name v (set_is_named said.it (among_contained sets said.it said.there)) said.var_is
 
     same_name : {A : Type 0} → (v m n : ℕ) → name_of sys v ≡ Some m → name_of sys v ≡ Some n → (m ≡ n → A) → A
@@ -296,7 +298,8 @@ module _ (sys : System) (sets : List SetLine) (pairs : List (ℕ × ℕ)) (lines
     }
 
     -- it is a certificate of a lattice in which its sets fit
-    firsts_low : (order : Order) → SetsFit (all_of order) None sets → (v e : ℕ) → is_in part.first.items v e ≡ true → e < size order
+    firsts_low : (order : Order) → SetsFit (all_of order) None sets → (v e : ℕ) → is_in part.first.items v e ≡ true
+        → e < size order
     firsts_low order fit v e h = elim (filled.at v) [
       | inl said ↦
           let fits = each_fits (all_of order) None sets fit said.it (among_contained sets said.it said.there) in
@@ -305,7 +308,8 @@ module _ (sys : System) (sets : List SetLine) (pairs : List (ℕ × ℕ)) (lines
       | inr unsaid ↦ absurd (none_in e (subst (λ (set : ℕ). has set e ≡ true) unsaid.first_is h))
     ]
 
-    seconds_low : (order : Order) → SetsFit (all_of order) None sets → (v e : ℕ) → is_in part.second.items v e ≡ true → e < size order
+    seconds_low : (order : Order) → SetsFit (all_of order) None sets → (v e : ℕ) → is_in part.second.items v e ≡ true
+        → e < size order
     seconds_low order fit v e h = elim (filled.at v) [
       | inl said ↦
           let fits = each_fits (all_of order) None sets fit said.it (among_contained sets said.it said.there) in
@@ -349,7 +353,8 @@ module _ (sys : System) (sets : List SetLine) (pairs : List (ℕ × ℕ)) (lines
           | inr unsaid ↦ no_zero (slice_index part.second.items from.x.var) from.some unsaid.second_is
         ]
 
-    said_is_written : (it : SetLine) (v : ℕ) → Among it sets → name_of sys v ≡ Some it.name → IsSaid sys sets part.first.items part.second.items v → Among it (sets_of part (names_in sys))
+    said_is_written : (it : SetLine) (v : ℕ) → Among it sets → name_of sys v ≡ Some it.name
+        → IsSaid sys sets part.first.items part.second.items v → Among it (sets_of part (names_in sys))
     said_is_written it v there named said = same_name v said.it.name it.name (said_named v said) named
         (λ name.
         let same : said.it ≡ it = one_line sets (sets_rise lines.all None sets lines.sets_fit) said.it it (among_contained sets said.it said.there) there name in

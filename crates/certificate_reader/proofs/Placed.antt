@@ -35,7 +35,8 @@ module _ (sys : System) (alls : List ℕ) where
   Placed section n lines NoMemory = Unit {0}
 
   -- a line that passes moves the place by one
-  misfits_on : (section to : Section) (k : ℕ) (line : Line) (lines : List Line) → next alls section line ≡ Some to → is_known sys line ≡ true →
+  misfits_on : (section to : Section) (k : ℕ) (line : Line) (lines : List Line) → next alls section line ≡ Some to
+      → is_known sys line ≡ true →
       Misfits to k lines → Misfits section (suc k) (line ∷ lines)
   misfits_on section to k line lines follows known it = record {
     within = omega (arith, it.within);
@@ -47,7 +48,8 @@ module _ (sys : System) (alls : List ℕ) where
     short = λ end passed. it.short (omega (arith, end)) (subst (λ (o : Option Section). passes_behind o (λ s. passes alls s lines) ≡ true) follows passed);
   }
 
-  unknown_on : (section to : Section) (k : ℕ) (line : Line) (lines : List Line) → next alls section line ≡ Some to → is_known sys line ≡ true →
+  unknown_on : (section to : Section) (k : ℕ) (line : Line) (lines : List Line) → next alls section line ≡ Some to
+      → is_known sys line ≡ true →
       Unknown to k lines → Unknown section (suc k) (line ∷ lines)
   unknown_on section to k line lines follows known it = record {
     behind = it.behind;
@@ -58,14 +60,16 @@ module _ (sys : System) (alls : List ℕ) where
     unknown = it.unknown;
   }
 
-  placed_on : (section to : Section) (n : ℕ) (line : Line) (lines : List Line) (fault : CertFault) → next alls section line ≡ Some to → is_known sys line ≡ true →
+  placed_on : (section to : Section) (n : ℕ) (line : Line) (lines : List Line) (fault : CertFault)
+      → next alls section line ≡ Some to → is_known sys line ≡ true →
       Placed to (n + 1) lines fault → Placed section n (line ∷ lines) fault
   placed_on section to n line lines (Grammar m) follows known (k, is, it) = (suc k, omega (arith, is), misfits_on section to k line lines follows known it)
   placed_on section to n line lines (NoSuchVariable m) follows known (k, is, it) = (suc k, omega (arith, is), unknown_on section to k line lines follows known it)
   placed_on section to n line lines NoMemory follows known it = tt
 
   -- no line stands before the fault
-  misfits_here : (section : Section) (line : Line) (lines : List Line) → begun alls section ≤ length alls → next alls section line ≡ None → Misfits section 0 (line ∷ lines)
+  misfits_here : (section : Section) (line : Line) (lines : List Line) → begun alls section ≤ length alls
+      → next alls section line ≡ None → Misfits section 0 (line ∷ lines)
   misfits_here section line lines within follows =
       let done = completes alls section within in
       record {
@@ -78,25 +82,29 @@ module _ (sys : System) (alls : List ℕ) where
         short = λ end passed. omega (arith, end);
       }
 
-  unknown_here : (section to : Section) (line : Line) (lines : List Line) → begun alls section ≤ length alls → next alls section line ≡ Some to → is_known sys line ≡ false →
+  unknown_here : (section to : Section) (line : Line) (lines : List Line) → begun alls section ≤ length alls
+      → next alls section line ≡ Some to → is_known sys line ≡ false →
       Unknown section 0 (line ∷ lines)
   unknown_here section to line lines within follows unknown =
       let done = completes alls to (begun_behind alls section to line within follows) in
       record { behind = done.0; begins = rw follows done.1; known = tt; line = line; there = refl; unknown = unknown }
 
-  at_once : (section : Section) (n : ℕ) (line : Line) (lines : List Line) (fault : CertFault) → begun alls section ≤ length alls → next alls section line ≡ None →
+  at_once : (section : Section) (n : ℕ) (line : Line) (lines : List Line) (fault : CertFault)
+      → begun alls section ≤ length alls → next alls section line ≡ None →
       Grammar n ≡ fault → Placed section n (line ∷ lines) fault
   at_once section n line lines fault within follows is =
       let placed : Placed section n (line ∷ lines) (Grammar n) = (0, omega arith, misfits_here section line lines within follows) in
       subst (λ (f : CertFault). Placed section n (line ∷ lines) f) is placed
 
-  unnamed : (section to : Section) (n : ℕ) (line : Line) (lines : List Line) (fault : CertFault) → begun alls section ≤ length alls → next alls section line ≡ Some to →
+  unnamed : (section to : Section) (n : ℕ) (line : Line) (lines : List Line) (fault : CertFault)
+      → begun alls section ≤ length alls → next alls section line ≡ Some to →
       is_known sys line ≡ false → NoSuchVariable n ≡ fault → Placed section n (line ∷ lines) fault
   unnamed section to n line lines fault within follows unknown is =
       let placed : Placed section n (line ∷ lines) (NoSuchVariable n) = (0, omega arith, unknown_here section to line lines within follows unknown) in
       subst (λ (f : CertFault). Placed section n (line ∷ lines) f) is placed
 
-  at_end : (section : Section) (n : ℕ) (fault : CertFault) (b : Bool) → begun alls section ≤ length alls → may_end alls section ≡ b →
+  at_end : (section : Section) (n : ℕ) (fault : CertFault) (b : Bool) → begun alls section ≤ length alls
+      → may_end alls section ≡ b →
       cond b None (Some (Grammar n)) ≡ Some fault → Placed section n [] fault
   at_end section n fault true within is h = absurd cc
   at_end section n fault false within is h =
@@ -116,20 +124,23 @@ module _ (sys : System) (alls : List ℕ) where
       let same : Grammar n ≡ fault = cc in
       subst (λ (f : CertFault). Placed section n [] f) same placed
 
-  by_name : (section to : Section) (n : ℕ) (line : Line) (lines : List Line) (fault : CertFault) (b : Bool) → begun alls section ≤ length alls → next alls section line ≡ Some to →
+  by_name : (section to : Section) (n : ℕ) (line : Line) (lines : List Line) (fault : CertFault) (b : Bool)
+      → begun alls section ≤ length alls → next alls section line ≡ Some to →
       is_known sys line ≡ b → (fault_from sys alls to (n + 1) lines ≡ Some fault → Placed to (n + 1) lines fault) →
       cond b (fault_from sys alls to (n + 1) lines) (Some (NoSuchVariable n)) ≡ Some fault → Placed section n (line ∷ lines) fault
   by_name section to n line lines fault true within follows known deeper h = placed_on section to n line lines fault follows known (deeper h)
   by_name section to n line lines fault false within follows unknown deeper h = unnamed section to n line lines fault within follows unknown cc
 
-  by_section : (section : Section) (n : ℕ) (line : Line) (lines : List Line) (fault : CertFault) (o : Option Section) → begun alls section ≤ length alls → next alls section line ≡ o →
+  by_section : (section : Section) (n : ℕ) (line : Line) (lines : List Line) (fault : CertFault) (o : Option Section)
+      → begun alls section ≤ length alls → next alls section line ≡ o →
       ((to : Section) → begun alls to ≤ length alls → fault_from sys alls to (n + 1) lines ≡ Some fault → Placed to (n + 1) lines fault) →
       fault_behind sys n line o (λ s. fault_from sys alls s (n + 1) lines) ≡ Some fault → Placed section n (line ∷ lines) fault
   by_section section n line lines fault None within follows deeper h = at_once section n line lines fault within follows cc
   by_section section n line lines fault (Some to) within follows deeper h =
       by_name section to n line lines fault (is_known sys line) within follows refl (deeper to (begun_behind alls section to line within follows)) h
 
-  placed : (lines : List Line) (section : Section) (n : ℕ) (fault : CertFault) → begun alls section ≤ length alls → fault_from sys alls section n lines ≡ Some fault →
+  placed : (lines : List Line) (section : Section) (n : ℕ) (fault : CertFault) → begun alls section ≤ length alls
+      → fault_from sys alls section n lines ≡ Some fault →
       Placed section n lines fault
   placed [] section n fault within h = at_end section n fault (may_end alls section) within refl h
   placed (line ∷ lines) section n fault within h =
@@ -142,7 +153,8 @@ module _ (sys : System) (orders : List Order) where
   pub of_shaped : (lines : List Line) → IsShaped orders lines → passes (alls_of orders) Start lines ≡ true
   of_shaped lines shaped = rw shaped.lines_are (parts_are_passed (alls_of orders) shaped.parts shaped.fit)
 
-  pub fault_is_placed : (lines : List Line) (fault : CertFault) → fault_from sys (alls_of orders) Start 1 lines ≡ Some fault → IsPlaced sys orders lines fault
+  pub fault_is_placed : (lines : List Line) (fault : CertFault)
+      → fault_from sys (alls_of orders) Start 1 lines ≡ Some fault → IsPlaced sys orders lines fault
   fault_is_placed lines (Grammar m) h =
       let there = placed sys (alls_of orders) lines Start 1 (Grammar m) (omega arith) h in
       record {

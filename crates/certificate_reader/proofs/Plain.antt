@@ -59,7 +59,8 @@ set_from part (x ∷ names) it there = elim (among_either (set_of part x) (sets_
     now false some (inl is) = record { x = x; there = inl refl; is = is; some = some }
     now false some (inr there) = absurd there
 
-pub set_to : (part : Part) (names : List Named) (x : Named) → Among x names → (slice_index part.second.items x.var == 0) ≡ false →
+pub set_to : (part : Part) (names : List Named) (x : Named) → Among x names
+    → (slice_index part.second.items x.var == 0) ≡ false →
     Among {A = SetLine} (record { name = x.name; first = slice_index part.first.items x.var; second = slice_index part.second.items x.var }) (sets_of part names)
 set_to part [] x there some = absurd there
 set_to part (y ∷ names) x (inl same) some = among_left (set_of part y) (sets_of part names) _
@@ -73,7 +74,8 @@ set_to part (y ∷ names) x (inl same) some = among_left (set_of part y) (sets_o
 set_to part (y ∷ names) x (inr later) some = among_right (set_of part y) (sets_of part names) _ (set_to part names x later some)
 
 -- sets below a power fit
-fits_below : (p first second : ℕ) → first < p → second < p → (second == 0) ≡ false → sets_fit (p - 1) first second ≡ true
+fits_below : (p first second : ℕ) → first < p → second < p → (second == 0) ≡ false
+    → sets_fit (p - 1) first second ≡ true
 fits_below p first second one other some =
     let high : nat_lt (p - 1) first ≡ false = grind (arith, one) in
     let also : nat_lt (p - 1) second ≡ false = grind (arith, other) in
@@ -83,19 +85,22 @@ behind_low : (last name : ℕ) → last < name → name_behind (Some last) name 
 behind_low last name low = grind (arith, low)
 
 -- the sets of names in order fit
-sets_fit_of : (all : ℕ) (part : Part) (names : List Named) (last : Option ℕ) → ((v : ℕ) → (slice_index part.second.items v == 0) ≡ false → sets_fit all (slice_index part.first.items v) (slice_index part.second.items v) ≡ true) →
+sets_fit_of : (all : ℕ) (part : Part) (names : List Named) (last : Option ℕ)
+    → ((v : ℕ) → (slice_index part.second.items v == 0) ≡ false → sets_fit all (slice_index part.first.items v) (slice_index part.second.items v) ≡ true) →
     Rises Lower names → ((x : Named) → Among x names → name_behind last x.name ≡ true) → SetsFit all last (sets_of part names)
 sets_fit_of all part [] last fits rise later = tt
 sets_fit_of all part (x ∷ names) last fits rise later = by_test (slice_index part.second.items x.var == 0) refl
     (sets_fit_of all part names last fits rise.1 (λ y there. later y (inr there)))
     (sets_fit_of all part names (Some x.name) fits rise.1 (λ y there. behind_low x.name y.name (rise.0 y there)))
   where
-    by_test : (b : Bool) → (slice_index part.second.items x.var == 0) ≡ b → SetsFit all last (sets_of part names) → SetsFit all (Some x.name) (sets_of part names) →
+    by_test : (b : Bool) → (slice_index part.second.items x.var == 0) ≡ b → SetsFit all last (sets_of part names)
+        → SetsFit all (Some x.name) (sets_of part names) →
         SetsFit all last (cond b [] (record { name = x.name; first = slice_index part.first.items x.var; second = slice_index part.second.items x.var } ∷ []) ++ sets_of part names)
     by_test true none over behind = over
     by_test false some over behind = (later x (inl refl), fits x.var some, behind)
 
-pairs_fit_of : (ps : List (ℕ × ℕ)) (last : Option (ℕ × ℕ)) → Rises Earlier ps → ((p : ℕ × ℕ) → Among p ps → pair_behind last p ≡ true) → PairsFit last ps
+pairs_fit_of : (ps : List (ℕ × ℕ)) (last : Option (ℕ × ℕ)) → Rises Earlier ps
+    → ((p : ℕ × ℕ) → Among p ps → pair_behind last p ≡ true) → PairsFit last ps
 pairs_fit_of [] last rise later = tt
 pairs_fit_of (p ∷ ps) last rise later = (later p (inl refl), pairs_fit_of ps (Some p) rise.1 (λ q there. before_to p q.0 q.1 (rise.0 q there)))
 
@@ -142,11 +147,14 @@ module _ (sys : System) where
       let named = (names_are sys (ends_in sys) 0 from.x from.there).1 in
       ap (λ (s : SetLine). is_name sys s.name) from.is ∙ name_is from.x.var from.x.name named
 
-  pair_named : (part : Part) (p : ℕ × ℕ) → Among p (pairs_of part.pairs.items (names_in sys) (names_in sys)) → (is_name sys p.0 ≡ true) × (is_name sys p.1 ≡ true)
+  pair_named : (part : Part) (p : ℕ × ℕ) → Among p (pairs_of part.pairs.items (names_in sys) (names_in sys))
+      → (is_name sys p.0 ≡ true) × (is_name sys p.1 ≡ true)
   pair_named part p there =
       let is = written_pair sys part.pairs.items p there in (name_is is.from p.0 is.from_is, name_is is.to p.1 is.to_is)
 
-  sets_known : (sets : List SetLine) (behind : List Line) → ((it : SetLine) → Among it sets → is_name sys it.name ≡ true) → AreKnown sys behind → AreKnown sys (set_lines sets behind)
+  sets_known : (sets : List SetLine) (behind : List Line)
+      → ((it : SetLine) → Among it sets → is_name sys it.name ≡ true) → AreKnown sys behind
+      → AreKnown sys (set_lines sets behind)
   sets_known [] behind named rest = rest
   sets_known (it ∷ sets) behind named rest = (named it (inl refl), sets_known sets behind (λ other there. named other (inr there)) rest)
 
@@ -155,14 +163,16 @@ module _ (sys : System) where
   both true false p q = absurd cc
   both false b p q = absurd cc
 
-  pairs_known : (pairs : List (ℕ × ℕ)) (behind : List Line) → ((p : ℕ × ℕ) → Among p pairs → (is_name sys p.0 ≡ true) × (is_name sys p.1 ≡ true)) → AreKnown sys behind →
+  pairs_known : (pairs : List (ℕ × ℕ)) (behind : List Line)
+      → ((p : ℕ × ℕ) → Among p pairs → (is_name sys p.0 ≡ true) × (is_name sys p.1 ≡ true)) → AreKnown sys behind →
       AreKnown sys (pair_lines pairs behind)
   pairs_known [] behind named rest = rest
   pairs_known (pair ∷ pairs) behind named rest =
       let it = named pair (inl refl) in
       (both (is_name sys pair.0) (is_name sys pair.1) it.0 it.1, pairs_known pairs behind (λ other there. named other (inr there)) rest)
 
-  small_pairs : (pairs : List (ℕ × ℕ)) → ((p : ℕ × ℕ) → Among p pairs → (p.0 < most_names) × (p.1 < most_names)) → AreSmallPairs pairs
+  small_pairs : (pairs : List (ℕ × ℕ)) → ((p : ℕ × ℕ) → Among p pairs → (p.0 < most_names) × (p.1 < most_names))
+      → AreSmallPairs pairs
   small_pairs [] small = tt
   small_pairs (pair ∷ pairs) small = let it = small pair (inl refl) in (it.0, it.1, small_pairs pairs (λ other there. small other (inr there)))
 
@@ -205,7 +215,8 @@ module _ (sys : System) where
     part_pairs_small = small_pairs _
         (λ p there. let named = pair_named part p there in (small_name p.0 few named.0, small_name p.1 few named.1))
 
-    part_known : (behind : List Line) → AreKnown sys behind → AreKnown sys (set_lines (sets_of part (names_in sys)) (pair_lines (pairs_of part.pairs.items (names_in sys) (names_in sys)) behind))
+    part_known : (behind : List Line) → AreKnown sys behind
+        → AreKnown sys (set_lines (sets_of part (names_in sys)) (pair_lines (pairs_of part.pairs.items (names_in sys) (names_in sys)) behind))
     part_known behind rest = sets_known (sets_of part (names_in sys)) _ (set_named part) (pairs_known (pairs_of part.pairs.items (names_in sys) (names_in sys)) behind (pair_named part) rest)
 
   abbrev pub AreFew : List Order → Type 0
@@ -216,7 +227,8 @@ module _ (sys : System) where
 
   -- the certificates of all lattices
   module _ (few : length sys.constraints ≤ most_constraints) where
-    parts_fit : (orders : List Order) (parts : List Part) → AreFew orders → ArePlain sys orders parts → PartsFit (alls_of orders) (writtens parts)
+    parts_fit : (orders : List Order) (parts : List Part) → AreFew orders → ArePlain sys orders parts
+        → PartsFit (alls_of orders) (writtens parts)
     parts_fit [] [] fits plain = tt
     parts_fit [] (part ∷ parts) fits plain = absurd plain
     parts_fit (order ∷ orders) [] fits plain = absurd plain
@@ -226,7 +238,8 @@ module _ (sys : System) where
       parts_fit orders parts (λ n other there. fits (suc n) other there) plain.2,
     )
 
-    parts_small : (orders : List Order) (parts : List Part) → AreFew orders → ArePlain sys orders parts → AreSmallParts (writtens parts)
+    parts_small : (orders : List Order) (parts : List Part) → AreFew orders → ArePlain sys orders parts
+        → AreSmallParts (writtens parts)
     parts_small [] [] fits plain = tt
     parts_small [] (part ∷ parts) fits plain = absurd plain
     parts_small (order ∷ orders) [] fits plain = absurd plain
@@ -236,7 +249,8 @@ module _ (sys : System) where
       parts_small orders parts (λ n other there. fits (suc n) other there) plain.2,
     )
 
-    parts_known : (orders : List Order) (parts : List Part) (number : ℕ) → AreFew orders → ArePlain sys orders parts → AreKnown sys (part_lines number (writtens parts) [])
+    parts_known : (orders : List Order) (parts : List Part) (number : ℕ) → AreFew orders → ArePlain sys orders parts
+        → AreKnown sys (part_lines number (writtens parts) [])
     parts_known [] [] number fits plain = tt
     parts_known [] (part ∷ parts) number fits plain = absurd plain
     parts_known (order ∷ orders) [] number fits plain = absurd plain
@@ -245,7 +259,8 @@ module _ (sys : System) where
       part_known few order part plain.0 (fits 0 order refl) _ (parts_known orders parts (number + 1) (λ n other there. fits (suc n) other there) plain.2),
     )
 
-    as_many : (orders : List Order) (parts : List Part) → ArePlain sys orders parts → length (writtens parts) ≡ length orders
+    as_many : (orders : List Order) (parts : List Part) → ArePlain sys orders parts
+        → length (writtens parts) ≡ length orders
     as_many [] [] plain = refl
     as_many [] (part ∷ parts) plain = absurd plain
     as_many (order ∷ orders) [] plain = absurd plain

@@ -93,7 +93,8 @@ module _ (alls : List ℕ) where
   }
 
   -- the line of the next lattice
-  part_opens : (k n : ℕ) (lines : List Line) → n ≡ k + 1 → k < length alls → SetsLeft n None lines → PartsLeft k (Lattice n ∷ lines)
+  part_opens : (k n : ℕ) (lines : List Line) → n ≡ k + 1 → k < length alls → SetsLeft n None lines
+      → PartsLeft k (Lattice n ∷ lines)
   part_opens k n lines same low left =
       let less : n - 1 ≡ k = omega (arith, same) in
       record {
@@ -127,12 +128,14 @@ module _ (alls : List ℕ) where
   }
 
   -- where a section is given by a test, the test holds
-  by_test : {A : Type 0} → (section : Section) (behind : Section → Bool) (b : Bool) → passes_behind (cond b (Some section) None) behind ≡ true →
+  by_test : {A : Type 0} → (section : Section) (behind : Section → Bool) (b : Bool)
+      → passes_behind (cond b (Some section) None) behind ≡ true →
       (b ≡ true → behind section ≡ true → A) → A
   by_test section behind true h then_ = then_ refl h
   by_test section behind false h then_ = absurd cc
 
-  by_lattice : (k n : ℕ) (lines : List Line) → passes_behind (cond ((n == k + 1) && nat_lt k (length alls)) (Some (InSets n None)) None) (λ s. passes alls s lines) ≡ true →
+  by_lattice : (k n : ℕ) (lines : List Line)
+      → passes_behind (cond ((n == k + 1) && nat_lt k (length alls)) (Some (InSets n None)) None) (λ s. passes alls s lines) ≡ true →
       (passes alls (InSets n None) lines ≡ true → SetsLeft n None lines) → PartsLeft k (Lattice n ∷ lines)
   by_lattice k n lines h deeper = by_test (InSets n None) (λ s. passes alls s lines) ((n == k + 1) && nat_lt k (length alls)) h
       (λ test more. both_true (n == k + 1) (nat_lt k (length alls)) test
@@ -177,17 +180,21 @@ module _ (alls : List ℕ) where
   abbrev Behind : ℕ → List Line → Type 0
   Behind k lines = ((last : Option ℕ) → passes alls (InSets k last) lines ≡ true) × ((u v : ℕ) → passes alls (InPairs k u v) lines ≡ true)
 
-  sets_pass : (sets : List SetLine) (k : ℕ) (last : Option ℕ) (behind : List Line) → SetsFit (slice_index alls (k - 1)) last sets →
-      ((other : Option ℕ) → passes alls (InSets k other) behind ≡ true) → passes alls (InSets k last) (set_lines sets behind) ≡ true
+  sets_pass : (sets : List SetLine) (k : ℕ) (last : Option ℕ) (behind : List Line)
+      → SetsFit (slice_index alls (k - 1)) last sets →
+      ((other : Option ℕ) → passes alls (InSets k other) behind ≡ true)
+      → passes alls (InSets k last) (set_lines sets behind) ≡ true
   sets_pass [] k last behind fit ends = ends last
   sets_pass (it ∷ sets) k last behind fit ends = rw (fit.0, fit.1) (sets_pass sets k (Some it.name) behind fit.2 ends)
 
-  pairs_pass : (pairs : List (ℕ × ℕ)) (k u v : ℕ) (behind : List Line) → PairsFit (Some (u, v)) pairs → Behind k behind →
+  pairs_pass : (pairs : List (ℕ × ℕ)) (k u v : ℕ) (behind : List Line) → PairsFit (Some (u, v)) pairs
+      → Behind k behind →
       passes alls (InPairs k u v) (pair_lines pairs behind) ≡ true
   pairs_pass [] k u v behind fit ends = ends.1 u v
   pairs_pass ((from, to) ∷ pairs) k u v behind fit ends = rw fit.0 (pairs_pass pairs k from to behind fit.1 ends)
 
-  pairs_begin : (pairs : List (ℕ × ℕ)) (k : ℕ) (last : Option ℕ) (behind : List Line) → PairsFit None pairs → Behind k behind →
+  pairs_begin : (pairs : List (ℕ × ℕ)) (k : ℕ) (last : Option ℕ) (behind : List Line) → PairsFit None pairs
+      → Behind k behind →
       passes alls (InSets k last) (pair_lines pairs behind) ≡ true
   pairs_begin [] k last behind fit ends = ends.0 last
   pairs_begin ((from, to) ∷ pairs) k last behind fit ends = pairs_pass pairs k from to behind fit.1 ends
@@ -205,7 +212,8 @@ module _ (alls : List ℕ) where
     | inr high ↦ omega (arith, high, within)
   ]
 
-  parts_pass : (parts : List Written) (k : ℕ) → k ≤ length alls → PartsFit (drop k alls) parts → Behind k (part_lines (k + 1) parts [])
+  parts_pass : (parts : List Written) (k : ℕ) → k ≤ length alls → PartsFit (drop k alls) parts
+      → Behind k (part_lines (k + 1) parts [])
   parts_pass [] k within fit =
       let ends : (length alls == k) ≡ true = subst (λ (n : ℕ). (n == k) ≡ true) (sym (whole_of k within fit)) (number_same k) in
       (λ last. ends, λ u v. ends)
@@ -241,7 +249,8 @@ module _ (alls : List ℕ) where
   blanks_fit [] = tt
   blanks_fit (all ∷ some) = (tt, tt, blanks_fit some)
 
-  pub completes : (section : Section) → begun section ≤ length alls → (behind : List Line) × (passes alls section behind ≡ true)
+  pub completes : (section : Section) → begun section ≤ length alls
+      → (behind : List Line) × (passes alls section behind ≡ true)
   completes Start within = (lines_of_parts (blanks alls), parts_are_passed (blanks alls) (blanks_fit alls))
   completes Opened within = (part_lines 1 (blanks alls) [], opened_passes (blanks alls) (blanks_fit alls))
   completes (InSets k last) within =
@@ -250,16 +259,19 @@ module _ (alls : List ℕ) where
       (part_lines (k + 1) (blanks (drop k alls)) [], (parts_pass (blanks (drop k alls)) k within (blanks_fit (drop k alls))).1 u v)
 
   -- a line leads to a section of a lattice that there is
-  by_some : {A : Type 0} → (section to : Section) (b : Bool) → cond b (Some section) None ≡ Some to → (b ≡ true → section ≡ to → A) → A
+  by_some : {A : Type 0} → (section to : Section) (b : Bool) → cond b (Some section) None ≡ Some to
+      → (b ≡ true → section ≡ to → A) → A
   by_some section to true h then_ = then_ refl cc
   by_some section to false h then_ = absurd cc
 
-  lattice_begun : (k n : ℕ) (to : Section) → cond ((n == k + 1) && nat_lt k (length alls)) (Some (InSets n None)) None ≡ Some to → begun to ≤ length alls
+  lattice_begun : (k n : ℕ) (to : Section)
+      → cond ((n == k + 1) && nat_lt k (length alls)) (Some (InSets n None)) None ≡ Some to → begun to ≤ length alls
   lattice_begun k n to h = by_some (InSets n None) to ((n == k + 1) && nat_lt k (length alls)) h
       (λ test is. both_true (n == k + 1) (nat_lt k (length alls)) test
       (λ same low. subst (λ (s : Section). begun s ≤ length alls) is (omega (arith, same_number n (k + 1) same, is_low k (length alls) low))))
 
-  pub begun_behind : (section to : Section) (line : Line) → begun section ≤ length alls → next alls section line ≡ Some to → begun to ≤ length alls
+  pub begun_behind : (section to : Section) (line : Line) → begun section ≤ length alls
+      → next alls section line ≡ Some to → begun to ≤ length alls
   begun_behind Start to Certificate within h = let is : Opened ≡ to = cc in subst (λ (s : Section). begun s ≤ length alls) is (omega arith)
   begun_behind Start to (Lattice n) within h = absurd cc
   begun_behind Start to (Set name first second) within h = absurd cc

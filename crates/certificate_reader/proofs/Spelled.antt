@@ -43,7 +43,8 @@ certificate_begins : line_kind (codes "certificate") ≡ Certificate
 unfolding line_kind
 certificate_begins = refl
 
-name_by : (name : ℕ) (b : Bool) → (name % 2 == 0) ≡ b → name < most_names → end_in (decimal (name / 2) ++ cond b (codes "a") (codes "b")) ≡ Some name
+name_by : (name : ℕ) (b : Bool) → (name % 2 == 0) ≡ b → name < most_names
+    → end_in (decimal (name / 2) ++ cond b (codes "a") (codes "b")) ≡ Some name
 name_by name true is small =
     let even : name % 2 ≡ 0 = grind (arith, is) in
     let same : 2 * min (name / 2) (2 ^ 31 - 1) + 0 ≡ name = omega (arith, even, small) in
@@ -137,7 +138,8 @@ abbrev pub AreSmallParts : List Written → Type 0
 AreSmallParts [] = Unit {0}
 AreSmallParts (part ∷ parts) = AreSmallSets part.sets × AreSmallPairs part.pairs × AreSmallParts parts
 
-sets_lines : (sets : List SetLine) (rest : List ℕ) → AreSmallSets sets → lines_of (sets_text sets ++ rest) ≡ set_lines sets (lines_of rest)
+sets_lines : (sets : List SetLine) (rest : List ℕ) → AreSmallSets sets
+    → lines_of (sets_text sets ++ rest) ≡ set_lines sets (lines_of rest)
 sets_lines [] rest small = refl
 sets_lines (it ∷ sets) rest small =
     ap lines_of (append_assoc (set_text it) (sets_text sets) rest)
@@ -145,7 +147,8 @@ sets_lines (it ∷ sets) rest small =
     ∙ ap (λ (kind : Line). kind ∷ lines_of (sets_text sets ++ rest)) (set_is it small.0)
     ∙ ap (λ (ls : List Line). Set it.name it.first it.second ∷ ls) (sets_lines sets rest small.1)
 
-pairs_lines : (pairs : List (ℕ × ℕ)) (rest : List ℕ) → AreSmallPairs pairs → lines_of (pairs_text pairs ++ rest) ≡ pair_lines pairs (lines_of rest)
+pairs_lines : (pairs : List (ℕ × ℕ)) (rest : List ℕ) → AreSmallPairs pairs
+    → lines_of (pairs_text pairs ++ rest) ≡ pair_lines pairs (lines_of rest)
 pairs_lines [] rest small = refl
 pairs_lines (pair ∷ pairs) rest small =
     ap lines_of (append_assoc (pair_text pair) (pairs_text pairs) rest)
@@ -156,7 +159,8 @@ pairs_lines (pair ∷ pairs) rest small =
 four_parts : (a b c rest : List ℕ) → a ++ b ++ c ++ rest ≡ a ++ (b ++ (c ++ rest))
 four_parts a b c rest = append_assoc (a ++ b) c rest ∙ append_assoc a b (c ++ rest)
 
-parts_lines : (parts : List Written) (number : ℕ) → AreSmallParts parts → number + length parts ≤ 2 ^ 32 - 1 → lines_of (parts_text number parts) ≡ part_lines number parts []
+parts_lines : (parts : List Written) (number : ℕ) → AreSmallParts parts → number + length parts ≤ 2 ^ 32 - 1
+    → lines_of (parts_text number parts) ≡ part_lines number parts []
 parts_lines [] number small few = refl
 parts_lines (part ∷ parts) number small few =
     let sets = sets_text part.sets in
@@ -169,7 +173,8 @@ parts_lines (part ∷ parts) number small few =
     (sets_lines part.sets (pairs ++ rest) small.0
     ∙ ap (set_lines part.sets) (pairs_lines part.pairs rest small.1 ∙ ap (pair_lines part.pairs) (parts_lines parts (number + 1) small.2 (omega (arith, few)))))
 
-pub text_lines : (parts : List Written) → AreSmallParts parts → length parts < 2 ^ 32 - 1 → lines_of (text_of parts) ≡ lines_of_parts parts
+pub text_lines : (parts : List Written) → AreSmallParts parts → length parts < 2 ^ 32 - 1
+    → lines_of (text_of parts) ≡ lines_of_parts parts
 text_lines parts small few =
     line_first (codes "certificate") (parts_text 1 parts) refl
     ∙ ap (λ (kind : Line). kind ∷ lines_of (parts_text 1 parts)) certificate_begins
@@ -195,7 +200,8 @@ Spells kind bytes = IsSmallLine kind → IsSpelled kind bytes
 
 -- what stands behind a word
 -- the number and the letter of a name
-by_end : (digits : List ℕ) (second name : ℕ) (o : Option ℕ) → number_of digits ≡ o → end_of o second ≡ Some name → second ≤ 1 → name < most_names →
+by_end : (digits : List ℕ) (second name : ℕ) (o : Option ℕ) → number_of digits ≡ o → end_of o second ≡ Some name
+    → second ≤ 1 → name < most_names →
     (digits ≡ decimal (name / 2)) × (name % 2 ≡ second)
 by_end digits second name (Some n) is h low small =
     let value : 2 * min n (2 ^ 31 - 1) + second ≡ name = cc in
@@ -231,7 +237,8 @@ name_of_end (x ∷ xs) name h small =
     subst (λ (k : ℕ). by_letter (number_of (take k (x ∷ xs))) (slice_index (x ∷ xs) k) ≡ Some name) less h in
     sym whole ∙ named digits last name (last == 97) (last == 98) refl refl read small
 
-bits_by : (bytes : List ℕ) (set n : ℕ) (b : Bool) → nat_lt n (2 ^ 64) ≡ b → number_of bytes ≡ Some n → cond b (Some n) None ≡ Some set → bytes ≡ decimal set
+bits_by : (bytes : List ℕ) (set n : ℕ) (b : Bool) → nat_lt n (2 ^ 64) ≡ b → number_of bytes ≡ Some n
+    → cond b (Some n) None ≡ Some set → bytes ≡ decimal set
 bits_by bytes set n true is read h =
     let fits : n < 2 ^ 64 = grind (arith, is) in
     let same : n ≡ set = cc in
@@ -243,7 +250,8 @@ bits_are bytes set (Some n) is h = bits_by bytes set n (nat_lt n (2 ^ 64)) refl 
 bits_are bytes set None is h = absurd cc
 
 -- the parts of a line of sets, of a line of a pair and of a line of a lattice
-by_sets : (bytes a b c : List ℕ) (name first second : Option ℕ) → bytes ≡ codes "  set " ++ (a ++ 32 ∷ (b ++ 32 ∷ c)) → end_in a ≡ name → bits_of (number_of b) ≡ first →
+by_sets : (bytes a b c : List ℕ) (name first second : Option ℕ) → bytes ≡ codes "  set " ++ (a ++ 32 ∷ (b ++ 32 ∷ c))
+    → end_in a ≡ name → bits_of (number_of b) ≡ first →
     bits_of (number_of c) ≡ second → Spells (set_line name first second) bytes
 by_sets bytes a b c (Some n) (Some f) (Some s) is name first second small =
     is ∙ ap (λ (t : List ℕ). codes "  set " ++ t)
@@ -255,7 +263,8 @@ by_sets bytes a b c (Some n) (Some f) None is name first second small = tt
 by_sets bytes a b c (Some n) None s is name first second small = tt
 by_sets bytes a b c None f s is name first second small = tt
 
-by_pairs : (bytes a b : List ℕ) (from to : Option ℕ) → bytes ≡ codes "  pair " ++ (a ++ 32 ∷ b) → end_in a ≡ from → end_in b ≡ to → Spells (pair_line from to) bytes
+by_pairs : (bytes a b : List ℕ) (from to : Option ℕ) → bytes ≡ codes "  pair " ++ (a ++ 32 ∷ b) → end_in a ≡ from
+    → end_in b ≡ to → Spells (pair_line from to) bytes
 by_pairs bytes a b (Some m) (Some n) is from to small =
     is ∙ ap (λ (t : List ℕ). codes "  pair " ++ t)
     (ap (λ (x : List ℕ). x ++ 32 ∷ b) (name_of_end a m from small.0)
@@ -264,13 +273,15 @@ by_pairs bytes a b (Some m) (Some n) is from to small =
 by_pairs bytes a b (Some m) None is from to small = tt
 by_pairs bytes a b None n is from to small = tt
 
-lattice_spells : (bytes numeral : List ℕ) (o : Option ℕ) → bytes ≡ codes "lattice " ++ numeral → number_of numeral ≡ o → Spells (lattice_line o) bytes
+lattice_spells : (bytes numeral : List ℕ) (o : Option ℕ) → bytes ≡ codes "lattice " ++ numeral → number_of numeral ≡ o
+    → Spells (lattice_line o) bytes
 lattice_spells bytes numeral (Some n) is read small =
     let same : min n (2 ^ 32 - 1) ≡ n = omega (arith, small) in
     is ∙ ap (λ (t : List ℕ). codes "lattice " ++ t) (decimal_of numeral n (omega (arith, small)) read) ∙ ap (λ (m : ℕ). lattice_bytes m) (sym same)
 lattice_spells bytes numeral None is read small = tt
 
-set_spells : (bytes rest : List ℕ) (ws : List (List ℕ)) → bytes ≡ codes "  set " ++ rest → rest ≡ join_with_byte 32 ws → Spells (set_kind ws) bytes
+set_spells : (bytes rest : List ℕ) (ws : List (List ℕ)) → bytes ≡ codes "  set " ++ rest → rest ≡ join_with_byte 32 ws
+    → Spells (set_kind ws) bytes
 set_spells bytes rest [] is parts small = tt
 set_spells bytes rest (a ∷ []) is parts small = tt
 set_spells bytes rest (a ∷ b ∷ []) is parts small = tt
@@ -278,7 +289,8 @@ set_spells bytes rest (a ∷ b ∷ c ∷ []) is parts small =
     by_sets bytes a b c (end_in a) (bits_of (number_of b)) (bits_of (number_of c)) (is ∙ ap (λ (t : List ℕ). codes "  set " ++ t) parts) refl refl refl small
 set_spells bytes rest (a ∷ b ∷ c ∷ d ∷ more) is parts small = tt
 
-pair_spells : (bytes rest : List ℕ) (ws : List (List ℕ)) → bytes ≡ codes "  pair " ++ rest → rest ≡ join_with_byte 32 ws → Spells (pair_kind ws) bytes
+pair_spells : (bytes rest : List ℕ) (ws : List (List ℕ)) → bytes ≡ codes "  pair " ++ rest → rest ≡ join_with_byte 32 ws
+    → Spells (pair_kind ws) bytes
 pair_spells bytes rest [] is parts small = tt
 pair_spells bytes rest (a ∷ []) is parts small = tt
 pair_spells bytes rest (a ∷ b ∷ []) is parts small = by_pairs bytes a b (end_in a) (end_in b) (is ∙ ap (λ (t : List ℕ). codes "  pair " ++ t) parts) refl refl small
@@ -293,11 +305,13 @@ sets_spell : (bytes : List ℕ) (o : Option (List ℕ)) → behind (codes "  set
 sets_spell bytes (Some rest) is small = set_spells bytes rest (words rest) (behind_is (codes "  set ") bytes rest is) (joined rest (words rest) refl) small
 sets_spell bytes None is small = pairs_spell bytes (behind (codes "  pair ") bytes) refl small
 
-lattices_spell : (bytes : List ℕ) (o : Option (List ℕ)) → behind (codes "lattice ") bytes ≡ o → Spells (by_lattice o bytes) bytes
+lattices_spell : (bytes : List ℕ) (o : Option (List ℕ)) → behind (codes "lattice ") bytes ≡ o
+    → Spells (by_lattice o bytes) bytes
 lattices_spell bytes (Some numeral) is small = lattice_spells bytes numeral (number_of numeral) (behind_is (codes "lattice ") bytes numeral is) refl small
 lattices_spell bytes None is small = sets_spell bytes (behind (codes "  set ") bytes) refl small
 
-certificate_spells : (bytes : List ℕ) (b : Bool) → bytes_eq bytes (codes "certificate") ≡ b → Spells (cond b Certificate (by_lattice (behind (codes "lattice ") bytes) bytes)) bytes
+certificate_spells : (bytes : List ℕ) (b : Bool) → bytes_eq bytes (codes "certificate") ≡ b
+    → Spells (cond b Certificate (by_lattice (behind (codes "lattice ") bytes) bytes)) bytes
 certificate_spells bytes true is small = (bytes_eq-Decides bytes (codes "certificate")).0 is
 certificate_spells bytes false is small = lattices_spell bytes (behind (codes "lattice ") bytes) refl small
 

@@ -19,14 +19,16 @@ use Rattle.certificate_reader.proofs.Placed.{fault_is_placed}
 use Rattle.certificate_reader.proofs.Plain.{read_shaped, read_known}
 
 -- there are as many lattices as orders, and as sets of all elements
-pub few_alls : (lattices : List LatticeView) (alls : List ℕ) → alls ≡ alls_of (orders_of lattices) → length lattices ≤ 16 → length alls ≤ 16
+pub few_alls : (lattices : List LatticeView) (alls : List ℕ) → alls ≡ alls_of (orders_of lattices)
+    → length lattices ≤ 16 → length alls ≤ 16
 few_alls lattices alls are few =
     let one : length (orders_of lattices) ≡ length lattices = length-map lattices (λ (view : LatticeView). view.order) in
     let two : length (alls_of (orders_of lattices)) ≡ length (orders_of lattices) = length-map (orders_of lattices) (λ (order : Order). all_of order) in
     let three : length alls ≡ length (alls_of (orders_of lattices)) = ap length are in
     omega (arith, few, one, two, three)
 
-pub bounded_of : (sys : System) (lattices : List LatticeView) → length sys.constraints ≤ most_constraints → length lattices ≤ 16 → AreSmall (length lattices) (orders_of lattices) →
+pub bounded_of : (sys : System) (lattices : List LatticeView) → length sys.constraints ≤ most_constraints
+    → length lattices ≤ 16 → AreSmall (length lattices) (orders_of lattices) →
     IsBounded sys (orders_of lattices)
 bounded_of sys lattices few many small =
     let one : length (orders_of lattices) ≡ length lattices = length-map lattices (λ (view : LatticeView). view.order) in
@@ -43,7 +45,8 @@ module _ (sys : System) (orders : List Order) (alls : List ℕ) (are : alls ≡ 
     made_plain sys orders parts (subst (λ (as_ : List ℕ). AreMade sys as_ parts) are is.made) (is.whole ∙ ap length are),
   )
 
-  pub faults_placed : {A : Type 0} → (r : Result A CertFault) → IfErr r (λ e. (e ≡ NoMemory) ⊎ (fault_from sys alls Start 1 (lines_of bytes) ≡ Some e)) →
+  pub faults_placed : {A : Type 0} → (r : Result A CertFault)
+      → IfErr r (λ e. (e ≡ NoMemory) ⊎ (fault_from sys alls Start 1 (lines_of bytes) ≡ Some e)) →
       IfErr r (IsPlaced sys orders (lines_of bytes))
   faults_placed (Ok x) h = tt
   faults_placed (Err e) (inl is) = subst (λ (f : CertFault). IsPlaced sys orders (lines_of bytes) f) (sym is) tt
@@ -51,7 +54,8 @@ module _ (sys : System) (orders : List Order) (alls : List ℕ) (are : alls ≡ 
       fault_is_placed sys orders (lines_of bytes) e (subst (λ (as_ : List ℕ). fault_from sys as_ Start 1 (lines_of bytes) ≡ Some e) are is)
 
 -- a text that reads as certificates is refused for want of memory alone
-pub refused_for_memory : {A : Type 0} → (sys : System) (orders : List Order) (bytes : List ℕ) (r : Result A CertFault) → IsBounded sys orders → IfErr r (IsPlaced sys orders (lines_of bytes)) →
+pub refused_for_memory : {A : Type 0} → (sys : System) (orders : List Order) (bytes : List ℕ) (r : Result A CertFault)
+    → IsBounded sys orders → IfErr r (IsPlaced sys orders (lines_of bytes)) →
     IfErr r (λ fault. fault ≢ NoMemory → (parts : List Part) → ReadsAs sys orders bytes parts → ⊥)
 refused_for_memory sys orders bytes (Ok x) bounded placed = tt
 refused_for_memory sys orders bytes (Err e) bounded placed = λ other parts reads.

@@ -5,7 +5,8 @@ use Rattle.certificate_reader.specs.declared.lines.Line.TheVariants.{Other}
 use Rattle.certificate_reader.specs.Lines.{set_kind, pair_kind}
 
 -- there is a first word
-pub split_parts : (test : ℕ → Bool) (xs : List ℕ) → (part : List ℕ) × (parts : List (List ℕ)) × (slice_split test xs ≡ part ∷ parts)
+pub split_parts : (test : ℕ → Bool) (xs : List ℕ)
+    → (part : List ℕ) × (parts : List (List ℕ)) × (slice_split test xs ≡ part ∷ parts)
 split_parts test [] = ([], [], refl)
 split_parts test (x ∷ xs) =
     let deeper = split_parts test xs in

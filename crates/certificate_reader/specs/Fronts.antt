@@ -4,7 +4,8 @@ use Rattle.std.specs.List.{slice_split}
 use Rattle.certificate_reader.specs.declared.lines.Line.{Line}
 use Rattle.certificate_reader.specs.Lines.{line_kind, words}
 
--- The text begins with a word that is read as a number, and this is what stands behind it. The word has no space and no line feed:
+-- The text begins with a word that is read as a number, and this is what stands behind it. The word has no space and no
+-- line feed:
 -- none of its bytes is below the digit 0.
 pub record BeginsWith (read : List ℕ → Option ℕ) (text : List ℕ) (n : ℕ) (rest : List ℕ) : Type 0 where
   pub word : List ℕ

@@ -11,13 +11,15 @@ use Rattle.certificate_text.specs.Order.{pair_cmp}
 abbrev pub SetsExist : System → List SetLine → Type 0
 SetsExist sys sets = (k : ℕ) (it : SetLine) → slice_get sets k ≡ Some it → it.name < 2 * length sys.constraints
 
+-- the names of pairs are ends that there are
 abbrev pub PairsExist : System → List (ℕ × ℕ) → Type 0
 PairsExist sys pairs = (k : ℕ) (pair : ℕ × ℕ) → slice_get pairs k ≡ Some pair → (pair.0 < 2 * length sys.constraints) × (pair.1 < 2 * length sys.constraints)
 
--- the variable at an end, and those of a pair
+-- the variable at an end
 abbrev pub var_at : System → ℕ → ℕ
 var_at sys end = slice_index (ends_in sys) end
 
+-- the variables at the two ends of a pair
 abbrev pub vars_at : System → ℕ × ℕ → ℕ × ℕ
 vars_at sys pair = (var_at sys pair.0, var_at sys pair.1)
 

@@ -54,7 +54,8 @@ abbrev pub fault_behind : System → ℕ → Line → Option Section → (Sectio
 fault_behind sys n line None behind = Some (Grammar n)
 fault_behind sys n line (Some section) behind = if is_known sys line then behind section else Some (NoSuchVariable n)
 
--- The first line that may not stand where it does or that has a name of no variable, of lines from number n on. Where the end
+-- The first line that may not stand where it does or that has a name of no variable, of lines from number n on. Where
+-- the end
 -- comes too soon, it is the line behind the last.
 abbrev pub fault_from : System → List ℕ → Section → ℕ → List Line → Option CertFault
 fault_from sys alls section n [] = if may_end alls section then None else Some (Grammar n)

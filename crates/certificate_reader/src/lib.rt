@@ -1,4 +1,7 @@
 //! The reader of certificates.
+//!
+//! Entry: `read_certificate`. Invariant: a text has one reading or one first bad line.
+//! It does not know how certificates are made or tested. Above: `certificate_checks`.
 #![tactic(auto)]
 
 mod fronts;

@@ -9,7 +9,8 @@ use Rattle.certificate_text.specs.Names.{first_end, second_end, ends_of, first_f
 some_is : {A : Type 0} → {x y : A} → Some x ≡ Some y → x ≡ y
 some_is e = cc
 
-pub first_there : (cs : List Constraint) (n k : ℕ) (c : Constraint) → slice_get cs n ≡ Some c → k ≡ 2 * n → slice_get (ends_of cs) k ≡ Some (first_end c.link)
+pub first_there : (cs : List Constraint) (n k : ℕ) (c : Constraint) → slice_get cs n ≡ Some c → k ≡ 2 * n
+    → slice_get (ends_of cs) k ≡ Some (first_end c.link)
 first_there [] n k c there is = absurd cc
 first_there (x ∷ cs) zero k c there is =
     let same : k ≡ 0 = omega (arith, is) in
@@ -18,7 +19,8 @@ first_there (x ∷ cs) (suc n) k c there is =
     let same : k ≡ suc (suc (2 * n)) = omega (arith, is) in
     rw same (first_there cs n (2 * n) c there refl)
 
-pub second_there : (cs : List Constraint) (n k : ℕ) (c : Constraint) → slice_get cs n ≡ Some c → k ≡ 2 * n + 1 → slice_get (ends_of cs) k ≡ Some (second_end c.link)
+pub second_there : (cs : List Constraint) (n k : ℕ) (c : Constraint) → slice_get cs n ≡ Some c → k ≡ 2 * n + 1
+    → slice_get (ends_of cs) k ≡ Some (second_end c.link)
 second_there [] n k c there is = absurd cc
 second_there (x ∷ cs) zero k c there is =
     let same : k ≡ suc 0 = omega (arith, is) in
@@ -46,7 +48,8 @@ ends_length [] = refl
 ends_length (c ∷ cs) = let rest = ends_length cs in omega (arith, rest)
 
 -- what is left from a place on begins with what stands there
-pub drop_there : {A : Type 0} → (xs : List A) (k : ℕ) (x : A) → slice_get xs k ≡ Some x → drop k xs ≡ x ∷ drop (suc k) xs
+pub drop_there : {A : Type 0} → (xs : List A) (k : ℕ) (x : A) → slice_get xs k ≡ Some x
+    → drop k xs ≡ x ∷ drop (suc k) xs
 drop_there [] k x there = absurd cc
 drop_there (y ∷ xs) zero x there = ap (λ z. z ∷ xs) (some_is there)
 drop_there (y ∷ xs) (suc k) x there = drop_there xs k x there
@@ -69,7 +72,8 @@ same_next : (u v : ℕ) → (suc u == suc v) ≡ (u == v)
 same_next u v = grind arith
 
 -- a table where one more name is noted
-pub noted : (table : List (Option ℕ)) (u v k : ℕ) → u < length table → name_in (slice_set table u (Some k)) v ≡ (if u == v then Some k else name_in table v)
+pub noted : (table : List (Option ℕ)) (u v k : ℕ) → u < length table
+    → name_in (slice_set table u (Some k)) v ≡ (if u == v then Some k else name_in table v)
 noted [] u v k within = absurd (omega (arith, within))
 noted (x ∷ table) zero zero k within = refl
 noted (x ∷ table) zero (suc v) k within = rw (ne_eqb 0 (suc v) (λ e. omega (arith, e))) refl
@@ -78,6 +82,7 @@ noted (x ∷ table) (suc u) (suc v) k within = rw (same_next u v) (noted table u
 
 -- the names of ends from one on, and of one more before them
 pub known_before : (table : List (Option ℕ)) (ends : List ℕ) (k u : ℕ) → slice_get ends k ≡ Some u → u < length table →
-    ((v : ℕ) → name_in table v ≡ first_from (k + 1) (drop (suc k) ends) v) → (v : ℕ) → name_in (slice_set table u (Some k)) v ≡ first_from k (drop k ends) v
+    ((v : ℕ) → name_in table v ≡ first_from (k + 1) (drop (suc k) ends) v) → (v : ℕ)
+    → name_in (slice_set table u (Some k)) v ≡ first_from k (drop k ends) v
 known_before table ends k u there within known v =
     noted table u v k within ∙ ap (λ o. if u == v then Some k else o) (known v) ∙ ap (λ xs. first_from k xs v) (sym (drop_there ends k u there))

@@ -38,14 +38,16 @@ module _ {A : Type 0} (Before : A → A → Type 0) where
   Rises [] = Unit {0}
   Rises (x ∷ xs) = ((y : A) → Among y xs → Before x y) × Rises xs
 
-  pub rises_append : (xs ys : List A) → Rises xs → Rises ys → ((x y : A) → Among x xs → Among y ys → Before x y) → Rises (xs ++ ys)
+  pub rises_append : (xs ys : List A) → Rises xs → Rises ys → ((x y : A) → Among x xs → Among y ys → Before x y)
+      → Rises (xs ++ ys)
   rises_append [] ys one other between = other
   rises_append (x ∷ xs) ys one other between = (
     λ y there. elim (among_either xs ys y there) [ inl a ↦ one.0 y a | inr b ↦ between x y (inl refl) b ],
     rises_append xs ys one.1 other (λ u v a b. between u v (inr a) b),
   )
 
-  pub same_rising : (never : (x y : A) → Before x y → Before y x → ⊥) → (xs ys : List A) → Rises xs → Rises ys → ((x : A) → Among x xs → Among x ys) →
+  pub same_rising : (never : (x y : A) → Before x y → Before y x → ⊥) → (xs ys : List A) → Rises xs → Rises ys
+      → ((x : A) → Among x xs → Among x ys) →
       ((x : A) → Among x ys → Among x xs) → xs ≡ ys
   same_rising never [] [] one other to from = refl
   same_rising never [] (y ∷ ys) one other to from = absurd (from y (inl refl))

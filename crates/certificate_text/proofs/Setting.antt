@@ -28,7 +28,8 @@ sets_step sys part k v there =
     ∙ ap sets_text (sets_of-append part (named_at sys k v) (names_from sys (k + 1) (drop (k + 1) (ends_in sys))))
     ∙ sets_text-append (sets_of part (named_at sys k v)) (sets_of part (names_from sys (k + 1) (drop (k + 1) (ends_in sys))))
 
-pub put_more : (out after total step rest whole : List ℕ) → out ++ whole ≡ total → whole ≡ step ++ rest → after ≡ out ++ step → after ++ rest ≡ total
+pub put_more : (out after total step rest whole : List ℕ) → out ++ whole ≡ total → whole ≡ step ++ rest
+    → after ≡ out ++ step → after ++ rest ≡ total
 put_more out after total step rest whole is parts puts = ap (λ t. t ++ rest) puts ∙ append_assoc out step rest ∙ ap (λ t. out ++ t) (sym parts) ∙ is
 
 -- there is a variable at each end

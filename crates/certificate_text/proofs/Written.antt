@@ -28,7 +28,8 @@ never_both p q (inl a) (inr b) = omega (arith, a, b.0)
 never_both p q (inr a) (inl b) = omega (arith, a.0, b)
 never_both p q (inr a) (inr b) = omega (arith, a.1, b.1)
 
-less_is : (p q : ℕ × ℕ) (a b : Ordering) → MatchOrdering a (p.0 < q.0) (p.0 ≡ q.0) (q.0 < p.0) → MatchOrdering b (p.1 < q.1) (p.1 ≡ q.1) (q.1 < p.1) →
+less_is : (p q : ℕ × ℕ) (a b : Ordering) → MatchOrdering a (p.0 < q.0) (p.0 ≡ q.0) (q.0 < p.0)
+    → MatchOrdering b (p.1 < q.1) (p.1 ≡ q.1) (q.1 < p.1) →
     ordering_then a b ≡ Less → Earlier p q
 less_is p q Less b one other e = inl one
 less_is p q Equal Less one other e = inr (one, other)
@@ -39,7 +40,8 @@ less_is p q Greater b one other e = absurd cc
 pub earlier_less : (p q : ℕ × ℕ) → pair_cmp p q ≡ Less → Earlier p q
 earlier_less p q e = less_is p q (nat_cmp p.0 q.0) (nat_cmp p.1 q.1) (ranked p.0 q.0 _ refl) (ranked p.1 q.1 _ refl) e
 
-all_earlier : (p : ℕ × ℕ) (qs : List (ℕ × ℕ)) → AllByRecursion (λ q. pair_cmp p q ≡ Less) qs → (q : ℕ × ℕ) → Among q qs → Earlier p q
+all_earlier : (p : ℕ × ℕ) (qs : List (ℕ × ℕ)) → AllByRecursion (λ q. pair_cmp p q ≡ Less) qs → (q : ℕ × ℕ) → Among q qs
+    → Earlier p q
 all_earlier p [] all q there = absurd there
 all_earlier p (r ∷ qs) all q (inl is) = earlier_less p q (subst (λ s. pair_cmp p s ≡ Less) (sym is) all.0)
 all_earlier p (r ∷ qs) all q (inr later) = all_earlier p qs all.1 q later
@@ -62,7 +64,8 @@ pub first_is : (ends : List ℕ) (k v n : ℕ) → first_from k ends v ≡ Some 
 first_is [] k v n is = absurd cc
 first_is (u ∷ ends) k v n is = by_test (λ e. first_is ends (k + 1) v n e) (u == v) refl is
   where
-    by_test : (first_from (k + 1) ends v ≡ Some n → (k + 1 ≤ n) × (slice_get ends (n - (k + 1)) ≡ Some v)) → (b : Bool) → (u == v) ≡ b →
+    by_test : (first_from (k + 1) ends v ≡ Some n → (k + 1 ≤ n) × (slice_get ends (n - (k + 1)) ≡ Some v)) → (b : Bool)
+        → (u == v) ≡ b →
         cond b (Some k) (first_from (k + 1) ends v) ≡ Some n → (k ≤ n) × (slice_get (u ∷ ends) (n - k) ≡ Some v)
     by_test further true same e =
         let here : k ≡ n = cc in
@@ -85,13 +88,15 @@ module _ (sys : System) where
   named_is : (x : Named) (k v : ℕ) → Among x (named_at sys k v) → (x.name ≡ k) × (name_of sys x.var ≡ Some x.name)
   named_is x k v there = by_test (is_at (name_of sys v) k) refl there
     where
-      by_test : (b : Bool) → is_at (name_of sys v) k ≡ b → Among x (cond b (record { name = k; var = v } ∷ []) []) → (x.name ≡ k) × (name_of sys x.var ≡ Some x.name)
+      by_test : (b : Bool) → is_at (name_of sys v) k ≡ b → Among x (cond b (record { name = k; var = v } ∷ []) [])
+          → (x.name ≡ k) × (name_of sys x.var ≡ Some x.name)
       by_test true is (inl same) = let name : x.name ≡ k = ap (λ (y : Named). y.name) same in let var : x.var ≡ v = ap (λ (y : Named). y.var) same in
           (name, ap (name_of sys) var ∙ at_is (name_of sys v) k is ∙ ap Some (sym name))
       by_test true is (inr none) = absurd none
       by_test false is none = absurd none
 
-  pub names_are : (ends : List ℕ) (k : ℕ) (x : Named) → Among x (names_from sys k ends) → (k ≤ x.name) × (name_of sys x.var ≡ Some x.name)
+  pub names_are : (ends : List ℕ) (k : ℕ) (x : Named) → Among x (names_from sys k ends)
+      → (k ≤ x.name) × (name_of sys x.var ≡ Some x.name)
   names_are [] k x there = absurd there
   names_are (v ∷ ends) k x there = elim (among_either (named_at sys k v) (names_from sys (k + 1) ends) x there) [
     | inl here ↦ let is = named_is x k v here in (omega (arith, is.0), is.1)
@@ -138,10 +143,12 @@ module _ (sys : System) where
     pub from_is : name_of sys from ≡ Some p.0
     pub to_is : name_of sys to ≡ Some p.1
 
-  pair_is : (pairs : List (ℕ × ℕ)) (x y : Named) (p : ℕ × ℕ) → Among p (pair_of pairs x y) → (is_among pairs x.var y.var ≡ true) × (p ≡ (x.name, y.name))
+  pair_is : (pairs : List (ℕ × ℕ)) (x y : Named) (p : ℕ × ℕ) → Among p (pair_of pairs x y)
+      → (is_among pairs x.var y.var ≡ true) × (p ≡ (x.name, y.name))
   pair_is pairs x y p there = by_test (is_among pairs x.var y.var) refl there
     where
-      by_test : (b : Bool) → is_among pairs x.var y.var ≡ b → Among p (cond b ((x.name, y.name) ∷ []) []) → (is_among pairs x.var y.var ≡ true) × (p ≡ (x.name, y.name))
+      by_test : (b : Bool) → is_among pairs x.var y.var ≡ b → Among p (cond b ((x.name, y.name) ∷ []) [])
+          → (is_among pairs x.var y.var ≡ true) × (p ≡ (x.name, y.name))
       by_test true is (inl same) = (is, same)
       by_test true is (inr none) = absurd none
       by_test false is none = absurd none
@@ -162,7 +169,8 @@ module _ (sys : System) where
     | inr later ↦ let is = pairs_are pairs names others p later in (is.0, is.1, inr is.2, is.3, is.4, is.5)
   ]
 
-  pub written_pair : (pairs : List (ℕ × ℕ)) (p : ℕ × ℕ) → Among p (pairs_of pairs (names_in sys) (names_in sys)) → IsNamedPair pairs p
+  pub written_pair : (pairs : List (ℕ × ℕ)) (p : ℕ × ℕ) → Among p (pairs_of pairs (names_in sys) (names_in sys))
+      → IsNamedPair pairs p
   written_pair pairs p there =
       let is = pairs_are pairs (names_in sys) (names_in sys) p there in
       let x = is.0 in
@@ -188,7 +196,8 @@ module _ (sys : System) where
       among_left (pair_of pairs x z) (pairs_with pairs x names) _ (subst (λ w. Among {A = ℕ × ℕ} (x.name, y.name) (pair_of pairs x w)) same (is_paired pairs x y is))
   has_with pairs x y (z ∷ names) (inr later) is = among_right (pair_of pairs x z) (pairs_with pairs x names) _ (has_with pairs x y names later is)
 
-  has_pair : (pairs : List (ℕ × ℕ)) (x y : Named) (names others : List Named) → Among x names → Among y others → is_among pairs x.var y.var ≡ true →
+  has_pair : (pairs : List (ℕ × ℕ)) (x y : Named) (names others : List Named) → Among x names → Among y others
+      → is_among pairs x.var y.var ≡ true →
       Among {A = ℕ × ℕ} (x.name, y.name) (pairs_of pairs names others)
   has_pair pairs x y [] others one other is = absurd one
   has_pair pairs x y (z ∷ names) others (inl same) other is =
@@ -197,12 +206,14 @@ module _ (sys : System) where
   has_pair pairs x y (z ∷ names) others (inr later) other is =
       among_right (pairs_with pairs z others) (pairs_of pairs names others) _ (has_pair pairs x y names others later other is)
 
-  pub pair_written : (pairs : List (ℕ × ℕ)) (p : ℕ × ℕ) → IsNamedPair pairs p → Among p (pairs_of pairs (names_in sys) (names_in sys))
+  pub pair_written : (pairs : List (ℕ × ℕ)) (p : ℕ × ℕ) → IsNamedPair pairs p
+      → Among p (pairs_of pairs (names_in sys) (names_in sys))
   pair_written pairs p is =
       has_pair pairs (record { name = p.0; var = is.from }) (record { name = p.1; var = is.to }) (names_in sys) (names_in sys)
       (has_own_name is.from p.0 is.from_is) (has_own_name is.to p.1 is.to_is) is.paired
 
-  with_rise : (pairs : List (ℕ × ℕ)) (x : Named) (names : List Named) → Rises Lower names → Rises Earlier (pairs_with pairs x names)
+  with_rise : (pairs : List (ℕ × ℕ)) (x : Named) (names : List Named) → Rises Lower names
+      → Rises Earlier (pairs_with pairs x names)
   with_rise pairs x [] rise = tt
   with_rise pairs x (y ∷ names) rise = rises_append Earlier (pair_of pairs x y) (pairs_with pairs x names) (one (is_among pairs x.var y.var)) (with_rise pairs x names rise.1)
       (λ p q here later.
@@ -216,7 +227,8 @@ module _ (sys : System) where
       one true = (λ q none. absurd none, tt)
       one false = tt
 
-  pub pairs_rise : (pairs : List (ℕ × ℕ)) (names others : List Named) → Rises Lower names → Rises Lower others → Rises Earlier (pairs_of pairs names others)
+  pub pairs_rise : (pairs : List (ℕ × ℕ)) (names others : List Named) → Rises Lower names → Rises Lower others
+      → Rises Earlier (pairs_of pairs names others)
   pairs_rise pairs [] others one other = tt
   pairs_rise pairs (x ∷ names) others one other = rises_append Earlier (pairs_with pairs x others) (pairs_of pairs names others) (with_rise pairs x others other)
       (pairs_rise pairs names others one.1 other)
@@ -228,7 +240,8 @@ module _ (sys : System) where
       inl (omega (arith, low, ap (λ (r : ℕ × ℕ). r.0) a, ap (λ (r : ℕ × ℕ). r.0) c)))
 
   -- a list in order with the pairs of names is the one that is written
-  pub written_is : (pairs found : List (ℕ × ℕ)) → IsStrictlySortedBy pair_cmp found → ((p : ℕ × ℕ) → Among p found → IsNamedPair pairs p) →
+  pub written_is : (pairs found : List (ℕ × ℕ)) → IsStrictlySortedBy pair_cmp found
+      → ((p : ℕ × ℕ) → Among p found → IsNamedPair pairs p) →
       ((p : ℕ × ℕ) → IsNamedPair pairs p → Among p found) → found ≡ pairs_of pairs (names_in sys) (names_in sys)
   written_is pairs found sorted to from =
       let rise = names_rise (ends_in sys) 0 in
@@ -245,7 +258,8 @@ module _ (sys : System) where
   both_is (Some m) None p e = absurd cc
   both_is None b p e = absurd cc
 
-  pub names_pair : (table : List (Option ℕ)) (pairs : List (ℕ × ℕ)) (p : ℕ × ℕ) → AreNames sys table → Among p (pair_names table pairs) → IsNamedPair pairs p
+  pub names_pair : (table : List (Option ℕ)) (pairs : List (ℕ × ℕ)) (p : ℕ × ℕ) → AreNames sys table
+      → Among p (pair_names table pairs) → IsNamedPair pairs p
   names_pair table [] p known there = absurd there
   names_pair table (q ∷ pairs) p known there = elim (among_either (as_list (pair_name table q)) (pair_names table pairs) p there) [
     | inl here ↦ now (pair_name table q) refl here
@@ -261,7 +275,8 @@ module _ (sys : System) where
       now (Some r) is (inr none) = absurd none
       now None is none = absurd none
 
-  pub pair_names_has : (table : List (Option ℕ)) (pairs : List (ℕ × ℕ)) (p : ℕ × ℕ) → AreNames sys table → IsNamedPair pairs p → Among p (pair_names table pairs)
+  pub pair_names_has : (table : List (Option ℕ)) (pairs : List (ℕ × ℕ)) (p : ℕ × ℕ) → AreNames sys table
+      → IsNamedPair pairs p → Among p (pair_names table pairs)
   pair_names_has table pairs p known is = over pairs is.paired
     where
       named : pair_name table (is.from, is.to) ≡ Some p

@@ -5,7 +5,7 @@ use Rattle.flow_graph.specs.declared.constraint.Link.TheVariants.{Le, Const, Bou
 use Rattle.flow_graph.specs.declared.constraint.Constraint.{Constraint}
 use Rattle.flow_graph.specs.System.{System}
 
--- the variables at the two ends of a link; the variable of a constant or a bound stands at both
+-- the variable at the first end of a link; that of a constant or a bound stands at both
 abbrev pub first_end : Link → ℕ
 first_end (Le u v) = u
 first_end (Const l e v) = v
@@ -13,6 +13,7 @@ first_end (Bound v l e) = v
 first_end (Enter s u v) = u
 first_end (Leave s u v) = u
 
+-- the variable at the second end of a link
 abbrev pub second_end : Link → ℕ
 second_end (Le u v) = v
 second_end (Const l e v) = v
@@ -25,6 +26,7 @@ abbrev pub ends_of : List Constraint → List ℕ
 ends_of [] = []
 ends_of (c ∷ cs) = first_end c.link ∷ second_end c.link ∷ ends_of cs
 
+-- the variables at the ends of a system's constraints
 abbrev pub ends_in : System → List ℕ
 ends_in sys = ends_of sys.constraints
 
@@ -51,6 +53,7 @@ is_at None k = false
 abbrev pub named_at : System → ℕ → ℕ → List Named
 named_at sys k v = if is_at (name_of sys v) k then record { name = k; var = v } ∷ [] else []
 
+-- the names among ends from number k on, with their variables
 abbrev pub names_from : System → ℕ → List ℕ → List Named
 names_from sys k [] = []
 names_from sys k (v ∷ ends) = named_at sys k v ++ names_from sys (k + 1) ends
@@ -59,13 +62,15 @@ names_from sys k (v ∷ ends) = named_at sys k v ++ names_from sys (k + 1) ends
 abbrev pub names_in : System → List Named
 names_in sys = names_from sys 0 (ends_in sys)
 
--- a table of the names by variables
+-- a name in a table that may end before it
 abbrev pub entry : Option (Option ℕ) → Option ℕ
 entry (Some name) = name
 entry None = None
 
+-- the name of a variable in a table
 abbrev pub name_in : List (Option ℕ) → ℕ → Option ℕ
 name_in table v = entry (slice_get table v)
 
+-- a table has the name of each variable that has one
 abbrev pub AreNames : System → List (Option ℕ) → Type 0
 AreNames sys table = (v : ℕ) → name_in table v ≡ name_of sys v

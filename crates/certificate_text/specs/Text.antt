@@ -12,20 +12,22 @@ pub record Written : Type 0 where
   pub sets : List SetLine
   pub pairs : List (ℕ × ℕ)
 
--- the sets of variables whose second set is not empty
+-- the set line of a variable whose second set is not empty
 abbrev pub set_of : Part → Named → List SetLine
 set_of part x =
     if slice_index part.second.items x.var == 0 then []
     else record { name = x.name; first = slice_index part.first.items x.var; second = slice_index part.second.items x.var } ∷ []
 
+-- the set lines of variables
 abbrev pub sets_of : Part → List Named → List SetLine
 sets_of part [] = []
 sets_of part (x ∷ names) = set_of part x ++ sets_of part names
 
--- the pairs of one variable with others
+-- the pair of two variables, by their names, where it is one of these
 abbrev pub pair_of : List (ℕ × ℕ) → Named → Named → List (ℕ × ℕ)
 pair_of pairs x y = if is_among pairs x.var y.var then (x.name, y.name) ∷ [] else []
 
+-- the pairs of one variable with others
 abbrev pub pairs_with : List (ℕ × ℕ) → Named → List Named → List (ℕ × ℕ)
 pairs_with pairs x [] = []
 pairs_with pairs x (y ∷ names) = pair_of pairs x y ++ pairs_with pairs x names
@@ -47,26 +49,33 @@ line bytes = bytes ++ 10 ∷ []
 abbrev pub letter : ℕ → List ℕ
 letter name = if name % 2 == 0 then codes "a" else codes "b"
 
+-- the text of an end
 abbrev pub name_text : ℕ → List ℕ
 name_text name = decimal (name / 2) ++ letter name
 
+-- the line of the two sets of a variable
 abbrev pub set_text : SetLine → List ℕ
 set_text it = line (codes "  set " ++ name_text it.name ++ codes " " ++ decimal it.first ++ codes " " ++ decimal it.second)
 
+-- the lines of sets
 abbrev pub sets_text : List SetLine → List ℕ
 sets_text [] = []
 sets_text (it ∷ sets) = set_text it ++ sets_text sets
 
+-- the line of a pair
 abbrev pub pair_text : ℕ × ℕ → List ℕ
 pair_text pair = line (codes "  pair " ++ name_text pair.0 ++ codes " " ++ name_text pair.1)
 
+-- the lines of pairs
 abbrev pub pairs_text : List (ℕ × ℕ) → List ℕ
 pairs_text [] = []
 pairs_text (pair ∷ pairs) = pair_text pair ++ pairs_text pairs
 
+-- the line before the sets and pairs of a lattice
 abbrev pub lattice_text : ℕ → List ℕ
 lattice_text number = line (codes "lattice " ++ decimal number)
 
+-- the lines of a lattice
 abbrev pub part_text : ℕ → Written → List ℕ
 part_text number part = lattice_text number ++ sets_text part.sets ++ pairs_text part.pairs
 
@@ -75,6 +84,7 @@ abbrev pub parts_text : ℕ → List Written → List ℕ
 parts_text number [] = []
 parts_text number (part ∷ parts) = part_text number part ++ parts_text (number + 1) parts
 
+-- the text of a whole certificate
 abbrev pub text_of : List Written → List ℕ
 text_of parts = line (codes "certificate") ++ parts_text 1 parts
 

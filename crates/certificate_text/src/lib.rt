@@ -1,4 +1,7 @@
 //! Certificates as text: how they are written, and how they are read again.
+//!
+//! Entry: `certificate_text`. Invariant: sets and pairs stand in the order of names.
+//! It does not know how certificates are made or read. Above: `certificate_maker`, `certificate_reader`.
 #![tactic(auto)]
 
 mod names;

@@ -14,11 +14,13 @@ use Rattle.closure_check.specs.declared.rounds.Going.TheVariants.{First, Pair}
 use Rattle.closure_check.specs.Checking.{Asks, AsksEdge, AsksLinks, AsksPairs, AsksVars, GoesRound, IsObeyed}
 
 -- the rule A7 asks of an Enter that the first set goes round
-pub round_asked : (given : Claim) (rule : CertRule) (link : Link) (s u x : ℕ) → link ≡ Enter s u x → rule ≡ A7 → GoesRound given (First u) s x → Asks given rule link
+pub round_asked : (given : Claim) (rule : CertRule) (link : Link) (s u x : ℕ) → link ≡ Enter s u x → rule ≡ A7
+    → GoesRound given (First u) s x → Asks given rule link
 round_asked given rule link s u x is seven round =
     subst (λ (l : Link). Asks given rule l) (sym is) (λ five. let wrong : A5 ≡ A7 = sym five ∙ seven in absurd cc, λ same. round)
 
-pub asked_round : (given : Claim) (rule : CertRule) (link : Link) (s u x : ℕ) → link ≡ Enter s u x → rule ≡ A7 → Asks given rule link → GoesRound given (First u) s x
+pub asked_round : (given : Claim) (rule : CertRule) (link : Link) (s u x : ℕ) → link ≡ Enter s u x → rule ≡ A7
+    → Asks given rule link → GoesRound given (First u) s x
 asked_round given rule link s u x is seven asked = (subst (λ (l : Link). Asks given rule l) is asked).1 seven
 
 begins_is : {u v : ℕ} → Some u ≡ Some v → u ≡ v
@@ -34,7 +36,8 @@ module _ (given : Claim) (rule : CertRule) (z u n : ℕ) (c : Constraint) (s w x
         subst (λ (t : ℕ). GoesRound given (Pair z) t y) (enter_site one) (subst (λ (y : ℕ). GoesRound given (Pair z) s y) (enter_inner one) round),
   )
 
-  pub asked_call : IsKeyed given.graph.now link_begins u n → IsInLattice given.at c.link c.lattices → AsksEdge given rule z u n → GoesRound given (Pair z) s x
+  pub asked_call : IsKeyed given.graph.now link_begins u n → IsInLattice given.at c.link c.lattices
+      → AsksEdge given rule z u n → GoesRound given (Pair z) s x
   asked_call key carried asked =
       let same : c ≡ key.constraint = some_is (sym there ∙ key.there) in
       let at : w ≡ u = begins_is (ap link_begins (sym is) ∙ ap (λ (c : Constraint). link_begins c.link) same ∙ key.keyed) in
@@ -92,13 +95,16 @@ pub bound_obeyed : (given : Claim) → AsksLinks given A9 → IsObeyed given A9
 bound_obeyed given all = λ n v b st. all n (Bound v given.at b) st refl
 
 -- what holds of one rule holds of the rule that is that one
-pub by_links : (given : Claim) (rule one : CertRule) → rule ≡ one → (AsksLinks given one → IsObeyed given one) → AsksLinks given rule → IsObeyed given rule
+pub by_links : (given : Claim) (rule one : CertRule) → rule ≡ one → (AsksLinks given one → IsObeyed given one)
+    → AsksLinks given rule → IsObeyed given rule
 by_links given rule one is on all = subst (λ (r : CertRule). IsObeyed given r) (sym is) (on (subst (λ (r : CertRule). AsksLinks given r) is all))
 
-pub by_pairs : (given : Claim) (rule one : CertRule) → rule ≡ one → (AsksPairs given one → IsObeyed given one) → AsksPairs given rule → IsObeyed given rule
+pub by_pairs : (given : Claim) (rule one : CertRule) → rule ≡ one → (AsksPairs given one → IsObeyed given one)
+    → AsksPairs given rule → IsObeyed given rule
 by_pairs given rule one is on all = subst (λ (r : CertRule). IsObeyed given r) (sym is) (on (subst (λ (r : CertRule). AsksPairs given r) is all))
 
-pub by_both : (given : Claim) (rule : CertRule) → rule ≡ A7 → AsksLinks given rule → AsksPairs given rule → IsObeyed given rule
+pub by_both : (given : Claim) (rule : CertRule) → rule ≡ A7 → AsksLinks given rule → AsksPairs given rule
+    → IsObeyed given rule
 by_both given rule is links pairs = subst (λ (r : CertRule). IsObeyed given r) (sym is)
     (group_obeyed given (subst (λ (r : CertRule). AsksLinks given r) is links) (subst (λ (r : CertRule). AsksPairs given r) is pairs))
 

@@ -50,7 +50,8 @@ pub none_past : (sets : List ℕ) (v e : ℕ) → length sets ≤ v → is_in se
 none_past sets v e past = ap (λ (set : ℕ). has set e) (get_or_past sets v 0 past) ∙ ap (λ (bit : ℕ). nat_eq bit 1) (bit_at-zero e)
 
 -- the set of all elements of a number below 64
-pub all_elements : (size set : ℕ) → size ≤ 64 → set ≡ (2 ^ 64 - 1) / 2 ^ (64 - size) → (e : ℕ) → (has set e ≡ true) ↔ (e < size)
+pub all_elements : (size set : ℕ) → size ≤ 64 → set ≡ (2 ^ 64 - 1) / 2 ^ (64 - size) → (e : ℕ)
+    → (has set e ≡ true) ↔ (e < size)
 all_elements size set few is e =
     let some : 64 - (64 - size) ≡ size = omega (arith, few) in
     let ones : set ≡ 2 ^ size - 1 = is ∙ ones_shr 64 (64 - size) (omega arith) ∙ ap (λ (n : ℕ). 2 ^ n - 1) some in (

@@ -27,13 +27,15 @@ pub record IsFit (given : Claim) : Type 0 where
   pub index : IsIndex given.graph.now given.index.now
   pub part : IsPart given.graph.now given.lattice.now.order given.part.now
 
+-- the certificate that is claimed
 abbrev pub claimed : Claim → Certificate
 claimed given = certificate_of given.part.now
 
--- the first set of a variable is within that of another; and the second
+-- the first set of a variable is within that of another
 abbrev pub IsFirstWithin : Claim → ℕ → ℕ → Type 0
 IsFirstWithin given u v = Within ((claimed given).first u) ((claimed given).first v)
 
+-- the second set of a variable is within that of another
 abbrev pub IsSecondWithin : Claim → ℕ → ℕ → Type 0
 IsSecondWithin given u v = Within ((claimed given).second u) ((claimed given).second v)
 
@@ -97,10 +99,11 @@ AsksEdges given rule z u = (n : ℕ) → AsksEdge given rule z u n
 abbrev pub AsksPair : Claim → CertRule → ℕ → ℕ → Type 0
 AsksPair given rule z u = (rule ≡ A8 → IsSecondWithin given z u) × (rule ≢ A8 → AsksEdges given rule z u)
 
--- of all constraints, and of all pairs
+-- what a rule asks of all constraints
 abbrev pub AsksLinks : Claim → CertRule → Type 0
 AsksLinks given rule = (n : ℕ) → AsksAt given rule n
 
+-- what a rule asks of all pairs
 abbrev pub AsksPairs : Claim → CertRule → Type 0
 AsksPairs given rule = (z u : ℕ) → (claimed given).paired z u ≡ true → AsksPair given rule z u
 

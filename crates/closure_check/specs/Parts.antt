@@ -48,7 +48,8 @@ pub record AreSets (order : Order) (count : ℕ) (sets : List ℕ) : Type 0 wher
 abbrev pub AreBelow : ℕ → List (ℕ × ℕ) → Type 0
 AreBelow vars pairs = (k : ℕ) (p : ℕ × ℕ) → slice_get pairs k ≡ Some p → (p.0 < vars) × (p.1 < vars)
 
--- The sets are those of all variables of the system and have elements of the lattice alone; the pairs ascend and are of its
+-- The sets are those of all variables of the system and have elements of the lattice alone; the pairs ascend and are of
+-- its
 -- variables.
 pub record IsPart (sys : System) (order : Order) (part : Part) : Type 0 where
   pub firsts : AreSets order (vars_of sys) part.first.items

@@ -7,7 +7,7 @@ use Rattle.row_rules.specs.Starting as rules
 use Rattle.row_rules.specs.Sites.{variables_among}
 use Rattle.qual_types.specs.declared.position.Step.{Step}
 use Rattle.qual_types.specs.Positions.{PositionView}
-use Rattle.position_laws.specs.Positions.{positions_at, positions_of, paths, PositionsAreCounted}
+use Rattle.unit_starts.specs.PositionLaws.Positions.{positions_at, positions_of, paths, PositionsAreCounted}
 use Rattle.unit_starts.specs.declared.start.Start.{Start}
 use Rattle.unit_starts.specs.Views.{start_in}
 use Rattle.constraint_gen.specs.Listing.{numbers, listed_at, listed_from}

@@ -9,29 +9,29 @@ use Rattle.c_lexer.specs.Tokens.{Lexed}
 use Rattle.c_tape.specs.Tape.{tape_of}
 use Rattle.name_rules.specs.Spellings.{Place}
 use Rattle.name_rules.specs.Scopes.{Names}
-use Rattle.name_steps.specs.Units.{Tape}
-use Rattle.name_laws.specs.NameLaws.{IsSound, tape_of_source}
-use Rattle.key_laws.specs.Differing.{IsRead}
+use Rattle.name_rules.specs.NameSteps.Units.{Tape}
+use Rattle.resolve_laws.specs.NameLaws.NameLaws.{IsSound, tape_of_source}
+use Rattle.row_laws.specs.KeyLaws.Differing.{IsRead}
 use Rattle.type_rules.specs.Program.{Source, names_of}
-use Rattle.place_map.specs.declared.map.PlaceMap.{PlaceMap}
-use Rattle.place_map.specs.Values.{value_at}
-use Rattle.position_laws.specs.Positions.{positions_of, PositionsStand, PositionsAreCounted}
-use Rattle.shape_steps.specs.State.{nothing}
+use Rattle.name_tables.specs.declared.place_map.map.PlaceMap.{PlaceMap}
+use Rattle.name_tables.specs.PlaceMap.Values.{value_at}
+use Rattle.unit_starts.specs.PositionLaws.Positions.{positions_of, PositionsStand, PositionsAreCounted}
+use Rattle.name_rules.specs.ShapeSteps.State.{nothing}
 use Rattle.row_rules.specs.Annotations.{has_access}
 use Rattle.row_rules.specs.Starting.{Start, Selection}
 use Rattle.row_rules.specs.Sites.{functions_of, owners_among, sites_among, variables_among}
-use Rattle.row_steps.specs.Found.{unit_rows}
-use Rattle.row_steps.specs.Starting.{unit_starts, selections_found}
+use Rattle.row_rules.specs.RowSteps.Found.{unit_rows}
+use Rattle.row_rules.specs.RowSteps.Starting.{unit_starts, selections_found}
 use Rattle.constraint_rules.specs.Systems as systems
 use Rattle.constraint_rules.specs.Systems.{Program, world_of, starts_of, system_of}
 use Rattle.row_laws.specs.Laws as row_laws
 use Rattle.row_laws.specs.Laws.{ConstraintsAreFound}
-use Rattle.start_laws.specs.Laws as start_laws
-use Rattle.start_laws.specs.Laws.{StartsOfProgramAreFound, SelectionsOfProgramAreFound, found_on}
+use Rattle.row_laws.specs.StartLaws.Laws as start_laws
+use Rattle.row_laws.specs.StartLaws.Laws.{StartsOfProgramAreFound, SelectionsOfProgramAreFound, found_on}
 use Rattle.index_words.specs.Marks.{IndexMark, index_in}
 use Rattle.unit_types.specs.Resolved.{Resolved, tapes_of}
 use Rattle.c_types.specs.Sources.{UnitRead, lexed_of, sources_in}
-use Rattle.source_marks.specs.Marks.{mark_among}
+use Rattle.unit_system.specs.SourceMarks.Marks.{mark_among}
 use Rattle.unit_system.specs.Sharing.{meant_by}
 use Rattle.unit_system.specs.Systems.{AreNumbered, Meant, names_on, starts_on, starts_among, selections_on, selections_among, rows_among, system_by, system_on}
 use Rattle.constraint_gen.specs.declared.generating.Generated.{Generated}
@@ -145,8 +145,10 @@ module _ (it : Resolved) (all : List UnitRead) (units : List Lexed) (is : IsProg
       (mark_among (lexed_of all)) (index_in prelude) laws
 
 -- what is listed, by the tokens, the names and the skeletons that were found
-listed_by : (all : List UnitRead) (p : Program) (units : List Lexed) (s : Names) (starts : List Start) → units ≡ lexed_of all
-    → s ≡ names_of p.sources → starts ≡ starts_of (has_access p.lattices) p.sources → listed_at (is_listed units s) 0 (positions_of starts) ≡ listed_in all p
+listed_by : (all : List UnitRead) (p : Program) (units : List Lexed) (s : Names) (starts : List Start)
+    → units ≡ lexed_of all
+    → s ≡ names_of p.sources → starts ≡ starts_of (has_access p.lattices) p.sources
+    → listed_at (is_listed units s) 0 (positions_of starts) ≡ listed_in all p
 listed_by all p units s starts lexed named begun =
     ap (λ (ls : List Lexed). listed_at (is_listed ls s) 0 (positions_of starts)) lexed
     ∙ ap (λ (ns : Names). listed_at (is_listed (lexed_of all) ns) 0 (positions_of starts)) named
@@ -156,7 +158,8 @@ listed_by all p units s starts lexed named begun =
 module _ (it : Resolved) (all : List UnitRead) (units : List Lexed) (is : IsProgramOf all units it) (lattices : List LatticeView)
     (prelude : List IndexMark) where
   pub generated : StartsOfProgramAreFound → PositionsAreCounted → PositionsStand → (g : Generated)
-      → g.graph ≡ system_of (program_in lattices prelude all) → AreNumbered (starts_on (has_access lattices) it) g.skeletons
+      → g.graph ≡ system_of (program_in lattices prelude all)
+      → AreNumbered (starts_on (has_access lattices) it) g.skeletons
       → g.listed.items ≡ listed_at (is_listed units (names_on it)) 0 (positions_of (starts_on (has_access lattices) it))
       → IsGenerated all (program_in lattices prelude all) g
   generated starts count stand g system numbered listed =

@@ -4,14 +4,15 @@ use Rattle.std.specs.List.{Contains}
 use Rattle.std.proofs.lemmas.Bool.{eq-eqb, eqb-true}
 use Rattle.c_lexer.specs.Tokens.{Lexed}
 use Rattle.name_rules.specs.Spellings.{Place}
-use Rattle.key_laws.specs.Differing as sources
-use Rattle.key_laws.specs.Differing.{UnitsDiffer}
+use Rattle.row_laws.specs.KeyLaws.Differing as sources
+use Rattle.row_laws.specs.KeyLaws.Differing.{UnitsDiffer}
 use Rattle.c_types.specs.Sources.{UnitRead, lexed_of, sources_behind, sources_in}
 use Rattle.constraint_gen.specs.Listing.{is_name_token, is_name_at}
 use Rattle.constraint_gen.specs.Marking.{has_unit, NumbersDiffer}
 
 -- one of some units has its number
-has_one : (units : List Lexed) (n : ℕ) (it : Lexed) → n < length units → get_or units n it ≡ it → has_unit units it.unit ≡ true
+has_one : (units : List Lexed) (n : ℕ) (it : Lexed) → n < length units → get_or units n it ≡ it
+    → has_unit units it.unit ≡ true
 has_one [] n it lt is = absurd (omega arith)
 has_one (lexed ∷ units) zero it lt is =
     ap (λ (b : Bool). if b then true else has_unit units it.unit) (eq-eqb lexed.unit it.unit (ap (λ (l : Lexed). l.unit) is))
@@ -40,7 +41,8 @@ first_named (lexed ∷ units) (suc n) it p lt is here differ =
         absurd (let no : true ≡ false = sym (has_one units n it (omega arith) is) ∙ ap (has_unit units) unit ∙ differ.0 in cc)
     by_test false e behind = behind
 
-pub named_by_one : (units : List Lexed) (it : Lexed) (p : Place) → Contains units it → it.unit ≡ p.0 → NumbersDiffer units
+pub named_by_one : (units : List Lexed) (it : Lexed) (p : Place) → Contains units it → it.unit ≡ p.0
+    → NumbersDiffer units
     → is_name_token (slice_get it.tokens p.1) ≡ is_name_at units p
 named_by_one units it p one here differ = sym (first_named units one.0 it p one.1 one.2 here differ)
 
@@ -51,7 +53,8 @@ same_units earlier [] n = refl
 same_units earlier (it ∷ all) n =
     ap (λ (b : Bool). if nat_eq it.lexed.unit n then true else b) (same_units (earlier ++ it.lexed ∷ []) all n)
 
-differ_behind : (earlier : List Lexed) (all : List UnitRead) → UnitsDiffer (sources_behind earlier all) → NumbersDiffer (lexed_of all)
+differ_behind : (earlier : List Lexed) (all : List UnitRead) → UnitsDiffer (sources_behind earlier all)
+    → NumbersDiffer (lexed_of all)
 differ_behind earlier [] differ = tt
 differ_behind earlier (it ∷ all) differ =
     (sym (same_units (earlier ++ it.lexed ∷ []) all it.lexed.unit) ∙ differ.0, differ_behind (earlier ++ it.lexed ∷ []) all differ.1)

@@ -3,9 +3,9 @@ use Rattle.std.proofs.Common.{◌≡◌, ◌<◌, ◌≤◌, ◌+◌, ℕ, zero,
 use Rattle.std.proofs.lemmas.Bool.Decides.{eqb_tells}
 use Rattle.c_lexer.specs.Tokens.{Lexed}
 use Rattle.name_rules.specs.Spellings.{Place}
-use Rattle.place_map.specs.declared.map.PlaceMap.{PlaceMap}
-use Rattle.place_map.specs.Values.{or_else}
-use Rattle.source_marks.specs.Marks.{mark_at, mark_in, mark_among, IsMarked}
+use Rattle.name_tables.specs.declared.place_map.map.PlaceMap.{PlaceMap}
+use Rattle.name_tables.specs.PlaceMap.Values.{or_else}
+use Rattle.unit_system.specs.SourceMarks.Marks.{mark_at, mark_in, mark_among, IsMarked}
 use Rattle.constraint_gen.specs.Marking.{has_unit, AreMarks}
 
 or_none : {V : Type 0} (o : Option V) → or_else o None ≡ o

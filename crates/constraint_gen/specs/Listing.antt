@@ -10,10 +10,12 @@ use Rattle.name_rules.specs.Spellings.{Place}
 use Rattle.name_rules.specs.Scopes.{Names, declared_at}
 use Rattle.row_rules.specs.Starting.{Start}
 
+-- whether a token is a name
 abbrev pub is_name : TokenKind → Bool
 is_name (kinds.Name n) = true
 is_name kind = false
 
+-- whether there is a token, and it is a name
 abbrev pub is_name_token : Option Token → Bool
 is_name_token None = false
 is_name_token (Some token) = is_name token.kind
@@ -39,10 +41,12 @@ listed_at is v (p ∷ positions) =
 
 -- the same by skeletons, which stand one behind the other
 
+-- so many numbers, from n on
 abbrev pub numbers : ℕ → ℕ → List ℕ
 numbers zero n = []
 numbers (suc count) n = n ∷ numbers count (suc n)
 
+-- the variables of the skeletons that begin at such places, the first variable of all having the number n
 abbrev pub listed_from : (Place → Bool) → ℕ → List Start → List ℕ
 listed_from is n [] = []
 listed_from is n (start ∷ starts) =

@@ -2,9 +2,9 @@
 use Rattle.std.specs.Prelude.{◌≡◌, ℕ, nat_eq, Bool, true, false, List, [], ◌∷◌, if◌then◌else◌}
 use Rattle.c_lexer.specs.Tokens.{Lexed}
 use Rattle.name_rules.specs.Spellings.{Place}
-use Rattle.place_map.specs.declared.map.PlaceMap.{PlaceMap}
-use Rattle.place_map.specs.Values.{value_at}
-use Rattle.source_marks.specs.Marks.{mark_among}
+use Rattle.name_tables.specs.declared.place_map.map.PlaceMap.{PlaceMap}
+use Rattle.name_tables.specs.PlaceMap.Values.{value_at}
+use Rattle.unit_system.specs.SourceMarks.Marks.{mark_among}
 
 -- one of some units has this number
 abbrev pub has_unit : List Lexed → ℕ → Bool

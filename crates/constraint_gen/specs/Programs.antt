@@ -2,9 +2,9 @@
 use Rattle.std.specs.Prelude.{ℕ, List}
 use Rattle.lattice_core.specs.View.{LatticeView}
 use Rattle.qual_types.specs.Positions.{PositionView}
-use Rattle.source_marks.specs.Marks.{mark_among}
+use Rattle.unit_system.specs.SourceMarks.Marks.{mark_among}
 use Rattle.type_rules.specs.Program.{names_of}
-use Rattle.position_laws.specs.Positions.{positions_of}
+use Rattle.unit_starts.specs.PositionLaws.Positions.{positions_of}
 use Rattle.c_types.specs.Sources.{UnitRead, lexed_of, sources_in}
 use Rattle.index_words.specs.Marks.{IndexMark, index_in}
 use Rattle.constraint_rules.specs.Systems.{Program, starts_of}
@@ -20,7 +20,7 @@ program_in lattices marks units = record {
   index = index_in marks;
 }
 
--- where the variables stand, by their numbers
+-- where the variables of a program stand, in the order of their numbers
 abbrev pub positions_in : Program → List PositionView
 positions_in p = positions_of (starts_of (has_access p.lattices) p.sources)
 

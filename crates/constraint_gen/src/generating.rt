@@ -5,7 +5,7 @@ ghost use Rattle.flow_graph.specs.System.{IsWellOwned, most_constraints, most_va
 ghost use Rattle.flow_graph.specs.Unfolding.{NamesElements};
 ghost use Rattle.lattice_core.specs.View.{orders_of};
 ghost use Rattle.row_rules.specs.Sites.{variables_among};
-ghost use Rattle.position_laws.specs.Positions.{positions_of};
+ghost use Rattle.unit_starts.specs.PositionLaws.Positions.{positions_of};
 ghost use Rattle.unit_shapes.specs.Views.{names_in};
 ghost use Rattle.unit_system.specs.Systems.{starts_on};
 ghost use Rattle.unit_system.specs.Numberings.{IsNumberingOf};
@@ -21,18 +21,18 @@ use crate::listing::listed;
 use crate::marking::marks;
 use c_lexer::Tokens;
 use c_types::Program;
-use element_laws::elements_are_named;
 use flow_graph::FlowGraph;
 use index_words::Prelude;
 use lattice_core::Lattices;
+use owned_laws::element_laws::elements_are_named;
 use owned_laws::systems_are_owned;
-use position_laws::{positions_are_counted, positions_stand};
 use qual_base::VarId;
 use row_laws::constraints_are_found;
+use row_laws::start_laws::{selections_of_program_are_found, starts_of_program_are_found};
 use row_world::access_lattices;
-use start_laws::{selections_of_program_are_found, starts_of_program_are_found};
 use std::alloc::Global;
-use unit_skeletons::Skeletons;
+use unit_starts::position_laws::{positions_are_counted, positions_stand};
+use unit_starts::unit_skeletons::Skeletons;
 use unit_system::{
     GenerateFault, NumberedUnits, Numbering, UnitSystem, constrain_units, number_units,
 };

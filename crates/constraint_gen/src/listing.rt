@@ -5,7 +5,7 @@ ghost use Rattle.std.specs.List.{Contains};
 ghost use Rattle.flow_graph.specs.System.{most_variables};
 ghost use Rattle.type_table.specs.Types.{size};
 ghost use Rattle.row_rules.specs.Sites.{variables_among};
-ghost use Rattle.position_laws.specs.Positions.{positions_of};
+ghost use Rattle.unit_starts.specs.PositionLaws.Positions.{positions_of};
 ghost use Rattle.unit_starts.specs.Views.{start_in};
 ghost use Rattle.unit_shapes.specs.Views.{names_in};
 ghost use Rattle.constraint_gen.specs.Listing as rules;
@@ -15,11 +15,11 @@ ghost use Rattle.constraint_gen.specs.Listing.{is_listed, listed_at, numbers, li
 use c_lexer::Tokens;
 use c_types::Program;
 use c_words::TokenKind;
-use name_scopes::Place;
-use position_laws::positions_are_counted;
+use name_tables::name_scopes::Place;
 use qual_base::{NoMemory, Numbered, TokenId, UnitNo, VarId};
 use std::alloc::Global;
 use unit_starts::Start;
+use unit_starts::position_laws::positions_are_counted;
 
 fn is_name(kind: TokenKind) -> bool
     ensures { result ≡ rules.is_name kind }

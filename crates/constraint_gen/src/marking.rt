@@ -2,16 +2,16 @@
 
 ghost use Rattle.std.specs.Prelude.{◌≡◌, ◌∷◌, ◌++◌, [], IfOk, OnOk};
 ghost use Rattle.name_rules.specs.Spellings.{Place};
-ghost use Rattle.place_map.specs.Values.{value_at};
-ghost use Rattle.source_marks.specs.Marks.{mark_among};
+ghost use Rattle.name_tables.specs.PlaceMap.Values.{value_at};
+ghost use Rattle.unit_system.specs.SourceMarks.Marks.{mark_among};
 ghost use Rattle.constraint_gen.specs.Marking.{AreMarks};
 ghost use Rattle.constraint_gen.specs.Marking as rules;
 
 use c_lexer::Tokens;
-use place_map::PlaceMap;
+use name_tables::place_map::PlaceMap;
 use qual_base::{Elem, LatticeNo, NoMemory, Numbered, UnitNo};
-use source_marks::add_marks;
 use std::alloc::Global;
+use unit_system::source_marks::add_marks;
 
 /// Whether one of some units has this number. Linear in them.
 fn has_unit(units: &[Tokens], unit: UnitNo) -> bool

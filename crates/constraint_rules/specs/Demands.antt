@@ -1,4 +1,5 @@
--- The constraints of each form, by cases on the tree: those of its parts in the order of the text, and behind them its own.
+-- The constraints of each form, by cases on the tree: those of its parts in the order of the text, and behind them its
+-- own.
 use Rattle.std.specs.Prelude.{ℕ, suc, Bool, true, false, List, [], ◌∷◌, ◌++◌, Option, None, Some, ◌&&◌, if◌then◌else◌}
 use Rattle.qual_base.specs.declared.places.Span.{Span}
 use Rattle.flow_graph.specs.declared.constraint.Constraint.{Constraint}
@@ -17,20 +18,23 @@ use Rattle.constraint_rules.specs.Values.{val, pointer_to, candidate_of, candida
 use Rattle.row_rules.specs.Annotations.{further, parameters, write_bounds, has_access}
 use Rattle.row_rules.specs.Rows.{RowKind, assigned, behind_known, cast_demand, chosen, computed, dereferenced, first_alone, flowing, formed_here, initialised, literal_row, next_of_struct, own_skeleton, param_kind, passed, prefixed, returned, row_at, row_of_name, started, taken_fresh, use_demand, index_demand, carried, picked, identified_kind}
 use Rattle.row_rules.specs.Vals.{contents, member_of, member_skel, own, value, left_of}
-use Rattle.row_rules.specs.Worlds.{World, all_lattices, at, in_all, span}
+use Rattle.row_rules.specs.Worlds.{World, all_lattices, at, span}
 use Rattle.c_tree.specs.Addresses.{comes_by_pointer}
 use Rattle.c_words.specs.declared.kinds.Punct.{Punct}
 use Rattle.c_words.specs.declared.kinds.Punct.TheVariants as signs
 
+-- the type of the type's name that begins with these specifiers
 abbrev pub type_of_name : World → SpecWords → Option CType
 type_of_name w ws = type_named_at w.names.type_names (at w (first_word ws))
 
+-- the skeleton of what a designator names, of what was designated so far (6.7.8)
 abbrev pub desig_skel : World → Skel → Desig → Skel
 desig_skel w s (member_desig token name) = contents (member_skel w s name.name)
 desig_skel w s (index_desig opening e closing) = contents s
 desig_skel w s (range_desig opening e dots e2 closing) = contents s
 desig_skel w s (old_desig name colon) = contents (member_skel w s name.name)
 
+-- the skeleton of what designators name, one inside of the other
 abbrev pub desigs_skel : World → Skel → Desigs → Skel
 desigs_skel w s no_desigs = s
 desigs_skel w s (more_desigs d ds) = desigs_skel w (desig_skel w s d) ds
@@ -97,11 +101,13 @@ unnamed_word_demand w (typeof_type word opening ws d closing) = []
 unnamed_word_demand w (align attr) = []
 unnamed_word_demand w (auto_word token) = []
 
+-- the constraints of a member without a name, by the specifiers that it consists of
 abbrev pub unnamed_demand : World → SpecWords → List Constraint
 unnamed_demand w no_words = []
 unnamed_demand w (more_words word words) = unnamed_word_demand w word ++ unnamed_demand w words
 
--- The operand of `&` is only addressed; its pointer may carry the one by which it came to its place. With the constraints of the
+-- The operand of `&` is only addressed; its pointer may carry the one by which it came to its place. With the
+-- constraints of the
 -- operand where it is only addressed, and where it is not.
 abbrev pub prefix_demand : World → Bool → ℕ → Punct → Expr → List Constraint → List Constraint → List Constraint
 prefix_demand w aims token signs.Ampersand e addressed taken = addressed
@@ -258,7 +264,8 @@ abbrev mutual
   some_init_demand w it no_init = []
   some_init_demand w it (some_init equal init) = init_demand w init ++ rule w (initialised w it) init
 
-  -- of the declarations behind a list of identifiers: the row of a name is that of a parameter, by the number of its declaration
+  -- of the declarations behind a list of identifiers: the row of a name is that of a parameter, by the number of its
+  -- declaration
   pub old_declrs_demand : World → Option Skel → InitDeclrs → List Constraint
   old_declrs_demand w own no_init_declrs = []
   old_declrs_demand w own (more_init_declrs attrs d asm_label attrs2 init ds) =
@@ -312,13 +319,11 @@ abbrev mutual
   for_start_demand w (start_declaration d) = declaration_demand w d
   for_start_demand w (start_value e semi) = some_expr_demand w e
 
--- an expression that is not only addressed, and one that is
+-- the constraints of an expression that is not only addressed
 abbrev pub demand : World → Expr → List Constraint
 demand w e = demand_in w false e
 
-abbrev pub addressed_demand : World → Expr → List Constraint
-addressed_demand w e = demand_in w true e
-
+-- the constraints of the declarations behind a list of identifiers, in the function of this skeleton
 abbrev pub old_declarations_demand : World → Option Skel → List Declaration → List Constraint
 old_declarations_demand w own [] = []
 old_declarations_demand w own (d ∷ ds) = old_declaration_demand w own d ++ old_declarations_demand w own ds
@@ -337,6 +342,7 @@ old_declr_demand w own ds (abs_paren opening attrs d closing) = declr_demand w r
 old_declr_demand w own ds (abs_array d opening words size closing) = declr_demand w row_of_name None (abs_array d opening words size closing)
 old_declr_demand w own ds (abs_params d opening ps dots closing) = declr_demand w row_of_name None (abs_params d opening ps dots closing)
 
+-- the constraints of a function, a declaration or another item of a unit
 abbrev pub item_demand : World → Item → List Constraint
 item_demand w (function_item exts ws d attrs opening items closing) =
     words_demand w ws ++ (declr_demand w row_of_name (own_skeleton w (declared_name d)) d ++ block_items_demand (record w { own = own_skeleton w (declared_name d) }) items)
@@ -346,6 +352,7 @@ item_demand w (decl_item d) = decl_demand w d
 item_demand w (asm_item keyword group semi) = []
 item_demand w (semi_item semi) = []
 
+-- the constraints of the items of a unit
 abbrev pub items_demand : World → List Item → List Constraint
 items_demand w [] = []
 items_demand w (item ∷ items) = item_demand w item ++ items_demand w items

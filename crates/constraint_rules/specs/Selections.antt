@@ -9,6 +9,7 @@ use Rattle.name_rules.specs.Values.{Association, value, has_of_type}
 use Rattle.type_rules.specs.Shapes.{shape_of, associations_of}
 use Rattle.row_rules.specs.Starting.{Selection, candidate_flags}
 
+-- a selection at a token, by the type of its control's value
 abbrev pub selection_of : Spelling → ℕ → Option CType → List Association → List Selection
 selection_of u token t all = record { at = place u token; flags = candidate_flags (has_of_type t all) t all } ∷ []
 
@@ -228,10 +229,12 @@ abbrev mutual
   for_start_selections u s (start_declaration d) = declaration_selections u s d
   for_start_selections u s (start_value e semi) = some_expr_selections u s e
 
+-- the selections in the declarations behind a list of identifiers
 abbrev pub old_declarations_selections : Spelling → Names → List Declaration → List Selection
 old_declarations_selections u s [] = []
 old_declarations_selections u s (d ∷ ds) = old_declaration_selections u s d ++ old_declarations_selections u s ds
 
+-- the selections in a declarator with a list of identifiers, and in the declarations behind it
 abbrev pub old_declr_selections : Spelling → Names → List Declaration → Declr → List Selection
 old_declr_selections u s ds (identifiers d opening names closing) = declr_selections u s d ++ old_declarations_selections u s ds
 old_declr_selections u s ds (pointer star words d) = old_declr_selections u s ds d
@@ -245,6 +248,7 @@ old_declr_selections u s ds (abs_paren opening attrs d closing) = declr_selectio
 old_declr_selections u s ds (abs_array d opening words size closing) = declr_selections u s (abs_array d opening words size closing)
 old_declr_selections u s ds (abs_params d opening ps dots closing) = declr_selections u s (abs_params d opening ps dots closing)
 
+-- the selections in an item of a unit
 abbrev pub item_selections : Spelling → Names → Item → List Selection
 item_selections u s (function_item exts ws d attrs opening items closing) = words_selections u s ws ++ (declr_selections u s d ++ block_items_selections u s items)
 item_selections u s (old_function_item exts ws d attrs ds opening items closing) = words_selections u s ws ++ (old_declr_selections u s ds d ++ block_items_selections u s items)
@@ -252,6 +256,7 @@ item_selections u s (decl_item d) = decl_selections u s d
 item_selections u s (asm_item keyword group semi) = []
 item_selections u s (semi_item semi) = []
 
+-- the selections in the items of a unit
 abbrev pub items_selections : Spelling → Names → List Item → List Selection
 items_selections u s [] = []
 items_selections u s (item ∷ items) = item_selections u s item ++ items_selections u s items

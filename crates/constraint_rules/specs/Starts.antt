@@ -1,5 +1,7 @@
--- Where skeletons begin: at each declared name and at each expression that has a fresh one, in the order of the text. What is
--- the size of an array, the width of a member, the value of an enumerator, a case label, an index of a designator, or an operand
+-- Where skeletons begin: at each declared name and at each expression that has a fresh one, in the order of the text.
+-- What is
+-- the size of an array, the width of a member, the value of an enumerator, a case label, an index of a designator, or
+-- an operand
 -- of `sizeof` or `offsetof` gives no fresh skeleton and no site; names that are declared in it have theirs.
 use Rattle.std.specs.Prelude.{ℕ, Bool, true, false, ◌&&◌, not, List, [], ◌∷◌, ◌++◌, Option, None, Some}
 use Rattle.c_tree.specs.Tree.{Expr, operation, cast, prefix, sizeof_value, sizeof_type, extension, index, call, dot, arrow, post, compound, name_use, number_use, char_use, text_use, paren, statement_expr, va_arg, va_start, va_copy, offset, comma, assign, cond, binary, SomeExpr, no_expr, some_expr, Exprs, no_exprs, more_exprs, SpecWords, no_words, more_words, SpecWord, storage, thread, inline_word, noreturn, qualifier, basic, struct_type, enum_type, typedef_name, attribute, SomeBody, no_body, some_body, StructItems, no_struct_items, more_struct_items, StructItem, member, member_semi, member_assert, MemDeclrs, no_mem_declrs, more_mem_declrs, MemDeclr, named, unnamed, SomeValue, no_value, some_value, EnumType, enum_of, no_enum_body, some_enum_body, Enumerators, no_enumerators, more_enumerators, Declr, pointer, declr_name, declr_paren, array, params, abs_pointer, abs_paren, abs_array, abs_params, SomeDeclr, no_declr, some_declr, SomeSize, no_size, some_size, ArraySize, size_value, size_star, Params, no_params, more_params, Init, init_value, init_braced, InitList, init_list, InitItems, no_init_items, more_init_items, Desigs, no_desigs, more_desigs, Desig, member_desig, index_desig, SomeInit, no_init, some_init, InitDeclrs, no_init_declrs, more_init_declrs, Declaration, declaration, Decl, decl_declaration, decl_assert, BlockItems, no_block_items, more_block_items, BlockItem, block_decl, block_stmt, Stmt, block, expr_stmt, attr_stmt, label, case_stmt, default_stmt, if_stmt, switch_stmt, while_stmt, do_stmt, for_stmt, goto_stmt, continue_stmt, break_stmt, return_stmt, asm_stmt, SomeElse, no_else, some_else, ForStart, start_declaration, start_value, typeof_value, typeof_type, align, auto_word, complex_part, label_use, compat, choose, generic, range_desig, old_desig, case_range, goto_value, block_labels, identifiers, base_name, Assocs, no_assocs, more_assocs, Assoc, typed_assoc, default_assoc}
@@ -15,6 +17,7 @@ use Rattle.type_rules.specs.Shapes.{is_zero, shape_of, candidate_of, association
 use Rattle.row_rules.specs.Starting.{Around, Having, Start, declared_function, fresh, fresh_where, had_name, having_where, is_fresh_binary, is_fresh_prefix, is_some_pointer, name_start, quiet, some_fresh, some_place, use_start, of_function, with_skeleton, without_skeleton, prefix_starts, selected_by}
 use Rattle.c_tree.specs.Addresses.{comes_by_pointer}
 
+-- the type of the type's name that begins with these specifiers
 abbrev pub type_at : Around → SpecWords → Option CType
 type_at a ws = type_named_at a.names.type_names (place a.spelling (first_word ws))
 
@@ -40,6 +43,7 @@ unnamed_start a (auto_word token) = []
 abbrev pub pick_starts : Around → ℕ → List Candidate → List Start
 pick_starts a token all = fresh_where (is_fresh_pick all) (some_fresh a token (pick_shape all).type)
 
+-- what begins at a member without a name, by the specifiers that it consists of
 abbrev pub unnamed_starts : Around → SpecWords → List Start
 unnamed_starts a no_words = []
 unnamed_starts a (more_words word ws) = unnamed_start a word ++ unnamed_starts a ws
@@ -303,10 +307,11 @@ abbrev mutual
   for_start_starts a (start_declaration d) = declaration_starts a d
   for_start_starts a (start_value e semi) = some_expr_starts a e
 
--- at file scope a fresh skeleton belongs to nobody
+-- what is around in a function, or at file scope, where a fresh skeleton belongs to nobody
 abbrev pub around_in : Bool → Spelling → Names → Option Place → Around
 around_in access u s f = record { spelling = u; names = s; enclosing = f; is_quiet = false; access = access }
 
+-- the skeletons that begin in the declarations behind a list of identifiers
 abbrev pub old_declarations_starts : Around → Having → List Declaration → List Start
 old_declarations_starts a h [] = []
 old_declarations_starts a h (d ∷ ds) = old_declaration_starts a h d ++ old_declarations_starts a h ds
@@ -325,6 +330,7 @@ old_declr_starts a own ds (abs_paren opening attrs d closing) = declr_starts a w
 old_declr_starts a own ds (abs_array d opening words size closing) = declr_starts a with_skeleton without_skeleton (abs_array d opening words size closing)
 old_declr_starts a own ds (abs_params d opening ps dots closing) = declr_starts a with_skeleton without_skeleton (abs_params d opening ps dots closing)
 
+-- the skeletons that begin in an item of a unit; `access`: whether some lattice bounds accesses
 abbrev pub item_starts : Bool → Spelling → Names → Item → List Start
 item_starts access u s (function_item exts ws d attrs opening items closing) =
     words_starts (around_in access u s None) ws ++ (declr_starts (around_in access u s None) with_skeleton (of_function (declared_function u s (declared_name d))) d ++ block_items_starts (around_in access u s (declared_function u s (declared_name d))) items)
@@ -334,6 +340,7 @@ item_starts access u s (decl_item d) = decl_starts (around_in access u s None) d
 item_starts access u s (asm_item keyword group semi) = []
 item_starts access u s (semi_item semi) = []
 
+-- the skeletons that begin in the items of a unit
 abbrev pub items_starts : Bool → Spelling → Names → List Item → List Start
 items_starts access u s [] = []
 items_starts access u s (item ∷ items) = item_starts access u s item ++ items_starts access u s items

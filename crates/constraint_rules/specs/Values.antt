@@ -1,4 +1,5 @@
--- The skeleton of each expression (Foster et al. 2006), by cases on the tree: that of a place, which is a reference to what is in
+-- The skeleton of each expression (Foster et al. 2006), by cases on the tree: that of a place, which is a reference to
+-- what is in
 -- it, or that of a value.
 use Rattle.std.specs.Prelude.{ℕ, Bool, if◌then◌else◌, suc, List, [], ◌∷◌, false}
 use Rattle.c_tree.specs.Tree.{Expr, operation, cast, prefix, sizeof_value, sizeof_type, extension, index, call, dot, arrow, post, compound, name_use, number_use, char_use, text_use, paren, statement_expr, va_arg, va_start, va_copy, offset, comma, assign, cond, binary, no_expr, some_expr, BlockItems, no_block_items, more_block_items, BlockItem, block_decl, block_stmt, Stmt, block, expr_stmt, attr_stmt, label, case_stmt, default_stmt, if_stmt, switch_stmt, while_stmt, do_stmt, for_stmt, goto_stmt, continue_stmt, break_stmt, return_stmt, asm_stmt, complex_part, label_use, compat, choose, generic, typeof_value, typeof_type, align, auto_word, range_desig, old_desig, case_range, goto_value, block_labels, identifiers, base_name, Assocs, no_assocs, more_assocs, Assoc, typed_assoc, default_assoc}
@@ -10,6 +11,7 @@ use Rattle.row_rules.specs.Vals.{Val, a_place, a_value, binary_of, branch, conte
 use Rattle.row_rules.specs.Worlds.{World, at}
 use Rattle.c_tree.specs.Addresses.{comes_by_pointer}
 
+-- an operand as one that may be picked, with whether it is a zero
 abbrev candidate : Val → Bool → Candidate
 candidate it zero = record { val = it; is_zero = zero }
 

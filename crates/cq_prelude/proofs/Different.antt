@@ -98,11 +98,13 @@ pub rises : (xs : List ℕ) → IsNonDecreasing xs → AreDifferent xs → AreAs
 rises xs rising h =
     ascends xs (λ k d lt. let le = rising k (suc k) d (omega arith) lt in let other = different_places xs h k d lt in omega arith)
 
-pub is_ascending : (xs : List ℕ) (r : Bool) → IsAllAdjacentAnswer (λ x y b. b ≡ ltb x y) xs r → r ≡ true → AreAscending xs
+pub is_ascending : (xs : List ℕ) (r : Bool) → IsAllAdjacentAnswer (λ x y b. b ≡ ltb x y) xs r → r ≡ true
+    → AreAscending xs
 is_ascending xs r h is = ascends xs (λ k d lt. let all = rw is at h in
     ltb-true (get_or xs k d) (get_or xs (suc k) d) (sym (rw add-one at (all k d (omega arith)))))
 
-pub is_no_ascending : (xs : List ℕ) (r : Bool) → IsAllAdjacentAnswer (λ x y b. b ≡ ltb x y) xs r → r ≡ false → AreAscending xs → ⊥
+pub is_no_ascending : (xs : List ℕ) (r : Bool) → IsAllAdjacentAnswer (λ x y b. b ≡ ltb x y) xs r → r ≡ false
+    → AreAscending xs → ⊥
 is_no_ascending xs r h is up =
     let some = rw is at h in
     let le = ltb-false (get_or xs some.0 0) (get_or xs (suc some.0) 0) (sym (rw add-one at (some.2 0))) in

@@ -37,7 +37,8 @@ stops digits i number n h lt none w =
     let within = w.within in
     none (All-get_or IsDigit digits i 0 lt w.numeral.decimal) (omega arith)
 
-pub ends : (digits : List ℕ) (i number : ℕ) → AreReadTo digits i number → length digits ≤ i → false ≡ (length digits == 0) →
+pub ends : (digits : List ℕ) (i number : ℕ) → AreReadTo digits i number → length digits ≤ i
+    → false ≡ (length digits == 0) →
     IsWritten digits number
 ends digits i number h le some = record {
   numeral = record {

@@ -42,13 +42,15 @@ numerals [] (n ∷ ns) h = absurd h
 numerals (g ∷ gs) [] h = absurd h
 numerals (g ∷ gs) (n ∷ ns) h = All-cons IsNumeral g gs h.0.numeral (numerals gs ns h.1)
 
-numbers_are : (groups : List (List ℕ)) (numbers : List ℕ) → AllZip IsWritten groups numbers → numbers ≡ map number_of groups
+numbers_are : (groups : List (List ℕ)) (numbers : List ℕ) → AllZip IsWritten groups numbers
+    → numbers ≡ map number_of groups
 numbers_are [] [] h = refl
 numbers_are [] (n ∷ ns) h = absurd h
 numbers_are (g ∷ gs) [] h = absurd h
 numbers_are (g ∷ gs) (n ∷ ns) h = let first = h.0.says in let rest = numbers_are gs ns h.1 in cc
 
-within : (groups : List (List ℕ)) (numbers : List ℕ) → AllZip IsWritten groups numbers → All (λ n. n ≤ most_index) numbers
+within : (groups : List (List ℕ)) (numbers : List ℕ) → AllZip IsWritten groups numbers
+    → All (λ n. n ≤ most_index) numbers
 within [] [] h = All-nil (λ n. n ≤ most_index)
 within [] (n ∷ ns) h = absurd h
 within (g ∷ gs) [] h = absurd h
@@ -81,7 +83,8 @@ written (g ∷ gs) all low = (
 )
 
 -- what an index word is spelled with
-pub parts_of : (bytes numbers : List ℕ) (h : IsIndexWord bytes numbers) → (rest : List ℕ) × (bytes ≡ 36 ∷ 95 ∷ rest) × SayAll rest numbers
+pub parts_of : (bytes numbers : List ℕ) (h : IsIndexWord bytes numbers)
+    → (rest : List ℕ) × (bytes ≡ 36 ∷ 95 ∷ rest) × SayAll rest numbers
 parts_of bytes numbers h = parts_from h.groups h.some h.numerals h.spelled h.numbers_are h.within where
   parts_from : (groups : List (List ℕ)) → groups ≢ [] → All IsNumeral groups → bytes ≡ 36 ∷ flat_map group groups →
       numbers ≡ map number_of groups → All (λ n. n ≤ most_index) numbers →
@@ -96,7 +99,8 @@ parts_of bytes numbers h = parts_from h.groups h.some h.numerals h.spelled h.num
         (written (g ∷ gs) all (subst (All (λ n. n ≤ most_index)) is low))),
   )
 
-pub more_written : (groups : List (List ℕ)) (numbers : List ℕ) (i : ℕ) (g : List ℕ) (n : ℕ) → i < length groups → g ≡ get_or groups i g →
+pub more_written : (groups : List (List ℕ)) (numbers : List ℕ) (i : ℕ) (g : List ℕ) (n : ℕ) → i < length groups
+    → g ≡ get_or groups i g →
     AllZip IsWritten (take i groups) numbers → IsWritten g n →
     AllZip IsWritten (take (suc i) groups) (numbers ++ n ∷ [])
 more_written [] numbers i g n lt is all one = absurd (omega arith)
@@ -107,7 +111,8 @@ more_written (first ∷ groups) (m ∷ numbers) (suc i) g n lt is all one =
     (all.0, more_written groups numbers i g n (omega arith) is all.1 one)
 
 -- each group says a number
-pub one_written : (groups : List (List ℕ)) (numbers : List ℕ) (i : ℕ) (g : List ℕ) → AllZip IsWritten groups numbers → i < length groups →
+pub one_written : (groups : List (List ℕ)) (numbers : List ℕ) (i : ℕ) (g : List ℕ) → AllZip IsWritten groups numbers
+    → i < length groups →
     g ≡ get_or groups i g → (n : ℕ) × IsWritten g n
 one_written [] numbers i g all lt is = absurd (omega arith)
 one_written (first ∷ groups) [] i g all lt is = absurd all
@@ -121,12 +126,14 @@ says_of bytes rest numbers is h =
     let same : parts.0 ≡ rest = let begun = parts.1 in cc in
     subst (λ (behind : List ℕ). SayAll behind numbers) same parts.2
 
-pub says_different : (bytes rest ours theirs : List ℕ) → bytes ≡ 36 ∷ 95 ∷ rest → SayAll rest ours → IsIndexWord bytes theirs →
+pub says_different : (bytes rest ours theirs : List ℕ) → bytes ≡ 36 ∷ 95 ∷ rest → SayAll rest ours
+    → IsIndexWord bytes theirs →
     AreDifferent ours
 says_different bytes rest ours theirs is h word =
     subst AreDifferent (numbers_are _ theirs (says_of bytes rest theirs is word) ∙ sym (numbers_are _ ours h)) word.different
 
-pub set_of : (bytes rest numbers set : List ℕ) → bytes ≡ 36 ∷ 95 ∷ rest → SayAll rest numbers → Arranges numbers set → IsSetOf bytes set
+pub set_of : (bytes rest numbers set : List ℕ) → bytes ≡ 36 ∷ 95 ∷ rest → SayAll rest numbers → Arranges numbers set
+    → IsSetOf bytes set
 set_of bytes rest numbers set is h arranged = record {
   written = numbers;
   spelled = subst (λ (all : List ℕ). IsIndexWord all numbers) (sym is) (is_word rest numbers h arranged.different);

@@ -33,7 +33,8 @@ below_more : (marks : List IndexMark) (at : ℕ) → All (λ it. it.token < at) 
 below_more marks at h =
     All-weaker (λ (it : IndexMark). it.token < at) (λ (it : IndexMark). it.token < at + 1) (λ it lt. omega arith) marks h
 
-pub marks_word : (lexed : Lexed) (flags : List Bool) (at : ℕ) (marks : List IndexMark) (set : List ℕ) → AreMarkedTo lexed flags at marks →
+pub marks_word : (lexed : Lexed) (flags : List Bool) (at : ℕ) (marks : List IndexMark) (set : List ℕ)
+    → AreMarkedTo lexed flags at marks →
     IsIndex lexed at → is_marked flags at ≡ true → Says lexed at set →
     AreMarkedTo lexed flags (at + 1) (marks ++ mark_at at set ∷ [])
 marks_word lexed flags at marks set h index is_placed says = record {
@@ -53,7 +54,8 @@ marks_word lexed flags at marks set h index is_placed says = record {
 }
 
 -- the bytes of a token, as a reader has them
-text_is : (lexed : Lexed) (at : ℕ) (bytes : List ℕ) → option_map (λ (token : Token). slice_range lexed.bytes token.start token.end)
+text_is : (lexed : Lexed) (at : ℕ) (bytes : List ℕ)
+    → option_map (λ (token : Token). slice_range lexed.bytes token.start token.end)
     (slice_get lexed.tokens at) ≡ Some bytes → bytes ≡ text_of lexed at
 text_is lexed at bytes is = by_token (slice_get lexed.tokens at) refl where
   by_token : (o : Option Token) → slice_get lexed.tokens at ≡ o → bytes ≡ text_of lexed at

@@ -7,7 +7,8 @@ use Rattle.c_lexer.specs.declared.token.Token.{Token}
 use Rattle.c_lexer.specs.declared.places.Mark.{Mark}
 use Rattle.c_lexer.specs.Reading.{Front, IsKind, Meanings, Reaches, Spells, begins, skips, takes}
 
-kind_by : (unit : ℕ) (wide : Bool) (words others : Meanings) → MeansTheSame words others → (names : List (List ℕ)) (bytes : List ℕ) (kind : TokenKind) →
+kind_by : (unit : ℕ) (wide : Bool) (words others : Meanings) → MeansTheSame words others
+    → (names : List (List ℕ)) (bytes : List ℕ) (kind : TokenKind) →
     IsKind unit wide words names bytes kind → IsKind unit wide others names bytes kind
 kind_by unit wide words others same names bytes (Name id) h = h
 kind_by unit wide words others same names bytes (Keyword word) h = h
@@ -19,7 +20,8 @@ kind_by unit wide words others same names bytes (Qual lattice elem) h = (h.0, h.
 kind_by unit wide words others same names bytes Index h = h
 kind_by unit wide words others same names bytes End h = h
 
-reached_by : (unit : ℕ) (wide : Bool) (words others : Meanings) → MeansTheSame words others → (bytes : List ℕ) (front : Front) →
+reached_by : (unit : ℕ) (wide : Bool) (words others : Meanings) → MeansTheSame words others
+    → (bytes : List ℕ) (front : Front) →
     Reaches unit wide words bytes front → Reaches unit wide others bytes front
 reached_by unit wide words others same bytes _ begins = begins
 reached_by unit wide words others same bytes _ (skips old new before step) =

@@ -17,7 +17,7 @@ use Rattle.c_types.specs.Sources.{UnitRead, sources_in, sources_of}
 use Rattle.c_types.specs.declared.source.Source.{Source}
 use Rattle.c_units.specs.Units.{IsWellFormed}
 use Rattle.index_words.specs.Marks.{IndexMark}
-use Rattle.name_laws.specs.NameLaws.{IsSound}
+use Rattle.resolve_laws.specs.NameLaws.NameLaws.{IsSound}
 use Rattle.type_rules.specs.Program.{HasNoFault}
 use Rattle.unit_types.specs.declared.fault.ShapeFault.{ShapeFault}
 use Rattle.unit_types.specs.declared.fault.ShapeFault.TheVariants as shapes
@@ -31,12 +31,14 @@ use Rattle.cq_prelude.specs.declared.fault.PreludeFault.{PreludeFault}
 use Rattle.cq_prelude.specs.declared.fault.PreludeFault.TheVariants.{BadIndex, HasBody, Lex, NoMemory, Parse, Shape}
 use Rattle.cq_prelude.proofs.Meanings.{spelled_by}
 
-pub sound_alone : (source : Source) → IsWellFormed source.tokens.wide (lexemes_of source.tokens) (items_of source.unit) →
+pub sound_alone : (source : Source)
+    → IsWellFormed source.tokens.wide (lexemes_of source.tokens) (items_of source.unit) →
     All IsSound (sources_of (source ∷ []))
 sound_alone source h zero d lt = (lexemes_of source.tokens, h.rules)
 sound_alone source h (suc k) d lt = absurd (omega arith)
 
-pub lex_refusal : (wide : Bool) (words : Meanings) (bytes : List ℕ) (fault : LexFault) → IsRefusal 0 wide words bytes fault →
+pub lex_refusal : (wide : Bool) (words : Meanings) (bytes : List ℕ) (fault : LexFault)
+    → IsRefusal 0 wide words bytes fault →
     IsFaultOf wide words bytes (placed_lex fault)
 lex_refusal wide words bytes (BadByte spot) h = (h, λ same. (cc))
 lex_refusal wide words bytes (Unended spot) h = (h, λ same. (cc))
@@ -54,14 +56,16 @@ abbrev made : ℕ → Bool → List ℕ → List Token → List Mark → Option 
 made unit wide bytes tokens marks constant volatile restrict =
     record { unit = unit; wide = wide; bytes = bytes; tokens = tokens; marks = marks; constant = constant; volatile = volatile; restrict = restrict }
 
-same : (one other : Lexed) → one.unit ≡ other.unit → one.wide ≡ other.wide → one.bytes ≡ other.bytes → one.tokens ≡ other.tokens → one.marks ≡ other.marks →
+same : (one other : Lexed) → one.unit ≡ other.unit → one.wide ≡ other.wide → one.bytes ≡ other.bytes
+    → one.tokens ≡ other.tokens → one.marks ≡ other.marks →
     one.constant ≡ other.constant → one.volatile ≡ other.volatile → one.restrict ≡ other.restrict → one ≡ other
 same one other unit dialect bytes tokens marks constant volatile restrict =
     let parts : made one.unit one.wide one.bytes one.tokens one.marks one.constant one.volatile one.restrict
     ≡ made other.unit other.wide other.bytes other.tokens other.marks other.constant other.volatile other.restrict = cc in
     parts
 
-pub same_lexed : (wide : Bool) (words : Meanings) (bytes : List ℕ) (one other : Lexed) → one.unit ≡ 0 → one.wide ≡ wide → one.bytes ≡ bytes → NamesKeywords words one →
+pub same_lexed : (wide : Bool) (words : Meanings) (bytes : List ℕ) (one other : Lexed) → one.unit ≡ 0 → one.wide ≡ wide
+    → one.bytes ≡ bytes → NamesKeywords words one →
     Lexes wide words bytes other →
     ((tokens : List Token) (names : List (List ℕ)) (marks : List Mark) → Spells 0 wide words bytes tokens names marks →
     (one.tokens ≡ tokens) × (one.marks ≡ marks)) → one ≡ other
@@ -73,14 +77,17 @@ same_lexed wide words bytes one other unit dialect bytes_are keywords h only =
     (keywords.volatile ∙ sym (h.marks.mean (codes "volatile")) ∙ sym h.marks.keywords.volatile)
     (keywords.restrict ∙ sym (h.marks.mean (codes "restrict")) ∙ sym h.marks.keywords.restrict)
 
-pub lex_only : (wide : Bool) (words : Meanings) (bytes : List ℕ) (lexed : Lexed) (fault : LexFault) → Lexes wide words bytes lexed →
+pub lex_only : (wide : Bool) (words : Meanings) (bytes : List ℕ) (lexed : Lexed) (fault : LexFault)
+    → Lexes wide words bytes lexed →
     ((tokens : List Token) (names : List (List ℕ)) (marks : List Mark) → Spells 0 wide words bytes tokens names marks → fault ≡ NoRoom) →
     placed_lex fault ≡ NoMemory
 lex_only wide words bytes lexed fault h only =
     let spelled = spells wide words bytes lexed h in ap placed_lex (only lexed.tokens spelled.0 lexed.marks spelled.1)
 
-pub parse_fault : (wide : Bool) (words : Meanings) (bytes : List ℕ) (lexed : Lexed) (fault : ParseFault) → Lexes wide words bytes lexed →
-    (fault ≢ OutOfRoom → IsUnitRefusal lexed fault) → IsFaultOf wide words bytes (placed_parse lexed fault (refused_at fault))
+pub parse_fault : (wide : Bool) (words : Meanings) (bytes : List ℕ) (lexed : Lexed) (fault : ParseFault)
+    → Lexes wide words bytes lexed →
+    (fault ≢ OutOfRoom → IsUnitRefusal lexed fault)
+    → IsFaultOf wide words bytes (placed_parse lexed fault (refused_at fault))
 parse_fault wide words bytes lexed (Syntax token) h refused = (lexed, h, λ same. (cc), refused (λ same. (cc)), refl)
 parse_fault wide words bytes lexed (TooDeep token) h refused = (lexed, h, λ same. (cc), refused (λ same. (cc)), refl)
 parse_fault wide words bytes lexed (Redeclared token) h refused = (lexed, h, λ same. (cc), refused (λ same. (cc)), refl)
@@ -99,7 +106,8 @@ parse_only lexed (BadMix token) items none h = absurd (none (λ same. (cc)) item
 parse_only lexed (BadTarget token) items none h = absurd (none (λ same. (cc)) items h)
 parse_only lexed OutOfRoom items none h = refl
 
-pub unit_fault : (wide : Bool) (words : Meanings) (bytes : List ℕ) (it : UnitRead) (fault : PreludeFault) → Parses wide words bytes it → IsFaultIn it fault →
+pub unit_fault : (wide : Bool) (words : Meanings) (bytes : List ℕ) (it : UnitRead) (fault : PreludeFault)
+    → Parses wide words bytes it → IsFaultIn it fault →
     IsFaultOf wide words bytes fault
 unit_fault wide words bytes it (Lex fault) parses h = absurd h
 unit_fault wide words bytes it (Parse fault spot) parses h = absurd h
@@ -111,7 +119,8 @@ unit_fault wide words bytes it NoMemory parses h = tt
 none_first : (fault : Fault) (all : List Fault) → all ≡ [] → rules.IsFirst fault all → ⊥
 none_first fault all is h = let has = subst (λ (faults : List Fault). Contains faults fault) is h.there in omega (arith, has.1)
 
-no_shape : (it : UnitRead) (fault : ShapeFault) (spot : Spot) → HasNoFault (sources_in (it ∷ [])) → IsShaped it fault spot → ⊥
+no_shape : (it : UnitRead) (fault : ShapeFault) (spot : Spot) → HasNoFault (sources_in (it ∷ []))
+    → IsShaped it fault spot → ⊥
 no_shape it (shapes.Undeclared unit token) spot none h = none_first _ _ none h.first
 no_shape it (shapes.NotPointer unit token) spot none h = none_first _ _ none h.first
 no_shape it (shapes.NotFunction unit token) spot none h = none_first _ _ none h.first
@@ -123,7 +132,8 @@ no_shape it (shapes.TypeTooLarge unit token) spot none h = none_first _ _ none h
 no_shape it (shapes.NoType unit token) spot none h = none_first _ _ none h.first
 no_shape it shapes.NoMemory spot none h = h.reason refl
 
-unit_only : (it : UnitRead) (fault : PreludeFault) → NoneFails it.lexed it.items → HasNoFault (sources_in (it ∷ [])) → IsFaultIn it fault →
+unit_only : (it : UnitRead) (fault : PreludeFault) → NoneFails it.lexed it.items → HasNoFault (sources_in (it ∷ []))
+    → IsFaultIn it fault →
     fault ≡ NoMemory
 unit_only it (Lex fault) rules none h = absurd h
 unit_only it (Parse fault spot) rules none h = absurd h

@@ -34,7 +34,8 @@ lesser_is best token = ⊎_elim
     (λ (ge : ltb best token ≡ false). rw ge (omega (arith, ltb-false best token ge), omega arith, inr refl))
     (cases_Bool (ltb best token))
 
-least_is : (best : ℕ) (tokens : List ℕ) → (found : ℕ) × (least_behind (Some best) tokens ≡ Some found) × IsLeast (best ∷ tokens) found
+least_is : (best : ℕ) (tokens : List ℕ)
+    → (found : ℕ) × (least_behind (Some best) tokens ≡ Some found) × IsLeast (best ∷ tokens) found
 least_is best [] = (
   best,
   refl,
@@ -85,7 +86,8 @@ module _ (lexed : Lexed) (items : List Item) (flags : List Bool) (flagged : AreF
         past : (token : ℕ) → length lexed.tokens ≤ token → IsIndex lexed token → ⊥
         past token le is = let none = slice_get_past lexed.tokens token le in let h = rw none at is in cc
 
-  right_before : (end : ℕ) (marks : List IndexMark) → AreMarkedTo lexed flags end marks → (token : ℕ) → token < end → IsIndex lexed token →
+  right_before : (end : ℕ) (marks : List IndexMark) → AreMarkedTo lexed flags end marks → (token : ℕ) → token < end
+      → IsIndex lexed token →
       IsRight lexed items token
   right_before end marks h token lt is = record {
     set = _;
@@ -101,7 +103,8 @@ module _ (lexed : Lexed) (items : List Item) (flags : List Bool) (flagged : AreF
   bad_fails token bad =
       (bad.index, λ right. bad.wrong ((flagged.tell token (is_there token bad.index)).1 right.placed) right.set right.says)
 
-  none_below : (end : ℕ) (marks : List IndexMark) → AreMarkedTo lexed flags end marks → (token : ℕ) → Fails lexed items bad_index token →
+  none_below : (end : ℕ) (marks : List IndexMark) → AreMarkedTo lexed flags end marks → (token : ℕ)
+      → Fails lexed items bad_index token →
       end ≤ token
   none_below end marks h token fails = ⊎_elim (λ (lt : token < end). absurd (fails.1 (right_before end marks h token lt fails.0)))
       (λ (le : end ≤ token). le) (cases_lt token end)
@@ -115,7 +118,8 @@ module _ (lexed : Lexed) (items : List Item) (flags : List Bool) (flagged : AreF
   pub are_marks : (marks : List IndexMark) → AreMarkedTo lexed flags (length lexed.tokens) marks → AreMarks lexed marks
   are_marks marks h = record { said = λ token is. h.said token (is_there token is) is; only = h.only }
 
-  pub body_is_first : (body : Option ℕ) (opening : ℕ) (marks : List IndexMark) → body ≡ least_behind None (bodies items) →
+  pub body_is_first : (body : Option ℕ) (opening : ℕ) (marks : List IndexMark)
+      → body ≡ least_behind None (bodies items) →
       body ≡ Some opening → AreMarkedTo lexed flags (length lexed.tokens) marks →
       IsFirst lexed items has_body opening
   body_is_first body opening marks least some h = record {
@@ -146,7 +150,8 @@ module _ (lexed : Lexed) (items : List Item) (flags : List Bool) (flagged : AreF
         before_word le has_body earlier fails = let least = (found_is (bodies items) opening (sym some)).least earlier fails in omega arith
         before_word le bad_index earlier fails = none_below at marks h earlier fails
 
-  pub with_body_is : (body : Option ℕ) (fault : RuleFault) → body ≡ least_behind None (bodies items) → IsFirstBad lexed flags fault →
+  pub with_body_is : (body : Option ℕ) (fault : RuleFault) → body ≡ least_behind None (bodies items)
+      → IsFirstBad lexed flags fault →
       IsRuleFault lexed items (with_body body fault)
   with_body_is body (HasBody token) least h = absurd h
   with_body_is body (BadIndex token) least h = first_is body token h.0 least h.1 h.2

@@ -19,21 +19,25 @@ use Rattle.cq_prelude.specs.declared.reading.PreludeRead.{PreludeRead}
 use Rattle.cq_prelude.specs.declared.rules.RuleFault.{RuleFault}
 use Rattle.cq_prelude.specs.declared.rules.RuleFault.TheVariants.{BadIndex as BadWord, HasBody as Body, NoMemory as OutOfRules}
 
+-- what a fault of the bytes says of a prelude
 abbrev pub placed_lex : LexFault → PreludeFault
 placed_lex (BadByte spot) = Lex (BadByte spot)
 placed_lex (Unended spot) = Lex (Unended spot)
 placed_lex (UnknownQualifier spot) = Lex (UnknownQualifier spot)
 placed_lex NoRoom = NoMemory
 
+-- what a fault of the grammar says of a prelude, at the token that it names
 abbrev pub placed_parse : Lexed → ParseFault → Option ℕ → PreludeFault
 placed_parse lexed fault None = NoMemory
 placed_parse lexed fault (Some token) = Parse fault (spot_of lexed token)
 
+-- what a fault of the rules of a prelude says, at its token
 abbrev pub placed_rule : Lexed → RuleFault → PreludeFault
 placed_rule lexed (Body token) = HasBody (spot_of lexed token)
 placed_rule lexed (BadWord token) = BadIndex (spot_of lexed token)
 placed_rule lexed OutOfRules = NoMemory
 
+-- what a fault of names and types says of a prelude, at the token that it names
 abbrev pub placed_shape : Lexed → ShapeFault → Option ℕ → PreludeFault
 placed_shape lexed fault None = NoMemory
 placed_shape lexed fault (Some token) = Shape fault (spot_of lexed token)
@@ -44,6 +48,7 @@ pub record IsShaped (it : UnitRead) (fault : ShapeFault) (spot : Spot) : Type 0 
   pub first : IsFirstUnlessMemory fault (faults_of (sources_in (it ∷ [])))
   pub place : IfSome (fault_in fault) (λ (f : Fault). spot ≡ spot_of it.lexed f.at.1)
 
+-- the names and types of a unit have this fault; want of memory may come anywhere
 abbrev pub IsShapeFaultIn : UnitRead → PreludeFault → Type 0
 IsShapeFaultIn it (Shape fault spot) = IsShaped it fault spot
 IsShapeFaultIn it NoMemory = Unit {0}

@@ -7,6 +7,7 @@ use Rattle.cq_prelude.specs.Rules.{IsFirst, IsIndex, Says, bad_index, has_body}
 use Rattle.cq_prelude.specs.declared.rules.RuleFault.{RuleFault}
 use Rattle.cq_prelude.specs.declared.rules.RuleFault.TheVariants.{BadIndex, HasBody, NoMemory}
 
+-- whether the flag of a token is set
 abbrev pub is_marked : List Bool → ℕ → Bool
 is_marked flags token = slice_index_or flags token false
 
@@ -33,11 +34,12 @@ IsFirstBad lexed flags (HasBody token) = ⊥
 IsFirstBad lexed flags (BadIndex token) = (marks : List IndexMark) × AreMarkedTo lexed flags token marks × IsBad lexed flags token
 IsFirstBad lexed flags NoMemory = Unit {0}
 
--- of a body that may be there and a bad index word
+-- the first of a body that may be there and a bad index word
 abbrev pub first_fault : Option ℕ → ℕ → RuleFault
 first_fault None token = BadIndex token
 first_fault (Some opening) token = if nat_lt opening token then HasBody opening else BadIndex token
 
+-- the first of a body that may be there and a fault of index words
 abbrev pub with_body : Option ℕ → RuleFault → RuleFault
 with_body body (HasBody token) = HasBody token
 with_body body (BadIndex token) = first_fault body token

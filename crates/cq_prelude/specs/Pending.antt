@@ -8,6 +8,7 @@ use Rattle.cq_prelude.specs.Placing.{in_array_words, in_declr, in_init_declrs, i
 use Rattle.cq_prelude.specs.declared.left.Part.{Part}
 use Rattle.cq_prelude.specs.declared.left.Part.TheVariants as parts
 
+-- those of one part
 abbrev pub in_part : Part → List ℕ
 in_part (parts.Declr d) = in_declr (declr_of d.now.value)
 in_part (parts.Params ps) = in_params (params_from ps.now)
@@ -18,15 +19,16 @@ in_part (parts.Quals quals) = in_quals quals.now
 in_part (parts.InitDeclrs ds) = in_init_declrs (init_declrs_from ds.now)
 in_part (parts.Items items) = index_places (map item_of items.now)
 
--- of parts the last of which comes first
+-- those of parts the last of which comes first
 unfoldable pub pending : List Part → List ℕ
 pending [] = []
 pending (part ∷ parts) = pending parts ++ in_part part
 
+-- those of the next part, if there is one
 abbrev pub in_next : Option Part → List ℕ
 in_next None = []
 in_next (Some part) = in_part part
 
--- of the specifiers and declarators of a declaration
+-- those of the specifiers and declarators of a declaration
 abbrev pub in_parts : SpecWords → InitDeclrs → List ℕ
 in_parts ws ds = if is_of_functions ws ds then in_specs ws ++ in_init_declrs ds else []

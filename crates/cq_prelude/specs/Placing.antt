@@ -14,25 +14,30 @@ use Rattle.c_tree.specs.Unit.{Item, function_item, decl_item, asm_item, semi_ite
 
 -- the index words among qualifiers, by their tokens
 
+-- the token of a qualifier that is an index word
 abbrev pub in_qual : Qual → List ℕ
 in_qual (quals.Word word) = []
 in_qual (quals.Element token) = []
 in_qual (quals.Index token) = token ∷ []
 
+-- the index words among qualifiers
 abbrev pub in_quals : List Qual → List ℕ
 in_quals [] = []
 in_quals (q ∷ qs) = in_qual q ++ in_quals qs
 
+-- the index words behind the `*` of a pointer
 abbrev pub in_pointer_words : List PointerWord → List ℕ
 in_pointer_words [] = []
 in_pointer_words (pointer_words.Qual q ∷ ws) = in_qual q ++ in_pointer_words ws
 in_pointer_words (pointer_words.Attr attr ∷ ws) = in_pointer_words ws
 
+-- the index words behind the `[` of an array declarator
 abbrev pub in_array_words : List ArrayWord → List ℕ
 in_array_words [] = []
 in_array_words (array_words.Static token ∷ ws) = in_array_words ws
 in_array_words (array_words.Qual q ∷ ws) = in_qual q ++ in_array_words ws
 
+-- the index words before `...`
 abbrev pub in_dots : Option Dots → List ℕ
 in_dots None = []
 in_dots (Some dots) = in_quals dots.quals
@@ -54,12 +59,15 @@ in_spec_word (typeof_type word opening ws d closing) = []
 in_spec_word (align attr) = []
 in_spec_word (auto_word token) = []
 
+-- the index words among specifiers
 abbrev pub in_specs : SpecWords → List ℕ
 in_specs no_words = []
 in_specs (more_words w ws) = in_spec_word w ++ in_specs ws
 
--- The index words on the type that a declarator makes, in the order of the text; nothing of an expression or an attribute.
+-- The index words on the type that a declarator makes, in the order of the text; nothing of an expression or an
+-- attribute.
 abbrev mutual
+  -- those of a declarator
   pub in_declr : Declr → List ℕ
   in_declr (pointer star words d) = in_pointer_words words ++ in_declr d
   in_declr (declr_name token name) = []
@@ -73,14 +81,17 @@ abbrev mutual
   in_declr (identifiers d opening names closing) = in_declr d
   in_declr (base_name token) = []
 
+  -- those of a declarator that may be absent
   pub in_some_declr : SomeDeclr → List ℕ
   in_some_declr no_declr = []
   in_some_declr (some_declr d) = in_declr d
 
+  -- those of the parameters of a function declarator
   pub in_params : Params → List ℕ
   in_params no_params = []
   in_params (more_params ws d attrs ps) = in_specs ws ++ (in_some_declr d ++ in_params ps)
 
+-- the index words of the declarators of a declaration
 abbrev pub in_init_declrs : InitDeclrs → List ℕ
 in_init_declrs no_init_declrs = []
 in_init_declrs (more_init_declrs attrs d label behind init ds) = in_declr d ++ in_init_declrs ds
@@ -90,14 +101,17 @@ abbrev pub declare_functions : InitDeclrs → Bool
 declare_functions no_init_declrs = true
 declare_functions (more_init_declrs attrs d label behind init ds) = declares_function d && declare_functions ds
 
+-- whether a declaration has a declarator
 abbrev pub has_some : InitDeclrs → Bool
 has_some no_init_declrs = false
 has_some (more_init_declrs attrs d label behind init ds) = true
 
+-- whether a keyword is `typedef`
 abbrev pub is_typedef : Keyword → Bool
 is_typedef keywords.Typedef = true
 is_typedef keyword = false
 
+-- whether `typedef` is among storage words
 abbrev pub has_typedef : List Keyword → Bool
 has_typedef [] = false
 has_typedef (keyword ∷ all) = if is_typedef keyword then true else has_typedef all
@@ -106,13 +120,16 @@ has_typedef (keyword ∷ all) = if is_typedef keyword then true else has_typedef
 abbrev pub is_of_functions : SpecWords → InitDeclrs → Bool
 is_of_functions ws ds = not (has_typedef (storage_words ws)) && (has_some ds && declare_functions ds)
 
+-- the index words of a declaration, where it declares functions alone
 abbrev pub in_declaration : Declaration → List ℕ
 in_declaration (declaration exts ws ds semi) = if is_of_functions ws ds then in_specs ws ++ in_init_declrs ds else []
 
+-- the same of a declaration or an assertion
 abbrev pub in_decl : Decl → List ℕ
 in_decl (decl_declaration it) = in_declaration it
 in_decl (decl_assert it) = []
 
+-- the same of an item of a unit: none in a function with a body
 abbrev pub in_item : Item → List ℕ
 in_item (function_item exts ws d attrs opening items closing) = []
 in_item (old_function_item exts ws d attrs ds opening items closing) = []

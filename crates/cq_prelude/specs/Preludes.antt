@@ -32,7 +32,8 @@ pub record Parses (wide : Bool) (words : Meanings) (bytes : List ℕ) (it : Unit
   pub lexes : Lexes wide words bytes it.lexed
   pub formed : IsWellFormed it.lexed.wide (lexemes_of it.lexed) it.items
 
--- The bytes are a prelude: a well-formed unit without bodies of functions, whose index words are right, and whose names and types have
+-- The bytes are a prelude: a well-formed unit without bodies of functions, whose index words are right, and whose names
+-- and types have
 -- no fault.
 pub record IsPrelude (wide : Bool) (words : Meanings) (bytes : List ℕ) (it : UnitRead) (marks : List IndexMark) : Type 0 where
   pub parses : Parses wide words bytes it

@@ -33,6 +33,7 @@ pub data Rule : Type 0 where
   has_body : Rule
   bad_index : Rule
 
+-- the rule fails at a token: at the `{` of a body, or at an index word that is not right
 abbrev pub Fails : Lexed → List Item → Rule → ℕ → Type 0
 Fails lexed items has_body token = Contains (bodies items) token
 Fails lexed items bad_index token = IsIndex lexed token × (IsRight lexed items token → ⊥)
@@ -42,6 +43,7 @@ pub record IsFirst (lexed : Lexed) (items : List Item) (rule : Rule) (token : �
   pub fails : Fails lexed items rule token
   pub none_before : (other : Rule) (earlier : ℕ) → Fails lexed items other earlier → token ≤ earlier
 
+-- no rule of a prelude fails
 abbrev pub NoneFails : Lexed → List Item → Type 0
 NoneFails lexed items = (rule : Rule) (token : ℕ) → Fails lexed items rule token → ⊥
 

@@ -3,6 +3,7 @@ use Rattle.std.specs.Prelude.{Bool, false}
 use Rattle.c_tree.specs.Tree.{SpecWord, storage, thread, inline_word, noreturn, qualifier, basic, struct_type, enum_type, typedef_name, attribute, typeof_value, typeof_type, align, auto_word}
 use Rattle.cq_prelude.specs.Placing.{is_typedef}
 
+-- whether a word of specifiers is `typedef`
 abbrev pub is_typedef_word : SpecWord → Bool
 is_typedef_word (storage word) = is_typedef word.keyword
 is_typedef_word (thread token) = false

@@ -4,6 +4,7 @@ use Rattle.std.specs.List.{AllZip, slice_split}
 use Rattle.index_words.specs.Marks.{AreAscending}
 use Rattle.index_words.specs.Words.{AreDifferent, IsNumeral, most_index, number_of}
 
+-- the byte `_`
 abbrev pub is_low_line : ℕ → Bool
 is_low_line c = c == 95
 

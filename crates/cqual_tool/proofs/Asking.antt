@@ -8,7 +8,8 @@ use Rattle.cqual_tool.specs.Words.{FileNames, of_files}
 
 -- the files of words have the sources of the words
 pub counted : (named : FileNames) (files : FileWords) (question : Question)
-    → named ≡ of_files (asked.names_in files) question → IsSourceCount (length files.sources.items) → IsSourceCount (length named.sources)
+    → named ≡ of_files (asked.names_in files) question → IsSourceCount (length files.sources.items)
+    → IsSourceCount (length named.sources)
 counted named files question is count =
     subst IsSourceCount
     (sym (ap (λ (it : FileNames). length it.sources) is ∙ length-map files.sources.items (λ (name : Bor (List ℕ)). name.now))) count

@@ -4,7 +4,7 @@ use Rattle.lattice_core.specs.View.{LatticeView}
 use Rattle.index_words.specs.Marks.{IndexMark}
 use Rattle.c_lexer.specs.Tokens.{Lexed}
 use Rattle.c_types.specs.Sources.{UnitRead, lexed_of, sources_in}
-use Rattle.key_laws.specs.Differing.{IsRead, UnitsDiffer}
+use Rattle.row_laws.specs.KeyLaws.Differing.{IsRead, UnitsDiffer}
 use Rattle.flow_graph.specs.System.{System, most_variables}
 use Rattle.type_rules.specs.Program.{names_of}
 use Rattle.row_rules.specs.Annotations.{has_access}
@@ -30,13 +30,15 @@ module _ (lattices : List LatticeView) (marks : List IndexMark) (units : List Un
     (made : IsGenerated units (program_in lattices marks units) it.made)
     (few : length (positions_in (program_in lattices marks units)) ≤ most_variables) where
   -- the external functions of the program
-  pub held : ExternalsAreHeld → (texts : List UnitText) → externals_in texts (program_in lattices marks units) ≡ externals_held texts it
+  pub held : ExternalsAreHeld → (texts : List UnitText)
+      → externals_in texts (program_in lattices marks units) ≡ externals_held texts it
   held law texts =
       law texts it.made.skeletons (numbered_from 0 (starts_of (has_access lattices) (sources_in units))) (functions_in (names_of (sources_in units)))
       (let count = made.count in omega (arith, count, few)) made.skeletons.found
       ∙ ap (map (external_at texts it.made.skeletons)) (sym functions)
 
-  pub may_sign : All IsRead (sources_in units) → UnitsDiffer (sources_in units) → SkeletonsAreInOrder → OwnedApart → ExternalsAreHeld →
+  pub may_sign : All IsRead (sources_in units) → UnitsDiffer (sources_in units) → SkeletonsAreInOrder → OwnedApart
+      → ExternalsAreHeld →
       MaySign it
   may_sign read differ order apart law = record {
     units = λ named. subst (λ (lexed : List Lexed). AreApart (texts_of named lexed)) (sym are) (texts_apart named units differ);

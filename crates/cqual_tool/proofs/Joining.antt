@@ -7,8 +7,8 @@ use Rattle.c_lexer.specs.declared.token.Token.{Token}
 use Rattle.c_lexer.specs.Tokens.{Lexed}
 use Rattle.c_parser.specs.Parsing.{lexemes_of, numbered}
 use Rattle.type_rules.specs.Program as rules
-use Rattle.name_laws.specs.NameLaws.{IsSound}
-use Rattle.key_laws.specs.Differing.{AreNumbered, IsRead, UnitsDiffer, has_number, has_unit}
+use Rattle.resolve_laws.specs.NameLaws.NameLaws.{IsSound}
+use Rattle.row_laws.specs.KeyLaws.Differing.{AreNumbered, IsRead, UnitsDiffer, has_number, has_unit}
 use Rattle.c_types.specs.Sources.{UnitRead, lexed_of, sources_behind, sources_in}
 use Rattle.annotate.specs.Texts.{UnitText}
 use Rattle.annotate.specs.declared.scene.UnitText.{UnitText as LentUnit}
@@ -39,7 +39,8 @@ are_numbered : (n : ℕ) (ts : List Token) → AreNumbered (numbered n ts)
 are_numbered n [] = tt
 are_numbered n (t ∷ ts) = (no_number n (suc n) ts (omega arith), are_numbered (suc n) ts)
 
-read_behind : (earlier : List Lexed) (units : List UnitRead) → All IsFormed units → All IsRead (sources_behind earlier units)
+read_behind : (earlier : List Lexed) (units : List UnitRead) → All IsFormed units
+    → All IsRead (sources_behind earlier units)
 read_behind earlier [] formed = All-nil IsRead
 read_behind earlier (it ∷ units) formed =
     let own : IsFormed it = All-head IsFormed it units formed in
@@ -77,7 +78,8 @@ no_unit_on n earlier (u ∷ units) it none other =
     by false e more = more e
 
 differ_on : (earlier : List Lexed) (units : List UnitRead) (it : UnitRead) → UnitsDiffer (sources_behind earlier units)
-    → has_unit it.lexed.unit (sources_behind earlier units) ≡ false → UnitsDiffer (sources_behind earlier (units ++ it ∷ []))
+    → has_unit it.lexed.unit (sources_behind earlier units) ≡ false
+    → UnitsDiffer (sources_behind earlier (units ++ it ∷ []))
 differ_on earlier [] it differ none = (refl, tt)
 differ_on earlier (u ∷ units) it differ none =
     by (nat_eq u.lexed.unit it.lexed.unit) refl none (λ rest. differ_on (earlier ++ u.lexed ∷ []) units it differ.1 rest)
@@ -109,7 +111,8 @@ pub nothing_earlier : (number : ℕ) → AreEarlier number []
 nothing_earlier number = record { formed = All-nil IsFormed; differ = tt; lower = λ n le. refl }
 
 -- one more source, which has the next number
-pub one_more_may : (number : ℕ) (before : List UnitRead) (unit : UnitRead) → AreEarlier number before → unit.lexed.unit ≡ number → IsFormed unit
+pub one_more_may : (number : ℕ) (before : List UnitRead) (unit : UnitRead) → AreEarlier number before
+    → unit.lexed.unit ≡ number → IsFormed unit
     → AreEarlier (number + 1) (before ++ unit ∷ [])
 one_more_may number before unit may is own = record {
   formed = All-push IsFormed before unit may.formed own;
@@ -130,7 +133,8 @@ prelude_alone it unit formed = record {
 -- what is made of a source of a unit's number
 pub at_number : (wide : Bool) (lattices : List LatticeView) (number unit : ℕ) (file bytes : List ℕ) (before : List UnitRead) (marks : List IndexMark)
     (earlier : Earlier) (it : Joined) → unit ≡ number → IsEarlier number before earlier
-    → (IsEarlier unit before earlier → IsOneMore wide lattices unit file bytes before marks it) → IsOneMore wide lattices number file bytes before marks it
+    → (IsEarlier unit before earlier → IsOneMore wide lattices unit file bytes before marks it)
+    → IsOneMore wide lattices number file bytes before marks it
 at_number wide lattices number unit file bytes before marks earlier it same may of =
     subst (λ (n : ℕ). IsOneMore wide lattices n file bytes before marks it) same
     (of (subst (λ (n : ℕ). IsEarlier n before earlier) (sym same) may))
@@ -148,21 +152,25 @@ same_texts named earlier [] n = refl
 same_texts named earlier (it ∷ units) n =
     ap (λ (b : Bool). if nat_eq it.lexed.unit n then true else b) (same_texts named (earlier ++ it.lexed ∷ []) units n)
 
-apart_behind : (named : FileNames) (earlier : List Lexed) (units : List UnitRead) → UnitsDiffer (sources_behind earlier units)
+apart_behind : (named : FileNames) (earlier : List Lexed) (units : List UnitRead)
+    → UnitsDiffer (sources_behind earlier units)
     → scenes.AreApart (texts_of named (lexed_of units))
 apart_behind named earlier [] differ = tt
 apart_behind named earlier (it ∷ units) differ =
     (sym (same_texts named (earlier ++ it.lexed ∷ []) units it.lexed.unit) ∙ differ.0, apart_behind named (earlier ++ it.lexed ∷ []) units differ.1)
 
-pub texts_apart : (named : FileNames) (units : List UnitRead) → UnitsDiffer (sources_in units) → scenes.AreApart (texts_of named (lexed_of units))
+pub texts_apart : (named : FileNames) (units : List UnitRead) → UnitsDiffer (sources_in units)
+    → scenes.AreApart (texts_of named (lexed_of units))
 texts_apart named units differ = apart_behind named [] units differ
 
 -- the texts of units, one more at a time
-shown_on : (shown : List LentUnit) (u : LentUnit) → scenes.units_of (shown ++ u ∷ []) ≡ scenes.units_of shown ++ scenes.unit_of u ∷ []
+shown_on : (shown : List LentUnit) (u : LentUnit)
+    → scenes.units_of (shown ++ u ∷ []) ≡ scenes.units_of shown ++ scenes.unit_of u ∷ []
 shown_on [] u = refl
 shown_on (it ∷ shown) u = ap (λ (units : List UnitText). scenes.unit_of it ∷ units) (shown_on shown u)
 
-next_text : (named : FileNames) (units : List Lexed) (i : ℕ) (it : Lexed) → it ≡ slice_index_or units i it → i < length units
+next_text : (named : FileNames) (units : List Lexed) (i : ℕ) (it : Lexed) → it ≡ slice_index_or units i it
+    → i < length units
     → text_of named it ∷ texts_of named (drop (i + 1) units) ≡ texts_of named (drop i units)
 next_text named [] i it is lt = absurd (omega arith)
 next_text named (x ∷ units) zero it is lt = ap (λ (s : Lexed). text_of named s ∷ texts_of named units) is

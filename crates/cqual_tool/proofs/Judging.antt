@@ -16,10 +16,10 @@ use Rattle.certificate_checks.specs.declared.judging.Verdict.TheVariants.{Holds,
 use Rattle.certificate_checks.specs.Checks.{ComesTo as CertificateComesTo}
 use Rattle.certificate_checks.specs.Texts.{verdict_text}
 use Rattle.flow_query.specs.Answers.{IsWho}
-use Rattle.report_checks.specs.declared.judging.Checked.{Checked}
-use Rattle.report_checks.specs.declared.judging.Checked.TheVariants.{Hold, Bad}
-use Rattle.report_checks.specs.Checks.{ComesTo}
-use Rattle.report_checks.specs.Texts.{checked_text}
+use Rattle.path_checker.specs.declared.report_checks.judging.Checked.{Checked}
+use Rattle.path_checker.specs.declared.report_checks.judging.Checked.TheVariants.{Hold, Bad}
+use Rattle.path_checker.specs.ReportChecks.Checks.{ComesTo}
+use Rattle.path_checker.specs.ReportChecks.Texts.{checked_text}
 use Rattle.cqual_tool.specs.declared.status.Status.{Status}
 use Rattle.cqual_tool.specs.declared.status.Status.TheVariants.{Accepted, Rejected, PathsHold, PathBad, CertificateHolds, CertificateBad, Answered, NoName, NoSignature, Malformed, BadWords, ReadFault, WriteFault, NoMemory}
 use Rattle.cqual_tool.specs.declared.answer.Answer.{Answer}
@@ -36,13 +36,15 @@ judged unit it true text is = IsRight text is
 judged unit it false text is = IsWrong text is
 
 pub judged_as : (unit : Option ℕ) (it : Judging) (sys : System) (accepted : Bool) (status : Status) (text words : List ℕ)
-    → it.system ≡ sys → status ≡ status_of accepted → text ≡ words → IsJudgedWith it.scene sys unit accepted words → IsReport unit it status text
+    → it.system ≡ sys → status ≡ status_of accepted → text ≡ words → IsJudgedWith it.scene sys unit accepted words
+    → IsReport unit it status text
 judged_as unit it sys accepted status text words system same spelled is =
     at_equal (IsReport unit it) status (status_of accepted) text words same spelled
     (judged unit it accepted words (subst (λ (s : System). IsJudgedWith it.scene s unit accepted words) (sym system) is))
 
 -- the report of a program that is not accepted, where its certificate is asked for
-pub uncertified : (it : Judging) (status : Status) (text : List ℕ) → (IsAccepted it.system (orders_of it.scene.lattices) → ⊥)
+pub uncertified : (it : Judging) (status : Status) (text : List ℕ)
+    → (IsAccepted it.system (orders_of it.scene.lattices) → ⊥)
     → IsReport None it status text → IsCertified it status text
 uncertified it Accepted text never (IsRight _ (AcceptedWith _ report is spelled)) = absurd (never is.accepted)
 uncertified it Rejected text never (IsWrong _ is) = Uncertified text is
@@ -62,7 +64,8 @@ uncertified it NoMemory text never is = elim is [ ]
 -- what is made of certificates, where there are some, and where there are none
 pub certified_as : (it : Judging) (lattices : List LatticeView) (sys : System) (found : Option (Vec ℕ Global)) (text : Vec ℕ Global)
     → it.scene.lattices ≡ lattices → sys ≡ it.system → found ≡ Some text
-    → IfSome found (λ t. IsCertificate sys (orders_of lattices) t.items) → IfSome found (λ t. IsAccepted sys (orders_of lattices))
+    → IfSome found (λ t. IsCertificate sys (orders_of lattices) t.items)
+    → IfSome found (λ t. IsAccepted sys (orders_of lattices))
     → IsCertified it Accepted text.items
 certified_as it lattices sys found text same system some written accepted =
     let is = subst (λ (o : Option (Vec ℕ Global)). IfSome o (λ t. IsCertificate sys (orders_of lattices) t.items)) some written in
@@ -99,15 +102,18 @@ unnamed_as it sys name found status text system none says spelled is =
     (Unnamed (subst (λ (s : System). IsWho it.scene s name None) (sym system)
     (subst (λ (o : Option (Vec ℕ Global)). IsWho it.scene sys name (option_map (λ (t : Vec ℕ Global). t.items) o)) none is)))
 
-verified : (it : Judging) (bytes : List ℕ) (found : Verdict) → CertificateComesTo it.system (orders_of it.scene.lattices) bytes found
-    → (found ≡ Holds → IsAccepted it.system (orders_of it.scene.lattices)) → IsVerified it bytes (verdict_status found) (verdict_text found)
+verified : (it : Judging) (bytes : List ℕ) (found : Verdict)
+    → CertificateComesTo it.system (orders_of it.scene.lattices) bytes found
+    → (found ≡ Holds → IsAccepted it.system (orders_of it.scene.lattices))
+    → IsVerified it bytes (verdict_status found) (verdict_text found)
 verified it bytes Holds comes accepted = Proving comes (accepted refl)
 verified it bytes (Fails lattice rule) comes accepted = Breaking lattice rule comes
 verified it bytes (Unread line code) comes accepted = NoProof line code comes
 
 pub verified_as : (it : Judging) (lattices : List LatticeView) (sys : System) (bytes : List ℕ) (found : Verdict) (status : Status) (text : List ℕ)
     → it.scene.lattices ≡ lattices → it.system ≡ sys → status ≡ verdict_status found → text ≡ verdict_text found
-    → CertificateComesTo sys (orders_of lattices) bytes found → (found ≡ Holds → IsAccepted sys (orders_of lattices)) → IsVerified it bytes status text
+    → CertificateComesTo sys (orders_of lattices) bytes found → (found ≡ Holds → IsAccepted sys (orders_of lattices))
+    → IsVerified it bytes status text
 verified_as it lattices sys bytes found status text same system says spelled comes accepted =
     at_equal (IsVerified it bytes) status (verdict_status found) text (verdict_text found) says spelled
     (verified it bytes found
@@ -120,14 +126,17 @@ pub decided : (accepted : Bool) → IsDecided (status_of accepted)
 decided true = tt
 decided false = tt
 
-checked : (it : Judging) (bytes : List ℕ) (found : Checked) → ComesTo it.system (orders_of it.scene.lattices) bytes found
-    → (found ≡ Hold → IsAccepted it.system (orders_of it.scene.lattices) → ⊥) → IsChecked it bytes (checked_status found) (checked_text found)
+checked : (it : Judging) (bytes : List ℕ) (found : Checked)
+    → ComesTo it.system (orders_of it.scene.lattices) bytes found
+    → (found ≡ Hold → IsAccepted it.system (orders_of it.scene.lattices) → ⊥)
+    → IsChecked it bytes (checked_status found) (checked_text found)
 checked it bytes Hold comes refutes = Holding comes (refutes refl)
 checked it bytes (Bad line code) comes refutes = Failing line code comes
 
 pub checked_as : (it : Judging) (lattices : List LatticeView) (sys : System) (bytes : List ℕ) (found : Checked) (status : Status) (text : List ℕ)
     → it.scene.lattices ≡ lattices → it.system ≡ sys → status ≡ checked_status found → text ≡ checked_text found
-    → ComesTo sys (orders_of lattices) bytes found → (found ≡ Hold → IsAccepted sys (orders_of lattices) → ⊥) → IsChecked it bytes status text
+    → ComesTo sys (orders_of lattices) bytes found → (found ≡ Hold → IsAccepted sys (orders_of lattices) → ⊥)
+    → IsChecked it bytes status text
 checked_as it lattices sys bytes found status text same system says spelled comes refutes =
     at_equal (IsChecked it bytes) status (checked_status found) text (checked_text found) says spelled
     (checked it bytes found

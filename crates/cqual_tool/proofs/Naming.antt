@@ -11,7 +11,8 @@ text_or (Some name) = name.now
 
 -- the last source
 
-last_name : (names : List (Bor (List ℕ))) → text_or (slice_get names (length names - 1)) ≡ last_of (map (λ name. name.now) names)
+last_name : (names : List (Bor (List ℕ)))
+    → text_or (slice_get names (length names - 1)) ≡ last_of (map (λ name. name.now) names)
 last_name [] = refl
 last_name (n ∷ []) = refl
 last_name (n ∷ m ∷ more) =
@@ -24,7 +25,8 @@ last_is names name is = ap text_or is ∙ last_name names
 
 -- the sources from one on
 
-pub drop_from : (names : List (List ℕ)) (i : ℕ) (name : List ℕ) → slice_get names i ≡ Some name → drop i names ≡ name ∷ drop (i + 1) names
+pub drop_from : (names : List (List ℕ)) (i : ℕ) (name : List ℕ) → slice_get names i ≡ Some name
+    → drop i names ≡ name ∷ drop (i + 1) names
 drop_from [] i name is = absurd cc
 drop_from (n ∷ names) zero name is = let same : n ≡ name = cc in ap (λ (m : List ℕ). m ∷ names) same
 drop_from (n ∷ names) (suc i) name is = let e : suc i + 1 ≡ suc (i + 1) = omega arith in rw e (drop_from names i name is)

@@ -32,13 +32,15 @@ nothing_read s = record {
 -- one reading, and others behind it
 
 agree_on : (told now : Option (List (List ℕ × List ℕ))) (r : Reading) (these : List Reading) → now ≡ told
-    → IfSome told (λ all. All (Agrees all) (r ∷ [])) → IfSome now (λ all. All (Agrees all) these) → IfSome now (λ all. All (Agrees all) (r ∷ these))
+    → IfSome told (λ all. All (Agrees all) (r ∷ [])) → IfSome now (λ all. All (Agrees all) these)
+    → IfSome now (λ all. All (Agrees all) (r ∷ these))
 agree_on told None r these same one more = tt
 agree_on told (Some all) r these same one more =
     let first : All (Agrees all) (r ∷ []) = subst (λ (o : Option (List (List ℕ × List ℕ))). IfSome o (λ them. All (Agrees them) (r ∷ []))) (sym same) one in
     All-cons (Agrees all) r these (All-head (Agrees all) r [] first) more
 
-pub read_then : (old mid new : Standing) (r : Reading) (these : List Reading) → ReadOn old mid (r ∷ []) → ReadOn mid new these → ReadOn old new (r ∷ these)
+pub read_then : (old mid new : Standing) (r : Reading) (these : List Reading) → ReadOn old mid (r ∷ [])
+    → ReadOn mid new these → ReadOn old new (r ∷ these)
 read_then old mid new r these one more =
     let first = one.failed in let second = more.failed in record {
       behind = more.behind ∙ ap (λ (log : List Reading). log ++ these) one.behind ∙ append_assoc old.log (r ∷ []) these;
@@ -79,7 +81,8 @@ own_bytes Broken bytes = ([], sym (append-nil bytes))
 pub whole_is : (r : Reading) (content : List ℕ) → r.end ≡ Whole → MayGive r.end content r.bytes → content ≡ r.bytes
 whole_is r content is gives = subst (λ (end : End). MayGive end content r.bytes) is gives
 
-pub past_limit : (limit : ℕ) (r : Reading) (content : List ℕ) → (r.end ≡ Going) × (limit < length r.bytes) → MayGive r.end content r.bytes
+pub past_limit : (limit : ℕ) (r : Reading) (content : List ℕ) → (r.end ≡ Going) × (limit < length r.bytes)
+    → MayGive r.end content r.bytes
     → limit < length content
 past_limit limit r content past gives =
     let more : (rest : List ℕ) × (content ≡ r.bytes ++ rest) = subst (λ (end : End). MayGive end content r.bytes) past.0 gives in
@@ -99,7 +102,8 @@ module _ (old mid : Standing) (r : Reading) (read : ReadOn old mid (r ∷ [])) (
   abbrev all : Inputs → List (List ℕ × List ℕ)
   all inputs = (name, part inputs) ∷ rest inputs
 
-  there : (these : List Reading) (inputs : Inputs) → ReadsAs (rest inputs) these → (i : Inputs) × ReadsAs (all i) (r ∷ these)
+  there : (these : List Reading) (inputs : Inputs) → ReadsAs (rest inputs) these
+      → (i : Inputs) × ReadsAs (all i) (r ∷ these)
   there these inputs reads = (
     put inputs r.bytes,
     (
@@ -110,7 +114,8 @@ module _ (old mid : Standing) (r : Reading) (read : ReadOn old mid (r ∷ [])) (
   )
 
   -- it is the last
-  ends : (these : Result Answer Stop) → Starting (r ∷ []) → IsSaid all Of (r ∷ []) these → Answered old mid all Of Starting these
+  ends : (these : Result Answer Stop) → Starting (r ∷ []) → IsSaid all Of (r ∷ []) these
+      → Answered old mid all Of Starting these
   ends result starts says =
       (r ∷ [], record { read = read; in_turn = tt; there = there [] none tt; starts = starts; says = says })
 
@@ -118,10 +123,12 @@ module _ (old mid : Standing) (r : Reading) (read : ReadOn old mid (r ∷ [])) (
   found limit ReadFault is = broken_alone r true (ap is_broken is)
   found limit NoMemory is = broken_alone r false is
 
-  pub stops : (limit : ℕ) (stop : Stop) → Starting (r ∷ []) → Finds limit r (Err stop) → Answered old mid all Of Starting (Err stop)
+  pub stops : (limit : ℕ) (stop : Stop) → Starting (r ∷ []) → Finds limit r (Err stop)
+      → Answered old mid all Of Starting (Err stop)
   stops limit stop starts is = ends (Err stop) starts (found limit stop is)
 
-  pub lacks : (stop : Stop) → stop ≡ NoMemory → Starting (r ∷ []) → is_broken r.end ≡ false → Answered old mid all Of Starting (Err stop)
+  pub lacks : (stop : Stop) → stop ≡ NoMemory → Starting (r ∷ []) → is_broken r.end ≡ false
+      → Answered old mid all Of Starting (Err stop)
   lacks stop is starts whole =
       subst (λ (s : Stop). Answered old mid all Of Starting (Err s)) (sym is) (ends (Err NoMemory) starts (broken_alone r false whole))
 
@@ -134,7 +141,8 @@ module _ (old mid : Standing) (r : Reading) (read : ReadOn old mid (r ∷ [])) (
   module _ (new : Standing) (OfRest : Inputs → Status → List ℕ → Type 0) (StartingRest : List Reading → Type 0) (whole : r.end ≡ Whole)
       (starting : (these : List Reading) → StartingRest these → Starting (r ∷ these))
       (of : (inputs : Inputs) (status : Status) (text : List ℕ) → part inputs ≡ r.bytes → OfRest inputs status text → Of inputs status text) where
-    said : (result : Result Answer Stop) (these : List Reading) → IsSaid rest OfRest these result → IsSaid all Of (r ∷ these) result
+    said : (result : Result Answer Stop) (these : List Reading) → IsSaid rest OfRest these result
+        → IsSaid all Of (r ∷ these) result
     said (Ok answer) these is = (
       broken_then r these whole ∙ is.0,
       λ inputs reads. of inputs answer.status answer.text.items (whole_is r (part inputs) whole reads.1) (is.1 inputs reads.2),
@@ -142,7 +150,8 @@ module _ (old mid : Standing) (r : Reading) (read : ReadOn old mid (r ∷ [])) (
     said (Err ReadFault) these is = broken_then r these whole ∙ is
     said (Err NoMemory) these is = broken_then r these whole ∙ is
 
-    pub goes : (result : Result Answer Stop) → Answered mid new rest OfRest StartingRest result → Answered old new all Of Starting result
+    pub goes : (result : Result Answer Stop) → Answered mid new rest OfRest StartingRest result
+        → Answered old new all Of Starting result
     goes result more =
         let these = more.0 in
         let by = more.1 in (

@@ -39,7 +39,8 @@ nothing_of (r ∷ these) reads = absurd reads
 
 -- what was read is what came behind the log that was there
 pub by_since : (words : List (List ℕ)) (old new : Standing) (before after : List ℕ) (failed fails : ℕ) (status : Status) (these : List Reading)
-    → Ran words old new before after failed fails status these → Ran words old new before after failed fails status (since old.log new.log)
+    → Ran words old new before after failed fails status these
+    → Ran words old new before after failed fails status (since old.log new.log)
 by_since words old new before after failed fails status these ran =
     let same : since old.log new.log ≡ these = ap (since old.log) ran.read.behind ∙ since_is old.log these in
     subst (Ran words old new before after failed fails status) (sym same) ran
@@ -50,10 +51,12 @@ module _ (words : List (List ℕ)) (old new : Standing) (before after : List ℕ
     asked_now : (P : (Inputs → List (List ℕ × List ℕ)) → Type 0) → P (files_named (names_of task)) → P (asked words)
     asked_now P is = subst (λ (o : Option Task). P (files_asked o)) (sym meaning) is
 
-    named_now : (these : List Reading) (inputs : Inputs) → ReadsAs (asked words inputs) these → ReadsAs (files_named (names_of task) inputs) these
+    named_now : (these : List Reading) (inputs : Inputs) → ReadsAs (asked words inputs) these
+        → ReadsAs (files_named (names_of task) inputs) these
     named_now these inputs reads = subst (λ (o : Option Task). ReadsAs (files_asked o inputs) these) meaning reads
 
-    no_files : (these : List Reading) (inputs : Inputs) → ReadsAs (asked words inputs) these → (number : ℕ) → meaning_of words ≡ Some (Generate number) → these ≡ []
+    no_files : (these : List Reading) (inputs : Inputs) → ReadsAs (asked words inputs) these → (number : ℕ)
+        → meaning_of words ≡ Some (Generate number) → these ≡ []
     no_files these inputs reads number is = nothing_of these (subst (λ (o : Option Task). ReadsAs (files_asked o inputs) these) is reads)
 
     has_meaning : {P : Type 0} → meaning_of words ≡ None → P
@@ -168,7 +171,8 @@ module _ (words : List (List ℕ)) (old new : Standing) (written : List ℕ) (fa
 
 -- no file was read
 module _ (words : List (List ℕ)) (s : Standing) (before after : List ℕ) (failed fails : ℕ) where
-  pub ran_usage : (status : Status) → meaning_of words ≡ None → Sends before after failed fails BadWords usage_line status
+  pub ran_usage : (status : Status) → meaning_of words ≡ None
+      → Sends before after failed fails BadWords usage_line status
       → Ran words s s before after failed fails status []
   ran_usage status meaning sends =
       let answers : Answers words [] BadWords usage_line = λ inputs reads. WithoutMeaning meaning in
@@ -209,7 +213,8 @@ module _ (words : List (List ℕ)) (s : Standing) (before after : List ℕ) (fai
         }
       ]
 
-pub ran_not : (words : List (List ℕ)) (s : Standing) (written : List ℕ) (failed : ℕ) → Ran words s s written written failed failed NoMemory []
+pub ran_not : (words : List (List ℕ)) (s : Standing) (written : List ℕ) (failed : ℕ)
+    → Ran words s s written written failed failed NoMemory []
 ran_not words s written failed = record {
   read = nothing_read s;
   in_turn = tt;
@@ -233,7 +238,8 @@ pub some_broken : (these : List Reading) → has_broken these ≡ true → 0 < b
 some_broken [] is = absurd cc
 some_broken (r ∷ these) is = by (is_broken r.end) is (λ e. some_broken these e)
   where
-    by : (b : Bool) → (b || has_broken these) ≡ true → (has_broken these ≡ true → 0 < broken_in these) → 0 < one_if b + broken_in these
+    by : (b : Bool) → (b || has_broken these) ≡ true → (has_broken these ≡ true → 0 < broken_in these)
+        → 0 < one_if b + broken_in these
     by true e more = omega arith
     by false e more = let some = more e in omega (arith, some)
 
@@ -246,8 +252,10 @@ none_broken these not = by (has_broken these) refl
 
 -- Readings of files that are told are those of their contents.
 module _ (files : List (List ℕ × List ℕ)) where
-  step : (name content : List ℕ) (rest told : List (List ℕ × List ℕ)) (these : List Reading) → ReadsAs ((name, content) ∷ rest) these
-      → All (Agrees files) these → ((more : List Reading) → ReadsAs rest more → All (Agrees files) more → ReadsAs told more)
+  step : (name content : List ℕ) (rest told : List (List ℕ × List ℕ)) (these : List Reading)
+      → ReadsAs ((name, content) ∷ rest) these
+      → All (Agrees files) these
+      → ((more : List Reading) → ReadsAs rest more → All (Agrees files) more → ReadsAs told more)
       → ReadsAs ((name, content_of files name) ∷ told) these
   step name content rest told [] reads agree on = tt
   step name content rest told (r ∷ more) reads agree on = (
@@ -256,26 +264,32 @@ module _ (files : List (List ℕ × List ℕ)) where
     on more reads.2 (All-tail (Agrees files) r more agree),
   )
 
-  may : (o : Option (List ℕ)) (content : List ℕ) (rest told : List (List ℕ × List ℕ)) (these : List Reading) → ReadsAs (one_file o content ++ rest) these
-      → All (Agrees files) these → ((more : List Reading) → ReadsAs rest more → All (Agrees files) more → ReadsAs told more)
+  may : (o : Option (List ℕ)) (content : List ℕ) (rest told : List (List ℕ × List ℕ)) (these : List Reading)
+      → ReadsAs (one_file o content ++ rest) these
+      → All (Agrees files) these
+      → ((more : List Reading) → ReadsAs rest more → All (Agrees files) more → ReadsAs told more)
       → ReadsAs (one_file o (content_named files o) ++ told) these
   may None content rest told these reads agree on = on these reads agree
   may (Some name) content rest told these reads agree on = step name content rest told these reads agree on
 
-  last : (o : Option (List ℕ)) (content : List ℕ) (these : List Reading) → ReadsAs (one_file o content) these → All (Agrees files) these
+  last : (o : Option (List ℕ)) (content : List ℕ) (these : List Reading) → ReadsAs (one_file o content) these
+      → All (Agrees files) these
       → ReadsAs (one_file o (content_named files o)) these
   last None content these reads agree = reads
   last (Some name) content these reads agree = step name content [] [] these reads agree (λ more reads agree. reads)
 
-  among : (names contents : List (List ℕ)) (rest told : List (List ℕ × List ℕ)) (these : List Reading) → ReadsAs (files_with names contents ++ rest) these
-      → All (Agrees files) these → ((more : List Reading) → ReadsAs rest more → All (Agrees files) more → ReadsAs told more)
+  among : (names contents : List (List ℕ)) (rest told : List (List ℕ × List ℕ)) (these : List Reading)
+      → ReadsAs (files_with names contents ++ rest) these
+      → All (Agrees files) these
+      → ((more : List Reading) → ReadsAs rest more → All (Agrees files) more → ReadsAs told more)
       → ReadsAs (files_with names (map (content_of files) names) ++ told) these
   among [] contents rest told these reads agree on = on these reads agree
   among (name ∷ names) contents rest told these reads agree on =
       step name (first_of contents) _ _ these reads agree (λ more reads agree.
       among names (behind_first contents) rest told more reads agree on)
 
-  by_names : (named : Option FileNames) (inputs : Inputs) (these : List Reading) → ReadsAs (files_named named inputs) these → All (Agrees files) these
+  by_names : (named : Option FileNames) (inputs : Inputs) (these : List Reading)
+      → ReadsAs (files_named named inputs) these → All (Agrees files) these
       → ReadsAs (files_named named (inputs_of files named)) these
   by_names None inputs these reads agree = reads
   by_names (Some named) inputs these reads agree =
@@ -284,12 +298,14 @@ module _ (files : List (List ℕ × List ℕ)) where
       among named.sources inputs.sources _ _ more reads agree (λ more reads agree.
       last (saved_in named) inputs.saved more reads agree)))
 
-  by_task : (o : Option Task) (inputs : Inputs) (these : List Reading) → ReadsAs (files_asked o inputs) these → All (Agrees files) these
+  by_task : (o : Option Task) (inputs : Inputs) (these : List Reading) → ReadsAs (files_asked o inputs) these
+      → All (Agrees files) these
       → ReadsAs (files_asked o (inputs_asked files o)) these
   by_task None inputs these reads agree = reads
   by_task (Some task) inputs these reads agree = by_names (names_of task) inputs these reads agree
 
-  pub reads_told : (words : List (List ℕ)) (these : List Reading) → (inputs : Inputs) × ReadsAs (asked words inputs) these → All (Agrees files) these
+  pub reads_told : (words : List (List ℕ)) (these : List Reading)
+      → (inputs : Inputs) × ReadsAs (asked words inputs) these → All (Agrees files) these
       → ReadsAs (asked words (inputs_in files words)) these
   reads_told words these there agree = by_task (meaning_of words) there.0 these there.1 agree
 
@@ -298,6 +314,5 @@ told_files : Option (List (List ℕ × List ℕ)) → List (List ℕ × List ℕ
 told_files None = []
 told_files (Some files) = files
 
-pub same_files : (files other : List (List ℕ × List ℕ)) → Some files ≡ Some other → files ≡ other
 unfolding told_files
 same_files files other is = ap told_files is

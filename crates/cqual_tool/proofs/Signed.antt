@@ -1,5 +1,5 @@
 -- What comes of a library whose signatures are asked for.
-use Rattle.std.proofs.Common.{◌≡◌, ◌<◌, ℕ, zero, suc, List, [], ◌∷◌, length, slice_get, Some, None, codes, refl, sym, ◌∙◌, ap, subst}
+use Rattle.std.proofs.Common.{◌≡◌, ℕ, zero, suc, List, [], ◌∷◌, slice_get, Some, None, codes, refl, sym, ◌∙◌, ap, subst}
 use Rattle.std.specs.Prelude.{IfOk, IfSome, option_map}
 use Rattle.std.specs.declared.alloc.Global.{Global}
 use Rattle.std.specs.declared.option.Option.{Option}
@@ -7,7 +7,6 @@ use Rattle.std.specs.declared.vec.Vec.{Vec}
 use Rattle.std.specs.List.{flat_map}
 use Rattle.std.specs.declared.result.Result.{Result}
 use Rattle.std.proofs.lemmas.Result.{IfOk-weaker}
-use Rattle.std.proofs.lemmas.Option.{slice_get_within}
 use Rattle.lattice_core.specs.Order.{Order}
 use Rattle.lattice_core.specs.View.{LatticeView, orders_of}
 use Rattle.flow_graph.specs.System.{System}
@@ -40,17 +39,16 @@ order_is e = cc
 
 -- ---- the one lattice
 
-pub one_lattice : (sys : System) (lattices : List LatticeView) (got : LatticeView) → Suits sys lattices → slice_get lattices 0 ≡ Some got →
+pub one_lattice : (sys : System) (lattices : List LatticeView) (got : LatticeView) → Suits sys lattices
+    → slice_get lattices 0 ≡ Some got →
     lattices ≡ got ∷ []
 one_lattice sys lattices got suits there =
     let one = suits.one in
     let first : slice_get lattices 0 ≡ Some one.0 = ap (λ (ls : List LatticeView). slice_get ls 0) one.1 in
     one.1 ∙ ap (λ (l : LatticeView). l ∷ []) (view_is (sym first ∙ there))
 
-pub some_lattice : (sys : System) (lattices : List LatticeView) → Suits sys lattices → 0 < length lattices
-some_lattice sys lattices suits = let one = suits.one in slice_get_within lattices 0 one.0 (ap (λ (ls : List LatticeView). slice_get ls 0) one.1)
-
-pub accepted_one : (sys : System) (lattices : List LatticeView) (got : LatticeView) → lattices ≡ got ∷ [] → IsAcceptedIn sys 0 got.order →
+pub accepted_one : (sys : System) (lattices : List LatticeView) (got : LatticeView) → lattices ≡ got ∷ []
+    → IsAcceptedIn sys 0 got.order →
     IsAccepted sys (orders_of lattices)
 accepted_one sys lattices got is accepted = subst (λ (ls : List LatticeView). IsAccepted sys (orders_of ls)) (sym is) only
   where
@@ -108,21 +106,24 @@ module _ (it : Judging) (sys : System) (lattices : List LatticeView) (same : it.
         (Signed got written.it (suits_as suits) (same ∙ one) (accepted_as (accepted_one sys lattices got one accepted))
         (found_as written.it written.found) (ap (λ (es : List External). first_refusal written.it got es) named ∙ written.none))
 
-    pub unwritable_as : (refusal : Refusal) (answer : Answer) → IsRefused sys got functions refusal → answer.status ≡ NoSignature →
+    pub unwritable_as : (refusal : Refusal) (answer : Answer) → IsRefused sys got functions refusal
+        → answer.status ≡ NoSignature →
         answer.text.items ≡ refusal_line it.scene refusal → IsSigned it answer.status answer.text.items
     unwritable_as refusal answer refused status text =
         at_equal (IsSigned it) answer.status NoSignature answer.text.items (refusal_line it.scene refusal) status text
         (Unwritable got refused.it refusal (suits_as suits) (same ∙ one) (accepted_as (accepted_one sys lattices got one accepted))
         (found_as refused.it refused.found) (ap (λ (es : List External). first_refusal refused.it got es) named ∙ refused.some))
 
-    pub refused_as : (fault : SigFault) (answer : Answer) → IsFault sys got functions fault → SaysRefused it.scene fault answer →
+    pub refused_as : (fault : SigFault) (answer : Answer) → IsFault sys got functions fault
+        → SaysRefused it.scene fault answer →
         IsSigned it answer.status answer.text.items
     refused_as (Unwritten p) answer refused says = unwritable_as (NoPlace p) answer refused says.0 says.1
     refused_as (NoSign p) answer refused says = unwritable_as (NoWord p) answer refused says.0 says.1
     refused_as OutOfMemory answer refused says = absurd says
 
   -- the report of a program that may have signatures and is not accepted
-  unsigned : Suits sys lattices → (IsAccepted sys (orders_of lattices) → ⊥) → (status : Status) (text : List ℕ) → IsReport None it status text →
+  unsigned : Suits sys lattices → (IsAccepted sys (orders_of lattices) → ⊥) → (status : Status) (text : List ℕ)
+      → IsReport None it status text →
       IsSigned it status text
   unsigned suits never Accepted text (IsRight _ (AcceptedWith _ report is spelled)) =
       absurd (never (subst (λ (s : System). IsAccepted s (orders_of lattices)) system
@@ -141,7 +142,8 @@ module _ (it : Judging) (sys : System) (lattices : List LatticeView) (same : it.
   unsigned suits never WriteFault text is = elim is [ ]
   unsigned suits never NoMemory text is = elim is [ ]
 
-  pub unsigned_as : {E : Type 0} (result : Result Answer E) → Suits sys lattices → (IsAccepted sys (orders_of lattices) → ⊥) →
+  pub unsigned_as : {E : Type 0} (result : Result Answer E) → Suits sys lattices
+      → (IsAccepted sys (orders_of lattices) → ⊥) →
       IfOk result (λ answer. IsReport None it answer.status answer.text.items) →
       IfOk result (λ answer. IsSigned it answer.status answer.text.items)
   unsigned_as result suits never is =
@@ -152,7 +154,8 @@ module _ (it : Judging) (sys : System) (lattices : List LatticeView) (same : it.
 pub not_none : {X : Type 0} (x : X) → Some x ≡ None → ⊥
 not_none x is = cc
 
-pub accepted_of : (P : Answer → Type 0) (found : Option (Vec ℕ Global)) → IfSome found (λ text. P (accepted_with text)) →
+pub accepted_of : (P : Answer → Type 0) (found : Option (Vec ℕ Global))
+    → IfSome found (λ text. P (accepted_with text)) →
     IfSome (option_map accepted_with found) P
 accepted_of P None p = tt
 accepted_of P (Some text) p = p
@@ -161,12 +164,14 @@ pub none_of : (found : Option (Vec ℕ Global)) → option_map accepted_with fou
 none_of None is = refl
 none_of (Some text) is = absurd cc
 
-pub both_of : (found : Option (Vec ℕ Global)) {P Q R : Vec ℕ Global → Type 0} → IfSome found P → IfSome found Q → ((text : Vec ℕ Global) → P text → Q text → R text) →
+pub both_of : (found : Option (Vec ℕ Global)) {P Q R : Vec ℕ Global → Type 0} → IfSome found P → IfSome found Q
+    → ((text : Vec ℕ Global) → P text → Q text → R text) →
     IfSome found R
 both_of None p q f = tt
 both_of (Some text) p q f = f text p q
 
-pub all_decided : (found : Option (Vec ℕ Global)) → IfSome (option_map accepted_with found) (λ answer. IsDecided answer.status)
+pub all_decided : (found : Option (Vec ℕ Global))
+    → IfSome (option_map accepted_with found) (λ answer. IsDecided answer.status)
 all_decided None = tt
 all_decided (Some text) = tt
 

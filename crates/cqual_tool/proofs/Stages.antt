@@ -28,7 +28,8 @@ use Rattle.cqual_tool.proofs.Readings.{past_limit, whole_is}
 use Rattle.cqual_tool.proofs.Starting.{all_start, at_name, end_starts, one_of, one_starts, rest_of, units_start}
 
 -- what was found of a file
-pub found_some : (limit : ℕ) (r : Reading) (found : Option (Vec ℕ Global)) (bytes : Vec ℕ Global) → found ≡ Some bytes → Finds limit r (Ok found)
+pub found_some : (limit : ℕ) (r : Reading) (found : Option (Vec ℕ Global)) (bytes : Vec ℕ Global) → found ≡ Some bytes
+    → Finds limit r (Ok found)
     → (r.end ≡ Whole) × (r.bytes ≡ bytes.items) × (length r.bytes ≤ limit)
 found_some limit r found bytes is finds = subst (λ (o : Option (Vec ℕ Global)). Finds limit r (Ok o)) is finds
 
@@ -61,20 +62,25 @@ abbrev with_saved : Inputs → List ℕ → Inputs
 with_saved inputs bytes = record { lattice = inputs.lattice; prelude = inputs.prelude; sources = inputs.sources; saved = bytes }
 
 -- where the prelude or the report has this name, or none
-pub at_prelude : (named : FileNames) (o : Option (List ℕ)) → named.prelude ≡ o → (P : (Inputs → List (List ℕ × List ℕ)) → Type 0)
+pub at_prelude : (named : FileNames) (o : Option (List ℕ)) → named.prelude ≡ o
+    → (P : (Inputs → List (List ℕ × List ℕ)) → Type 0)
     → P (λ inputs. one_file o inputs.prelude ++ from_sources named named.sources inputs) → P (from_prelude named)
 at_prelude named o is P there = subst (λ (name : Option (List ℕ)). P (λ inputs. one_file name inputs.prelude ++ from_sources named named.sources inputs)) (sym is) there
 
-pub at_saved : (named : FileNames) (o : Option (List ℕ)) → saved_in named ≡ o → (P : (Inputs → List (List ℕ × List ℕ)) → Type 0)
+pub at_saved : (named : FileNames) (o : Option (List ℕ)) → saved_in named ≡ o
+    → (P : (Inputs → List (List ℕ × List ℕ)) → Type 0)
     → P (λ inputs. one_file o inputs.saved) → P (from_saved named)
 at_saved named o is P there = subst (λ (name : Option (List ℕ)). P (λ inputs. one_file name inputs.saved)) (sym is) there
 
-behind_prelude : (named : FileNames) (o : Option (List ℕ)) → named.prelude ≡ o → (inputs : Inputs) (these : List Reading)
-    → ReadsAs (from_prelude named inputs) these → ReadsAs (one_file o inputs.prelude ++ from_sources named named.sources inputs) these
+behind_prelude : (named : FileNames) (o : Option (List ℕ)) → named.prelude ≡ o
+    → (inputs : Inputs) (these : List Reading)
+    → ReadsAs (from_prelude named inputs) these
+    → ReadsAs (one_file o inputs.prelude ++ from_sources named named.sources inputs) these
 behind_prelude named o is inputs these reads = subst (λ (name : Option (List ℕ)). ReadsAs (one_file name inputs.prelude ++ from_sources named named.sources inputs) these) is reads
 
 -- where memory is wanting before any file is read
-pub units_lack : (s : Standing) (named : FileNames) (lattices : List LatticeView) (stop : Stop) → stop ≡ NoMemory → UnitsAnswered s s named lattices (Err stop)
+pub units_lack : (s : Standing) (named : FileNames) (lattices : List LatticeView) (stop : Stop) → stop ≡ NoMemory
+    → UnitsAnswered s s named lattices (Err stop)
 units_lack s named lattices stop is =
     subst (λ (it : Stop). UnitsAnswered s s named lattices (Err it)) (sym is) (
       [],
@@ -114,20 +120,24 @@ module _ (old mid : Standing) (r : Reading) (read : ReadOn old mid (r ∷ [])) (
         reading.stops old mid r read named.lattice same (λ i. i.lattice) with_lattice (from_prelude named) (λ i b. refl) (λ i b. refl)
         (λ inputs. OfFiles named inputs) (FilesGo named) limit stop lattice_alone is
 
-    pub lattice_lacks : (stop : Stop) → stop ≡ NoMemory → is_broken r.end ≡ false → FilesAnswered old mid named (Err stop)
+    pub lattice_lacks : (stop : Stop) → stop ≡ NoMemory → is_broken r.end ≡ false
+        → FilesAnswered old mid named (Err stop)
     lattice_lacks stop is whole =
         reading.lacks old mid r read named.lattice same (λ i. i.lattice) with_lattice (from_prelude named) (λ i b. refl) (λ i b. refl)
         (λ inputs. OfFiles named inputs) (FilesGo named) stop is lattice_alone whole
 
     pub lattice_answers : (answer : Answer) → is_broken r.end ≡ false
-        → ((inputs : Inputs) → MayGive r.end inputs.lattice r.bytes → OfFiles named inputs answer.status answer.text.items) → FilesAnswered old mid named (Ok answer)
+        → ((inputs : Inputs) → MayGive r.end inputs.lattice r.bytes → OfFiles named inputs answer.status answer.text.items)
+        → FilesAnswered old mid named (Ok answer)
     lattice_answers answer whole of =
         reading.answers old mid r read named.lattice same (λ i. i.lattice) with_lattice (from_prelude named) (λ i b. refl) (λ i b. refl)
         (λ inputs. OfFiles named inputs) (FilesGo named) answer lattice_alone whole of
 
-    pub lattice_goes : (new : Standing) (lattices : List LatticeView) (whole : r.end ≡ Whole) → LatticesRead named.wide r.bytes lattices
+    pub lattice_goes : (new : Standing) (lattices : List LatticeView) (whole : r.end ≡ Whole)
+        → LatticesRead named.wide r.bytes lattices
         → ((inputs : Inputs) (status : Status) (text : List ℕ) → inputs.lattice ≡ r.bytes → OfUnits named inputs lattices status text → OfFiles named inputs status text)
-        → (result : Result Answer Stop) → UnitsAnswered mid new named lattices result → FilesAnswered old new named result
+        → (result : Result Answer Stop) → UnitsAnswered mid new named lattices result
+        → FilesAnswered old new named result
     lattice_goes new lattices whole reads of result more =
         reading.goes old mid r read named.lattice same (λ i. i.lattice) with_lattice (from_prelude named) (λ i b. refl) (λ i b. refl)
         (λ inputs. OfFiles named inputs) (FilesGo named) new (λ inputs. OfUnits named inputs lattices) (UnitsGo named lattices) whole starting of result more
@@ -172,7 +182,8 @@ module _ (old mid : Standing) (r : Reading) (read : ReadOn old mid (r ∷ [])) (
         reading.answers old mid r read file same (λ i. first_of i.sources) with_source rest (λ i b. refl) (λ i b. refl) Of Go answer source_alone whole of
 
     -- its bytes are no unit, or too many
-    pub source_refused : (answer : Answer) (bytes : List ℕ) → r.end ≡ Whole → r.bytes ≡ bytes → length r.bytes ≤ limit_in left
+    pub source_refused : (answer : Answer) (bytes : List ℕ) → r.end ≡ Whole → r.bytes ≡ bytes
+        → length r.bytes ≤ limit_in left
         → answer.status ≡ Malformed → SourceRefused named.wide lattices number file bytes answer.text.items
         → SourcesAnswered old mid named lattices before marks number left (file ∷ names) (Ok answer)
     source_refused answer bytes whole same_bytes within status is =
@@ -185,7 +196,8 @@ module _ (old mid : Standing) (r : Reading) (read : ReadOn old mid (r ∷ [])) (
         (subst (λ (b : List ℕ). length b ≤ limit_in left) (sym content) within)
         (subst (λ (b : List ℕ). SourceRefused named.wide lattices number file b text) (sym (content ∙ same_bytes)) is))))
 
-    pub source_too_large : (answer : Answer) → (r.end ≡ Going) × (limit_in left < length r.bytes) → Says Malformed (malformed_line file (codes "F2")) answer
+    pub source_too_large : (answer : Answer) → (r.end ≡ Going) × (limit_in left < length r.bytes)
+        → Says Malformed (malformed_line file (codes "F2")) answer
         → SourcesAnswered old mid named lattices before marks number left (file ∷ names) (Ok answer)
     source_too_large answer past says =
         source_answers answer (going_stands r past.0) (λ inputs gives.
@@ -245,7 +257,8 @@ module _ (old mid : Standing) (r : Reading) (read : ReadOn old mid (r ∷ [])) (
           (λ inputs. ReadsAs (from_sources named names inputs) these) _
           (λ inputs given. (whole_is r (first_of inputs.sources) whole given.1, given.2)) starts)
 
-      of : (inputs : Inputs) (status : Status) (text : List ℕ) → first_of inputs.sources ≡ r.bytes → OfRest inputs status text → Of inputs status text
+      of : (inputs : Inputs) (status : Status) (text : List ℕ) → first_of inputs.sources ≡ r.bytes
+          → OfRest inputs status text → Of inputs status text
       of inputs status text here is =
           subst (λ (content : List ℕ). OfSources named lattices before marks (IsEnd named inputs.saved) number left
           ((file, content) ∷ files_with names (behind_first inputs.sources)) status text) (sym here)
@@ -260,7 +273,8 @@ module _ (old mid : Standing) (r : Reading) (read : ReadOn old mid (r ∷ [])) (
           Of Go new OfRest GoRest whole starting of result (behind result more)
 
     -- the same, by what is made of its bytes
-    pub source_joins : (new : Standing) (it : Earlier) (bytes : List ℕ) (rest_left : ℕ) → r.end ≡ Whole → r.bytes ≡ bytes
+    pub source_joins : (new : Standing) (it : Earlier) (bytes : List ℕ) (rest_left : ℕ) → r.end ≡ Whole
+        → r.bytes ≡ bytes
         → length r.bytes ≤ limit_in left → rest_left ≡ left - length bytes
         → (is : (unit : UnitRead) × SourceParses named.wide lattices number bytes unit × IsEarlier (number + 1) (before ++ unit ∷ []) it × (it.prelude ≡ marks))
         → (result : Result Answer Stop)
@@ -281,13 +295,15 @@ module _ (old mid : Standing) (r : Reading) (read : ReadOn old mid (r ∷ [])) (
     prelude_alone =
         at_name (UnitsStart named lattices (λ inputs. ReadsAs (from_prelude named inputs) (r ∷ []))) r file [] same (PreludeAlone file is)
 
-    pub prelude_stops : (limit : ℕ) (stop : Stop) → Finds limit r (Err stop) → UnitsAnswered old mid named lattices (Err stop)
+    pub prelude_stops : (limit : ℕ) (stop : Stop) → Finds limit r (Err stop)
+        → UnitsAnswered old mid named lattices (Err stop)
     prelude_stops limit stop finds =
         at_prelude named (Some file) is (λ files. Prelude files mid (Err stop))
         (reading.stops old mid r read file same (λ i. i.prelude) with_prelude (from_sources named named.sources) (λ i b. refl) (λ i b. refl)
         (λ inputs. OfUnits named inputs lattices) (UnitsGo named lattices) limit stop prelude_alone finds)
 
-    pub prelude_lacks : (stop : Stop) → stop ≡ NoMemory → is_broken r.end ≡ false → UnitsAnswered old mid named lattices (Err stop)
+    pub prelude_lacks : (stop : Stop) → stop ≡ NoMemory → is_broken r.end ≡ false
+        → UnitsAnswered old mid named lattices (Err stop)
     prelude_lacks stop memory whole =
         at_prelude named (Some file) is (λ files. Prelude files mid (Err stop))
         (reading.lacks old mid r read file same (λ i. i.prelude) with_prelude (from_sources named named.sources) (λ i b. refl) (λ i b. refl)
@@ -301,9 +317,11 @@ module _ (old mid : Standing) (r : Reading) (read : ReadOn old mid (r ∷ [])) (
         (reading.answers old mid r read file same (λ i. i.prelude) with_prelude (from_sources named named.sources) (λ i b. refl) (λ i b. refl)
         (λ inputs. OfUnits named inputs lattices) (UnitsGo named lattices) answer prelude_alone whole of)
 
-    pub prelude_goes : (new : Standing) (before : List UnitRead) (marks : List IndexMark) (whole : r.end ≡ Whole) → 1 ≤ length named.sources
+    pub prelude_goes : (new : Standing) (before : List UnitRead) (marks : List IndexMark) (whole : r.end ≡ Whole)
+        → 1 ≤ length named.sources
         → ((inputs : Inputs) → inputs.prelude ≡ r.bytes → AreBefore named inputs lattices before marks)
-        → (result : Result Answer Stop) → SourcesAnswered mid new named lattices before marks 1 total_limit named.sources result
+        → (result : Result Answer Stop)
+        → SourcesAnswered mid new named lattices before marks 1 total_limit named.sources result
         → UnitsAnswered old new named lattices result
     prelude_goes new before marks whole some are result more =
         at_prelude named (Some file) is (λ files. Prelude files new result)
@@ -312,7 +330,8 @@ module _ (old mid : Standing) (r : Reading) (read : ReadOn old mid (r ∷ [])) (
         (λ inputs. OfSources named lattices before marks (IsEnd named inputs.saved) 1 total_limit (sources_of named inputs))
         (SourcesGo named lattices before marks 1 total_limit named.sources) whole starting (λ inputs status text here of. PreludeRead before marks status text (are inputs here) of) result more)
       where
-        starting : (these : List Reading) → SourcesGo named lattices before marks 1 total_limit named.sources these → UnitsGo named lattices (r ∷ these)
+        starting : (these : List Reading) → SourcesGo named lattices before marks 1 total_limit named.sources these
+            → UnitsGo named lattices (r ∷ these)
         starting these starts =
             at_name (UnitsStart named lattices (λ inputs. ReadsAs (from_prelude named inputs) (r ∷ these))) r file _ same
             (units_start named lattices _ (λ inputs. ReadsAs (from_sources named named.sources inputs) these) before marks _ (file ∷ []) (ap named_one is) some
@@ -333,7 +352,8 @@ module _ (old mid : Standing) (r : Reading) (read : ReadOn old mid (r ∷ [])) (
         (reading.stops old mid r read file same (λ i. i.saved) with_saved (λ i. []) (λ i b. refl) (λ i b. refl)
         (λ inputs. IsEnd named inputs.saved it) (λ these. EndStarts named (names_read these)) limit stop saved_alone finds)
 
-    pub saved_lacks : (stop : Stop) → stop ≡ NoMemory → is_broken r.end ≡ false → EndAnswered old mid named it (Err stop)
+    pub saved_lacks : (stop : Stop) → stop ≡ NoMemory → is_broken r.end ≡ false
+        → EndAnswered old mid named it (Err stop)
     saved_lacks stop memory whole =
         at_saved named (Some file) is (λ files. Report files (Err stop))
         (reading.lacks old mid r read file same (λ i. i.saved) with_saved (λ i. []) (λ i b. refl) (λ i b. refl)
@@ -348,7 +368,8 @@ module _ (old mid : Standing) (r : Reading) (read : ReadOn old mid (r ∷ [])) (
         (λ inputs. IsEnd named inputs.saved it) (λ these. EndStarts named (names_read these)) answer saved_alone whole of)
 
 -- where no prelude is named
-pub no_prelude : (old new : Standing) (named : FileNames) (lattices : List LatticeView) → named.prelude ≡ None → 1 ≤ length named.sources
+pub no_prelude : (old new : Standing) (named : FileNames) (lattices : List LatticeView) → named.prelude ≡ None
+    → 1 ≤ length named.sources
     → (result : Result Answer Stop) → SourcesAnswered old new named lattices [] [] 1 total_limit named.sources result
     → UnitsAnswered old new named lattices result
 no_prelude old new named lattices is some result (these, by) = (
@@ -396,7 +417,8 @@ module _ (old new : Standing) (named : FileNames) (lattices : List LatticeView) 
   behind_none P is = subst P (sym (append-nil units)) is
 
   pub program_goes : AreCounted named lattices marks units → (result : Result Answer Stop)
-      → EndAnswered old new named (judging_of named lattices marks units) result → SourcesAnswered old new named lattices units marks number left [] result
+      → EndAnswered old new named (judging_of named lattices marks units) result
+      → SourcesAnswered old new named lattices units marks number left [] result
   program_goes counted result (these, by) = (
     these,
     record {
@@ -443,7 +465,8 @@ module _ (s : Standing) (named : FileNames) (lattices : List LatticeView) (units
   pub program_lacks : SourcesAnswered s s named lattices units marks number left [] (Err NoMemory)
   program_lacks = no_more (Err NoMemory) refl
 
-  pub program_refused : (answer : Answer) → answer.status ≡ Malformed → UnitsRefused named lattices marks units answer.text.items
+  pub program_refused : (answer : Answer) → answer.status ≡ Malformed
+      → UnitsRefused named lattices marks units answer.text.items
       → SourcesAnswered s s named lattices units marks number left [] (Ok answer)
   program_refused answer status is =
       no_more (Ok answer) (
@@ -455,7 +478,8 @@ module _ (s : Standing) (named : FileNames) (lattices : List LatticeView) (units
       )
 
 -- the files of a task
-pub of_task : (old new : Standing) (task : Task) (named : FileNames) → names_of task ≡ Some named → (result : Result Answer Stop)
+pub of_task : (old new : Standing) (task : Task) (named : FileNames) → names_of task ≡ Some named
+    → (result : Result Answer Stop)
     → FilesAnswered old new named result → TaskAnswered old new task result
 of_task old new task named is result (these, by) = (
   these,

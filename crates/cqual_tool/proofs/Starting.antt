@@ -12,7 +12,8 @@ use Rattle.cqual_tool.specs.Outcome.{AreBefore, AreCounted, LatticesRead, Later,
 use Rattle.cqual_tool.specs.Preparing.{AreRead, EndStarts, NoneSaved, NoUnit, NoneLeft, OneSaved, PreludeAlone, SavedBehind, SavedToo, SomeStart, SourceToo, SourcesStart, UnitsStart}
 
 -- what holds of a name holds of the name of the reading
-pub at_name : (Is : List (List ℕ) → Type 0) (r : Reading) (name : List ℕ) (names : List (List ℕ)) → r.name ≡ name → Is (name ∷ names) → Is (r.name ∷ names)
+pub at_name : (Is : List (List ℕ) → Type 0) (r : Reading) (name : List ℕ) (names : List (List ℕ)) → r.name ≡ name
+    → Is (name ∷ names) → Is (r.name ∷ names)
 at_name Is r name names same is = subst (λ (n : List ℕ). Is (n ∷ names)) (sym same) is
 
 -- the parts behind the first source
@@ -27,21 +28,24 @@ rest_of inputs = record {
 -- one more source in front
 
 pub one_more : (wide : Bool) (lattices : List LatticeView) (number left : ℕ) (file bytes content : List ℕ) (more : List (List ℕ × List ℕ)) (unit : UnitRead)
-    (units : List UnitRead) → content ≡ bytes → length bytes ≤ limit_in left → SourceParses wide lattices number bytes unit
+    (units : List UnitRead) → content ≡ bytes → length bytes ≤ limit_in left
+    → SourceParses wide lattices number bytes unit
     → SourcesParse wide lattices (number + 1) (left - length bytes) more units
     → SourcesParse wide lattices number left ((file, content) ∷ more) (unit ∷ units)
 one_more wide lattices number left file bytes content more unit units same within parses rest =
     subst (λ (b : List ℕ). SourcesParse wide lattices number left ((file, b) ∷ more) (unit ∷ units)) (sym same)
     (OneSource number left (file, bytes) more unit units within parses rest)
 
-behind_one : (before : List UnitRead) (unit : UnitRead) (units : List UnitRead) (P : List UnitRead → Type 0) → P ((before ++ unit ∷ []) ++ units)
+behind_one : (before : List UnitRead) (unit : UnitRead) (units : List UnitRead) (P : List UnitRead → Type 0)
+    → P ((before ++ unit ∷ []) ++ units)
     → P (before ++ unit ∷ units)
 behind_one before unit units P is = subst P (append_assoc before (unit ∷ []) units) is
 
 module _ (named : FileNames) (lattices : List LatticeView) where
   -- behind all sources
   pub end_starts : (before : List UnitRead) (marks : List IndexMark) (number left : ℕ) (Given : Inputs → Type 0) (started : List (List ℕ))
-      → EndStarts named started → ((inputs : Inputs) → Given inputs → AreRead named lattices before marks number left [])
+      → EndStarts named started
+      → ((inputs : Inputs) → Given inputs → AreRead named lattices before marks number left [])
       → SourcesStart named lattices before marks number left [] Given started
   end_starts before marks number left Given _ NoneSaved read = NoneLeft refl
   end_starts before marks number left Given _ (OneSaved file is) read = SavedBehind file is read
@@ -83,7 +87,8 @@ module _ (named : FileNames) (lattices : List LatticeView) where
       → named_one named.prelude ≡ o → 1 ≤ length named.sources
       → ((inputs : Inputs) → Given inputs → Sources inputs)
       → ((inputs : Inputs) → Given inputs → AreBefore named inputs lattices before marks)
-      → SourcesStart named lattices before marks 1 total_limit named.sources Sources names → UnitsStart named lattices Given (o ++ names)
+      → SourcesStart named lattices before marks 1 total_limit named.sources Sources names
+      → UnitsStart named lattices Given (o ++ names)
   units_start Given Sources before marks _ o same some source are (NoneLeft none) =
       let e = ap (λ (names : List (List ℕ)). length names) none in absurd (omega (arith, e, some))
   units_start Given Sources before marks _ o same some source are (SomeStart count lt parsed) =
@@ -105,8 +110,10 @@ module _ (named : FileNames) (lattices : List LatticeView) where
       })))
 
   -- all files behind the lattice file
-  pub all_start : (Given Units : Inputs → Type 0) (names : List (List ℕ)) → ((inputs : Inputs) → Given inputs → Units inputs)
-      → ((inputs : Inputs) → Given inputs → LatticesRead named.wide inputs.lattice lattices) → UnitsStart named lattices Units names
+  pub all_start : (Given Units : Inputs → Type 0) (names : List (List ℕ))
+      → ((inputs : Inputs) → Given inputs → Units inputs)
+      → ((inputs : Inputs) → Given inputs → LatticesRead named.wide inputs.lattice lattices)
+      → UnitsStart named lattices Units names
       → Starts named Given (named.lattice ∷ names)
   all_start Given Units _ units read NoUnit = LatticeAlone
   all_start Given Units _ units read (PreludeAlone file is) =

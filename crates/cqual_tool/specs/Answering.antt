@@ -25,14 +25,17 @@ Finds limit reading (Ok None) = (reading.end ≡ Going) × (limit < length readi
 Finds limit reading (Err ReadFault) = reading.end ≡ Broken
 Finds limit reading (Err NoMemory) = is_broken reading.end ≡ false
 
--- What is said of readings: an answer is that of all parts whose files give them, and no read of them failed; a fault is of a read of them.
-abbrev pub IsSaid : (Inputs → List (List ℕ × List ℕ)) → (Inputs → Status → List ℕ → Type 0) → List Reading → Result Answer Stop → Type 0
+-- What is said of readings: an answer is that of all parts whose files give them, and no read of them failed; a fault
+-- is of a read of them.
+abbrev pub IsSaid : (Inputs → List (List ℕ × List ℕ)) → (Inputs → Status → List ℕ → Type 0) → List Reading
+    → Result Answer Stop → Type 0
 IsSaid files Of these (Ok answer) =
     (has_broken these ≡ false) × ((inputs : Inputs) → ReadsAs (files inputs) these → Of inputs answer.status answer.text.items)
 IsSaid files Of these (Err ReadFault) = has_broken these ≡ true
 IsSaid files Of these (Err NoMemory) = has_broken these ≡ false
 
--- In a call that went through these readings: they are of these files in their order, each before the last was read to its end, and
+-- In a call that went through these readings: they are of these files in their order, each before the last was read to
+-- its end, and
 -- the files are started as they are to be.
 pub record AnsweredBy (old new : Standing) (files : Inputs → List (List ℕ × List ℕ)) (Of : Inputs → Status → List ℕ → Type 0)
     (Starting : List Reading → Type 0) (result : Result Answer Stop) (these : List Reading) : Type 0 where
@@ -42,45 +45,53 @@ pub record AnsweredBy (old new : Standing) (files : Inputs → List (List ℕ ×
   pub starts : Starting these
   pub says : IsSaid files Of these result
 
-abbrev pub Answered : Standing → Standing → (Inputs → List (List ℕ × List ℕ)) → (Inputs → Status → List ℕ → Type 0) → (List Reading → Type 0)
+-- the same for some readings that the call went through
+abbrev pub Answered : Standing → Standing → (Inputs → List (List ℕ × List ℕ)) → (Inputs → Status → List ℕ → Type 0)
+    → (List Reading → Type 0)
     → Result Answer Stop → Type 0
 Answered old new files Of Starting result = (these : List Reading) × AnsweredBy old new files Of Starting result these
 
--- behind the sources
+-- what is answered behind the sources: of the saved file and what is asked
 abbrev pub EndAnswered : Standing → Standing → FileNames → Judging → Result Answer Stop → Type 0
 EndAnswered old new named it result =
     Answered old new (from_saved named) (λ inputs. IsEnd named inputs.saved it) (λ these. EndStarts named (names_read these)) result
 
 -- from some sources on, the first of which has this number, where so many bytes are left for all of them
-abbrev pub SourcesGo : FileNames → List LatticeView → List UnitRead → List IndexMark → ℕ → ℕ → List (List ℕ) → List Reading → Type 0
+abbrev pub SourcesGo : FileNames → List LatticeView → List UnitRead → List IndexMark → ℕ → ℕ → List (List ℕ)
+    → List Reading → Type 0
 SourcesGo named lattices before marks number left names these =
     SourcesStart named lattices before marks number left names (λ inputs. ReadsAs (from_sources named names inputs) these) (names_read these)
 
-abbrev pub SourcesAnswered : Standing → Standing → FileNames → List LatticeView → List UnitRead → List IndexMark → ℕ → ℕ → List (List ℕ)
+-- what is answered from some sources on
+abbrev pub SourcesAnswered : Standing → Standing → FileNames → List LatticeView → List UnitRead → List IndexMark → ℕ → ℕ
+    → List (List ℕ)
     → Result Answer Stop → Type 0
 SourcesAnswered old new named lattices before marks number left names result =
     Answered old new (from_sources named names)
     (λ inputs. OfSources named lattices before marks (IsEnd named inputs.saved) number left (files_with names inputs.sources))
     (SourcesGo named lattices before marks number left names) result
 
--- behind the lattice file
+-- the files behind the lattice file are started as they are to be
 abbrev pub UnitsGo : FileNames → List LatticeView → List Reading → Type 0
 UnitsGo named lattices these = UnitsStart named lattices (λ inputs. ReadsAs (from_prelude named inputs) these) (names_read these)
 
+-- what is answered behind the lattice file
 abbrev pub UnitsAnswered : Standing → Standing → FileNames → List LatticeView → Result Answer Stop → Type 0
 UnitsAnswered old new named lattices result =
     Answered old new (from_prelude named) (λ inputs. OfUnits named inputs lattices) (UnitsGo named lattices) result
 
--- all files
+-- all files are started as they are to be
 abbrev pub FilesGo : FileNames → List Reading → Type 0
 FilesGo named these = Starts named (λ inputs. ReadsAs (files_of named inputs) these) (names_read these)
 
+-- what is answered of all files that are named
 abbrev pub FilesAnswered : Standing → Standing → FileNames → Result Answer Stop → Type 0
 FilesAnswered old new named result = Answered old new (files_of named) (λ inputs. OfFiles named inputs) (FilesGo named) result
 
--- the files of a task
+-- the files of a task are started as they are to be
 abbrev pub TaskGoes : Task → List Reading → Type 0
 TaskGoes task these = TaskStarts task (λ inputs. ReadsAs (files_named (names_of task) inputs) these) (names_read these)
 
+-- what is answered of a task
 abbrev pub TaskAnswered : Standing → Standing → Task → Result Answer Stop → Type 0
 TaskAnswered old new task result = Answered old new (files_named (names_of task)) (λ inputs. OfTask inputs task) (TaskGoes task) result

@@ -18,6 +18,7 @@ placed_line place code = line (codes "malformed " ++ place ++ codes ": " ++ code
 abbrev pub block_code : List ℕ → ℕ → List ℕ
 block_code code number = code ++ codes " " ++ decimal number
 
+-- the code of a block, the block's number, and one name that is at fault
 abbrev pub named_code : List ℕ → ℕ → List ℕ → List ℕ
 named_code code number name = block_code code number ++ codes " " ++ name
 

@@ -32,10 +32,10 @@ use Rattle.flow_graph.specs.Unfolding.{IsAccepted}
 use Rattle.flow_graph.specs.declared.constraint.Constraint.{Constraint}
 use Rattle.annotate.specs.Reports.{IsJudgedWith, ErrorCount}
 use Rattle.annotate.specs.Texts.{Scene, place_text}
-use Rattle.report_checks.specs.declared.judging.Checked.TheVariants.{Hold, Bad}
-use Rattle.report_checks.specs.declared.judging.Code.{Code}
-use Rattle.report_checks.specs.Checks.{ComesTo}
-use Rattle.report_checks.specs.Texts.{checked_text}
+use Rattle.path_checker.specs.declared.report_checks.judging.Checked.TheVariants.{Hold, Bad}
+use Rattle.path_checker.specs.declared.report_checks.judging.Code.{Code}
+use Rattle.path_checker.specs.ReportChecks.Checks.{ComesTo}
+use Rattle.path_checker.specs.ReportChecks.Texts.{checked_text}
 use Rattle.certificate_laws.specs.declared.rule.CertRule.{CertRule}
 use Rattle.certificate_maker.specs.Certified.{IsCertificate}
 use Rattle.certificate_checks.specs.declared.judging.CertCode.{CertCode}
@@ -60,10 +60,11 @@ use Rattle.cqual_tool.specs.Shapes.{shape_line}
 use Rattle.cqual_tool.specs.Preludes.{prelude_line}
 use Rattle.cqual_tool.specs.Programs.{Judging, judging_of, last_of, texts_of}
 
--- the most bytes that a lattice file, a prelude or a source, and a saved report or certificate may have
+-- the most bytes that a lattice file may have
 abbrev pub lattice_limit : ℕ
 lattice_limit = 1048576
 
+-- the most bytes that a prelude or a source may have
 abbrev pub source_limit : ℕ
 source_limit = 16777216
 
@@ -71,6 +72,7 @@ source_limit = 16777216
 abbrev pub total_limit : ℕ
 total_limit = 67108864
 
+-- the most bytes that a saved report or certificate may have
 abbrev pub saved_limit : ℕ
 saved_limit = 268435456
 
@@ -127,15 +129,18 @@ pub record SourceParses (wide : Bool) (lattices : List LatticeView) (number : �
 
 -- the whole line for the bytes of a file that are no tokens, or whose tokens are those of no well-formed unit
 pub data SourceRefused (wide : Bool) (lattices : List LatticeView) (number : ℕ) (file bytes : List ℕ) : List ℕ → Type 0 where
-  Unspelled : (fault : LexFault) → SourceFails wide lattices number bytes fault → SourceRefused wide lattices number file bytes (lex_line file bytes fault)
-  Unparsed : (lexed : Lexed) (fault : ParseFault) → SourceLexes wide lattices number bytes lexed → fault ≢ OutOfRoom → IsUnitRefusal lexed fault →
+  Unspelled : (fault : LexFault) → SourceFails wide lattices number bytes fault
+      → SourceRefused wide lattices number file bytes (lex_line file bytes fault)
+  Unparsed : (lexed : Lexed) (fault : ParseFault) → SourceLexes wide lattices number bytes lexed → fault ≢ OutOfRoom
+      → IsUnitRefusal lexed fault →
       SourceRefused wide lattices number file bytes (syntax_line file lexed fault)
 
 -- the most bytes of a source, where so many are left for it and those behind it
 abbrev pub limit_in : ℕ → ℕ
 limit_in left = if nat_le left source_limit then left else source_limit
 
--- Sources, each its name and its bytes, are these units: the first has this number, and each other the next one. So many bytes are left
+-- Sources, each its name and its bytes, are these units: the first has this number, and each other the next one. So
+-- many bytes are left
 -- for all of them together.
 pub data SourcesParse (wide : Bool) (lattices : List LatticeView) : ℕ → ℕ → List (List ℕ × List ℕ) → List UnitRead → Type 0 where
   NoSource : (number left : ℕ) → SourcesParse wide lattices number left [] []
@@ -146,22 +151,27 @@ pub data SourcesParse (wide : Bool) (lattices : List LatticeView) : ℕ → ℕ 
 
 -- The whole line for sources of which one has too many bytes or is no well-formed unit: for the first of these.
 pub data SourcesFail (wide : Bool) (lattices : List LatticeView) : ℕ → ℕ → List (List ℕ × List ℕ) → List ℕ → Type 0 where
-  TooLarge : (number left : ℕ) (source : List ℕ × List ℕ) (more : List (List ℕ × List ℕ)) → limit_in left < length source.1 →
+  TooLarge : (number left : ℕ) (source : List ℕ × List ℕ) (more : List (List ℕ × List ℕ))
+      → limit_in left < length source.1 →
       SourcesFail wide lattices number left (source ∷ more) (malformed_line source.0 (codes "F2"))
-  Refused : (number left : ℕ) (source : List ℕ × List ℕ) (more : List (List ℕ × List ℕ)) (text : List ℕ) → length source.1 ≤ limit_in left →
+  Refused : (number left : ℕ) (source : List ℕ × List ℕ) (more : List (List ℕ × List ℕ)) (text : List ℕ)
+      → length source.1 ≤ limit_in left →
       SourceRefused wide lattices number source.0 source.1 text → SourcesFail wide lattices number left (source ∷ more) text
   Later : (number left : ℕ) (source : List ℕ × List ℕ) (more : List (List ℕ × List ℕ)) (unit : UnitRead) (text : List ℕ) →
       length source.1 ≤ limit_in left → SourceParses wide lattices number source.1 unit →
       SourcesFail wide lattices (number + 1) (left - length source.1) more text → SourcesFail wide lattices number left (source ∷ more) text
 
--- The whole line for well-formed units, the prelude's too, whose names and types have a fault, or whose variables, counted first, or
+-- The whole line for well-formed units, the prelude's too, whose names and types have a fault, or whose variables,
+-- counted first, or
 -- constraints are too many.
 pub data UnitsRefused (named : FileNames) (lattices : List LatticeView) (marks : List IndexMark) (units : List UnitRead) : List ℕ → Type 0 where
   Faulty : (fault : ShapeFault) → fault ≢ OutOfNames → IsFirstUnlessMemory fault (faults_of (sources_in units)) →
       UnitsRefused named lattices marks units (shape_line (last_of named.sources) (texts_of named (lexed_of units)) fault)
-  ManyVariables : HasNoFault (sources_in units) → most_variables < length (judging_of named lattices marks units).scene.positions →
+  ManyVariables : HasNoFault (sources_in units)
+      → most_variables < length (judging_of named lattices marks units).scene.positions →
       UnitsRefused named lattices marks units (malformed_line (last_of named.sources) (codes "Q1"))
-  ManyConstraints : HasNoFault (sources_in units) → length (judging_of named lattices marks units).scene.positions ≤ most_variables →
+  ManyConstraints : HasNoFault (sources_in units)
+      → length (judging_of named lattices marks units).scene.positions ≤ most_variables →
       most_constraints < length (judging_of named lattices marks units).system.constraints →
       UnitsRefused named lattices marks units (malformed_line (last_of named.sources) (codes "G1"))
 
@@ -171,33 +181,41 @@ pub record AreCounted (named : FileNames) (lattices : List LatticeView) (marks :
   pub few_variables : length (judging_of named lattices marks units).scene.positions ≤ most_variables
   pub few_constraints : length (judging_of named lattices marks units).system.constraints ≤ most_constraints
 
--- The status and the whole text for the constraints of a program, with the annotated source of a unit, if one is asked for.
+-- The status and the whole text for the constraints of a program, with the annotated source of a unit, if one is asked
+-- for.
 pub data IsReport (annotated : Option ℕ) (it : Judging) : Status → List ℕ → Type 0 where
   IsRight : (text : List ℕ) → IsJudgedWith it.scene it.system annotated true text → IsReport annotated it Accepted text
   IsWrong : (text : List ℕ) → IsJudgedWith it.scene it.system annotated false text → IsReport annotated it Rejected text
 
--- The status and the whole text where a certificate is asked for: that of an accepted program, or the report of one that is not.
+-- The status and the whole text where a certificate is asked for: that of an accepted program, or the report of one
+-- that is not.
 pub data IsCertified (it : Judging) : Status → List ℕ → Type 0 where
   Certified : (text : List ℕ) → IsAccepted it.system (orders_of it.scene.lattices) →
       IsCertificate it.system (orders_of it.scene.lattices) text → IsCertified it Accepted text
   Uncertified : (text : List ℕ) → IsJudgedWith it.scene it.system None false text → IsCertified it Rejected text
 
--- The status and the whole text for a report that is checked over the constraints of a program. Where its paths hold, the program
+-- The status and the whole text for a report that is checked over the constraints of a program. Where its paths hold,
+-- the program
 -- is not accepted.
 pub data IsChecked (it : Judging) (bytes : List ℕ) : Status → List ℕ → Type 0 where
-  Holding : ComesTo it.system (orders_of it.scene.lattices) bytes Hold → (IsAccepted it.system (orders_of it.scene.lattices) → ⊥) →
+  Holding : ComesTo it.system (orders_of it.scene.lattices) bytes Hold
+      → (IsAccepted it.system (orders_of it.scene.lattices) → ⊥) →
       IsChecked it bytes PathsHold (checked_text Hold)
   Failing : (line : ℕ) (code : Code) → ComesTo it.system (orders_of it.scene.lattices) bytes (Bad line code) →
       IsChecked it bytes PathBad (checked_text (Bad line code))
 
--- The status and the whole text for a certificate that is checked over the constraints of a program. Where it holds, the program is
+-- The status and the whole text for a certificate that is checked over the constraints of a program. Where it holds,
+-- the program is
 -- accepted: who trusts that need know neither the rules nor the text of certificates.
 pub data IsVerified (it : Judging) (bytes : List ℕ) : Status → List ℕ → Type 0 where
-  Proving : CertificateComesTo it.system (orders_of it.scene.lattices) bytes Holds → IsAccepted it.system (orders_of it.scene.lattices) →
+  Proving : CertificateComesTo it.system (orders_of it.scene.lattices) bytes Holds
+      → IsAccepted it.system (orders_of it.scene.lattices) →
       IsVerified it bytes CertificateHolds (verdict_text Holds)
-  Breaking : (lattice : ℕ) (rule : CertRule) → CertificateComesTo it.system (orders_of it.scene.lattices) bytes (Fails lattice rule) →
+  Breaking : (lattice : ℕ) (rule : CertRule)
+      → CertificateComesTo it.system (orders_of it.scene.lattices) bytes (Fails lattice rule) →
       IsVerified it bytes CertificateBad (verdict_text (Fails lattice rule))
-  NoProof : (line : ℕ) (code : CertCode) → CertificateComesTo it.system (orders_of it.scene.lattices) bytes (Unread line code) →
+  NoProof : (line : ℕ) (code : CertCode)
+      → CertificateComesTo it.system (orders_of it.scene.lattices) bytes (Unread line code) →
       IsVerified it bytes CertificateBad (verdict_text (Unread line code))
 
 -- The status and the whole text where it is asked who reaches a name, whether or not the program is accepted.
@@ -214,7 +232,8 @@ abbrev pub refusal_line : Scene → Refusal → List ℕ
 refusal_line scene (NoPlace p) = no_signature_at (place_text scene p.0 p.1) (codes "U3")
 refusal_line scene (NoWord p) = no_signature_at (place_text scene p.0 p.1) (codes "U4")
 
--- The status and the whole text where the signatures of a program as a library are asked for: why it may have none; the report of one
+-- The status and the whole text where the signatures of a program as a library are asked for: why it may have none; the
+-- report of one
 -- that may and is not accepted; why a function has none; or the lines.
 pub data IsSigned (it : Judging) : Status → List ℕ → Type 0 where
   NoLattice : (IsOnePlain it.scene.lattices → ⊥) → IsSigned it NoSignature (no_signature_line (codes "U1"))
@@ -226,7 +245,8 @@ pub data IsSigned (it : Judging) : Status → List ℕ → Type 0 where
   Unwritable : (lattice : LatticeView) (found : Found) (refusal : Refusal) → Suits it.system it.scene.lattices →
       it.scene.lattices ≡ lattice ∷ [] → IsAccepted it.system (orders_of it.scene.lattices) → IsFoundOf it lattice found →
       first_refusal found lattice it.externals ≡ Some refusal → IsSigned it NoSignature (refusal_line it.scene refusal)
-  Signed : (lattice : LatticeView) (found : Found) → Suits it.system it.scene.lattices → it.scene.lattices ≡ lattice ∷ [] →
+  Signed : (lattice : LatticeView) (found : Found) → Suits it.system it.scene.lattices
+      → it.scene.lattices ≡ lattice ∷ [] →
       IsAccepted it.system (orders_of it.scene.lattices) → IsFoundOf it lattice found → first_refusal found lattice it.externals ≡ None →
       IsSigned it Accepted (lines_of found lattice it.externals)
 
@@ -250,16 +270,19 @@ IsOfSaved (Verify file) it saved status text = IsVerified it saved status text
 IsOfSaved (Who name) it saved status text = ⊥
 IsOfSaved Sign it saved status text = ⊥
 
--- The status and the whole text for a program within the limits, by what is asked of it, and by the bytes of the saved file.
+-- The status and the whole text for a program within the limits, by what is asked of it, and by the bytes of the saved
+-- file.
 pub data IsEnd (named : FileNames) (saved : List ℕ) (it : Judging) : Status → List ℕ → Type 0 where
   AnsweredAlone : (status : Status) (text : List ℕ) → saved_in named ≡ None → IsAlone named.asked it status text →
       IsEnd named saved it status text
   SavedTooLarge : (file : List ℕ) → saved_in named ≡ Some file → saved_limit < length saved →
       IsEnd named saved it Malformed (malformed_line file (codes "F2"))
-  SavedJudged : (file : List ℕ) (status : Status) (text : List ℕ) → saved_in named ≡ Some file → length saved ≤ saved_limit →
+  SavedJudged : (file : List ℕ) (status : Status) (text : List ℕ) → saved_in named ≡ Some file
+      → length saved ≤ saved_limit →
       IsOfSaved named.asked it saved status text → IsEnd named saved it status text
 
--- The status and the whole text for sources, each its name and its bytes, behind lattices and units that were read: the first has this
+-- The status and the whole text for sources, each its name and its bytes, behind lattices and units that were read: the
+-- first has this
 -- number, and so many bytes are left for all of them. `Ends` is what comes of their program.
 pub data OfSources (named : FileNames) (lattices : List LatticeView) (before : List UnitRead) (marks : List IndexMark)
     (Ends : Judging → Status → List ℕ → Type 0) (number left : ℕ) (sources : List (List ℕ × List ℕ)) : Status → List ℕ → Type 0 where
@@ -267,7 +290,8 @@ pub data OfSources (named : FileNames) (lattices : List LatticeView) (before : L
       OfSources named lattices before marks Ends number left sources Malformed text
   NotCounted : (units : List UnitRead) (text : List ℕ) → SourcesParse named.wide lattices number left sources units →
       UnitsRefused named lattices marks (before ++ units) text → OfSources named lattices before marks Ends number left sources Malformed text
-  SourcesRead : (units : List UnitRead) (status : Status) (text : List ℕ) → SourcesParse named.wide lattices number left sources units →
+  SourcesRead : (units : List UnitRead) (status : Status) (text : List ℕ)
+      → SourcesParse named.wide lattices number left sources units →
       AreCounted named lattices marks (before ++ units) → Ends (judging_of named lattices marks (before ++ units)) status text →
       OfSources named lattices before marks Ends number left sources status text
 
@@ -279,28 +303,35 @@ sources_of named inputs = files_with named.sources inputs.sources
 pub data OfUnits (named : FileNames) (inputs : Inputs) (lattices : List LatticeView) : Status → List ℕ → Type 0 where
   PreludeTooLarge : (file : List ℕ) → named.prelude ≡ Some file → source_limit < length inputs.prelude →
       OfUnits named inputs lattices Malformed (malformed_line file (codes "F2"))
-  PreludeRefused : (file : List ℕ) (fault : PreludeFault) → named.prelude ≡ Some file → PreludeFails named.wide lattices inputs.prelude fault →
+  PreludeRefused : (file : List ℕ) (fault : PreludeFault) → named.prelude ≡ Some file
+      → PreludeFails named.wide lattices inputs.prelude fault →
       OfUnits named inputs lattices Malformed (prelude_line file inputs.prelude fault)
-  PreludeRead : (before : List UnitRead) (marks : List IndexMark) (status : Status) (text : List ℕ) → AreBefore named inputs lattices before marks →
+  PreludeRead : (before : List UnitRead) (marks : List IndexMark) (status : Status) (text : List ℕ)
+      → AreBefore named inputs lattices before marks →
       OfSources named lattices before marks (IsEnd named inputs.saved) 1 total_limit (sources_of named inputs) status text →
       OfUnits named inputs lattices status text
 
 -- The status and the whole text for files that are named, by the bytes of each.
 pub data OfFiles (named : FileNames) (inputs : Inputs) : Status → List ℕ → Type 0 where
-  LatticeTooLarge : lattice_limit < length inputs.lattice → OfFiles named inputs Malformed (malformed_line named.lattice (codes "F2"))
-  LatticeRefused : (fault : LatticeFileFault) → LatticesFail named.wide inputs.lattice fault → OfFiles named inputs Malformed (lattice_line named.lattice fault)
-  LatticeRead : (lattices : List LatticeView) (status : Status) (text : List ℕ) → LatticesRead named.wide inputs.lattice lattices →
+  LatticeTooLarge : lattice_limit < length inputs.lattice
+      → OfFiles named inputs Malformed (malformed_line named.lattice (codes "F2"))
+  LatticeRefused : (fault : LatticeFileFault) → LatticesFail named.wide inputs.lattice fault
+      → OfFiles named inputs Malformed (lattice_line named.lattice fault)
+  LatticeRead : (lattices : List LatticeView) (status : Status) (text : List ℕ)
+      → LatticesRead named.wide inputs.lattice lattices →
       OfUnits named inputs lattices status text → OfFiles named inputs status text
 
 -- the names of the files that the tool makes itself
 abbrev pub made_names : FileNames
 made_names = record { lattice = codes "generated.q"; prelude = None; asked = Infer; sources = codes "generated.c" ∷ []; wide = false }
 
+-- the status of a made source, by how many bounds are exceeded
 abbrev pub sum_status : ℕ → Status
 sum_status zero = Accepted
 sum_status (suc errors) = Rejected
 
--- The status and the whole text for the program of a source that the tool makes itself: the counts of its variables, its constraints,
+-- The status and the whole text for the program of a source that the tool makes itself: the counts of its variables,
+-- its constraints,
 -- its call sites and its exceeded bounds. It is accepted exactly where there are none of these.
 pub data IsSummed (number : ℕ) (it : Judging) : Status → List ℕ → Type 0 where
   SummedUp : (errors : ℕ) → ErrorCount it.scene it.system (length it.system.constraints) errors →
@@ -317,13 +348,15 @@ pub data IsSummed (number : ℕ) (it : Judging) : Status → List ℕ → Type 0
 pub data OfMade (number : ℕ) : Status → List ℕ → Type 0 where
   MadeLatticesRefused : (fault : LatticeFileFault) → LatticesFail false lattice_text fault →
       OfMade number Malformed (lattice_line made_names.lattice fault)
-  MadeRead : (lattices : List LatticeView) (status : Status) (text : List ℕ) → LatticesRead false lattice_text lattices →
+  MadeRead : (lattices : List LatticeView) (status : Status) (text : List ℕ)
+      → LatticesRead false lattice_text lattices →
       OfSources made_names lattices [] [] (IsSummed number) 1 total_limit (files_with made_names.sources (generated_text number ∷ [])) status text →
       OfMade number status text
 
 -- The status and the whole text for what is asked, by the bytes of each part.
 pub data OfTask (inputs : Inputs) (task : Task) : Status → List ℕ → Type 0 where
-  OfProgram : (named : FileNames) (status : Status) (text : List ℕ) → names_of task ≡ Some named → OfFiles named inputs status text →
+  OfProgram : (named : FileNames) (status : Status) (text : List ℕ) → names_of task ≡ Some named
+      → OfFiles named inputs status text →
       OfTask inputs task status text
   OfGenerated : (number : ℕ) (status : Status) (text : List ℕ) → task ≡ Generate number → OfMade number status text →
       OfTask inputs task status text
@@ -334,7 +367,8 @@ pub data Outcome (words : List (List ℕ)) (inputs : Inputs) : Status → List �
   WithMeaning : (task : Task) (status : Status) (text : List ℕ) → meaning_of words ≡ Some task →
       OfTask inputs task status text → Outcome words inputs status text
 
--- It is the status and the whole text whatever the files hold beside what was read of them: for all files that give these readings.
+-- It is the status and the whole text whatever the files hold beside what was read of them: for all files that give
+-- these readings.
 abbrev pub Answers : List (List ℕ) → List Reading → Status → List ℕ → Type 0
 Answers words these status text = (inputs : Inputs) → ReadsAs (asked words inputs) these → Outcome words inputs status text
 
@@ -372,16 +406,19 @@ IsDecided ReadFault = ⊥
 IsDecided WriteFault = ⊥
 IsDecided NoMemory = ⊥
 
+-- a name in a list of its own, if there is one
 abbrev pub named_one : Option (List ℕ) → List (List ℕ)
 named_one None = []
 named_one (Some name) = name ∷ []
 
 -- what was read before the prelude, before a source behind so many others, and before the saved file
 
+-- the lattice file reads, as it must before the prelude is started
 pub record LatticesAreRead (named : FileNames) (inputs : Inputs) : Type 0 where
   pub lattices : List LatticeView
   pub read : LatticesRead named.wide inputs.lattice lattices
 
+-- the lattice file, the prelude and so many sources read, as they must before the next source is started
 pub record SourcesAreRead (named : FileNames) (inputs : Inputs) (count : ℕ) : Type 0 where
   pub lattices : List LatticeView
   pub read : LatticesRead named.wide inputs.lattice lattices
@@ -391,6 +428,7 @@ pub record SourcesAreRead (named : FileNames) (inputs : Inputs) (count : ℕ) : 
   pub units : List UnitRead
   pub parse : SourcesParse named.wide lattices 1 total_limit (take count (sources_of named inputs)) units
 
+-- all files but the saved one read and their units have no fault, as they must before that is started
 pub record ProgramIsRead (named : FileNames) (inputs : Inputs) : Type 0 where
   pub lattices : List LatticeView
   pub read : LatticesRead named.wide inputs.lattice lattices
@@ -401,23 +439,29 @@ pub record ProgramIsRead (named : FileNames) (inputs : Inputs) : Type 0 where
   pub parse : SourcesParse named.wide lattices 1 total_limit (sources_of named inputs) units
   pub counted : AreCounted named lattices marks (before ++ units)
 
--- The files that are started, in order, by their names: the lattice file, the prelude, the sources and the saved file, each only where
+-- The files that are started, in order, by their names: the lattice file, the prelude, the sources and the saved file,
+-- each only where
 -- those before it have read. Given are the bytes of the parts: all that give the readings.
 pub data Starts (named : FileNames) (Given : Inputs → Type 0) : List (List ℕ) → Type 0 where
   LatticeAlone : Starts named Given (named.lattice ∷ [])
-  ThenPrelude : (file : List ℕ) → named.prelude ≡ Some file → ((inputs : Inputs) → Given inputs → LatticesAreRead named inputs) →
+  ThenPrelude : (file : List ℕ) → named.prelude ≡ Some file
+      → ((inputs : Inputs) → Given inputs → LatticesAreRead named inputs) →
       Starts named Given (named.lattice ∷ file ∷ [])
-  ThenSource : (count : ℕ) → count < length named.sources → ((inputs : Inputs) → Given inputs → SourcesAreRead named inputs count) →
+  ThenSource : (count : ℕ) → count < length named.sources
+      → ((inputs : Inputs) → Given inputs → SourcesAreRead named inputs count) →
       Starts named Given (named.lattice ∷ named_one named.prelude ++ take (suc count) named.sources)
-  ThenSaved : (file : List ℕ) → saved_in named ≡ Some file → ((inputs : Inputs) → Given inputs → ProgramIsRead named inputs) →
+  ThenSaved : (file : List ℕ) → saved_in named ≡ Some file
+      → ((inputs : Inputs) → Given inputs → ProgramIsRead named inputs) →
       Starts named Given (named.lattice ∷ named_one named.prelude ++ named.sources ++ file ∷ [])
 
 -- the files that a task starts: a source that the tool makes itself starts none
 pub data TaskStarts (task : Task) (Given : Inputs → Type 0) : List (List ℕ) → Type 0 where
-  InOrder : (named : FileNames) (names : List (List ℕ)) → names_of task ≡ Some named → Starts named Given names → TaskStarts task Given names
+  InOrder : (named : FileNames) (names : List (List ℕ)) → names_of task ≡ Some named → Starts named Given names
+      → TaskStarts task Given names
   MadeAlone : (number : ℕ) → task ≡ Generate number → TaskStarts task Given []
 
--- The files that are started: none for words without a meaning, nor where memory is wanting before their meaning is found.
+-- The files that are started: none for words without a meaning, nor where memory is wanting before their meaning is
+-- found.
 pub data WordsStart (words : List (List ℕ)) (Given : Inputs → Type 0) (status : Status) : List (List ℕ) → Type 0 where
   NoFile : meaning_of words ≡ None → WordsStart words Given status []
   NoMeaningYet : status ≡ NoMemory → WordsStart words Given status []

@@ -7,7 +7,7 @@ use Rattle.c_units.specs.Units.{IsWellFormed}
 use Rattle.c_parser.specs.Parsing.{lexemes_of}
 use Rattle.c_types.specs.Sources.{UnitRead, lexed_of, sources_in}
 use Rattle.c_types.specs.Units.{AreParts, AreReduced}
-use Rattle.key_laws.specs.Differing.{IsRead, UnitsDiffer, has_unit}
+use Rattle.row_laws.specs.KeyLaws.Differing.{IsRead, UnitsDiffer, has_unit}
 use Rattle.flow_graph.specs.System.{IsWellOwned}
 use Rattle.flow_graph.specs.Unfolding.{NamesElements}
 use Rattle.annotate.specs.Solutions.{AllNamed}
@@ -32,7 +32,8 @@ use Rattle.cqual_tool.specs.Outcome.{AreBefore, AreCounted, SourceParses, Source
 abbrev pub IsFormed : UnitRead → Type 0
 IsFormed it = IsWellFormed it.lexed.wide (lexemes_of it.lexed) it.items
 
--- units that may stand before a source of this number: each is well formed, no two have one number, and each has a lower one
+-- units that may stand before a source of this number: each is well formed, no two have one number, and each has a
+-- lower one
 pub record AreEarlier (number : ℕ) (units : List UnitRead) : Type 0 where
   pub formed : All IsFormed units
   pub differ : UnitsDiffer (sources_in units)
@@ -43,27 +44,31 @@ pub record IsEarlier (number : ℕ) (before : List UnitRead) (it : Earlier) : Ty
   pub are : AreReduced before it.units
   pub may : AreEarlier number before
 
--- the tokens and the tapes of units that are read together: each is well formed of its tokens, and no two have one number
+-- the tokens and the tapes of units that are read together: each is well formed of its tokens, and no two have one
+-- number
 pub record AreJoined (units : List UnitRead) (tokens : List Lexed) (tapes : List UnitTape) : Type 0 where
   pub parts : AreParts units tokens tapes
   pub read : All IsRead (sources_in units)
   pub differ : UnitsDiffer (sources_in units)
 
--- what is made of the bytes of a source of this number behind other units: a line that refuses it, or these units with it behind them
+-- what is made of the bytes of a source of this number behind other units: a line that refuses it, or these units with
+-- it behind them
 abbrev pub IsOneMore : Bool → List LatticeView → ℕ → List ℕ → List ℕ → List UnitRead → List IndexMark → Joined → Type 0
 IsOneMore wide lattices number file bytes before marks (joined.Refused answer) =
     (answer.status ≡ Malformed) × SourceRefused wide lattices number file bytes answer.text.items
 IsOneMore wide lattices number file bytes before marks (joined.Units it) =
     (unit : UnitRead) × SourceParses wide lattices number bytes unit × IsEarlier (number + 1) (before ++ unit ∷ []) it × (it.prelude ≡ marks)
 
--- A program of units, within the limits, with its constraints and its external functions: no flow leaves a function but by a call, and
+-- A program of units, within the limits, with its constraints and its external functions: no flow leaves a function but
+-- by a call, and
 -- each constant and bound names a lattice and an element of it.
 pub record IsReady (named : FileNames) (lattices : List LatticeView) (marks : List IndexMark) (units : List UnitRead) (it : Ready) : Type 0 where
   pub counted : AreCounted named lattices marks units
   pub differ : UnitsDiffer (sources_in units)
   pub units_are : it.tokens.items ≡ lexed_of units
   pub made : IsGenerated units (program_in lattices marks units) it.made
-  pub externals : (texts : List UnitText) → externals_in texts (program_in lattices marks units) ≡ externals_held texts it
+  pub externals : (texts : List UnitText)
+      → externals_in texts (program_in lattices marks units) ≡ externals_held texts it
   pub signs : MaySign it
   pub owned : IsWellOwned it.made.graph
   pub within : AllNamed lattices it.made.graph
@@ -80,11 +85,14 @@ pub data EndStarts (named : FileNames) : List (List ℕ) → Type 0 where
   NoneSaved : EndStarts named []
   OneSaved : (file : List ℕ) → saved_in named ≡ Some file → EndStarts named (file ∷ [])
 
--- what was read of some sources, and of all of them and of the units before them
+-- some sources read as well-formed units
 abbrev pub AreParsed : Bool → List LatticeView → ℕ → ℕ → List (List ℕ × List ℕ) → Type 0
 AreParsed wide lattices number left sources = (units : List UnitRead) × SourcesParse wide lattices number left sources units
 
-abbrev pub AreRead : FileNames → List LatticeView → List UnitRead → List IndexMark → ℕ → ℕ → List (List ℕ × List ℕ) → Type 0
+-- all sources read as well-formed units, which with those before them have no fault of names and types and are few
+-- enough
+abbrev pub AreRead : FileNames → List LatticeView → List UnitRead → List IndexMark → ℕ → ℕ → List (List ℕ × List ℕ)
+    → Type 0
 AreRead named lattices before marks number left sources =
     (units : List UnitRead) × SourcesParse named.wide lattices number left sources units × AreCounted named lattices marks (before ++ units)
 
@@ -99,13 +107,14 @@ pub data SourcesStart (named : FileNames) (lattices : List LatticeView) (before 
       ((inputs : Inputs) → Given inputs → AreRead named lattices before marks number left (files_with names inputs.sources)) →
       SourcesStart named lattices before marks number left names Given (names ++ file ∷ [])
 
--- what was read before a source behind so many others, and before the saved file
+-- the units before the sources and so many sources read, as they must before the next source is started
 pub record FirstAreRead (named : FileNames) (lattices : List LatticeView) (inputs : Inputs) (count : ℕ) : Type 0 where
   pub before : List UnitRead
   pub marks : List IndexMark
   pub are : AreBefore named inputs lattices before marks
   pub parsed : AreParsed named.wide lattices 1 total_limit (take count (sources_of named inputs))
 
+-- all units read, as they must before the saved file is started
 pub record AllAreRead (named : FileNames) (lattices : List LatticeView) (inputs : Inputs) : Type 0 where
   pub before : List UnitRead
   pub marks : List IndexMark
@@ -119,5 +128,6 @@ pub data UnitsStart (named : FileNames) (lattices : List LatticeView) (Given : I
   SourceToo : (count : ℕ) → count < length named.sources →
       ((inputs : Inputs) → Given inputs → FirstAreRead named lattices inputs count) →
       UnitsStart named lattices Given (named_one named.prelude ++ take (suc count) named.sources)
-  SavedToo : (file : List ℕ) → saved_in named ≡ Some file → ((inputs : Inputs) → Given inputs → AllAreRead named lattices inputs) →
+  SavedToo : (file : List ℕ) → saved_in named ≡ Some file
+      → ((inputs : Inputs) → Given inputs → AllAreRead named lattices inputs) →
       UnitsStart named lattices Given (named_one named.prelude ++ named.sources ++ file ∷ [])

@@ -12,11 +12,12 @@ use Rattle.sig_writer.specs.Signatures.{External}
 use Rattle.sig_writer.specs.Functions.{externals_in}
 use Rattle.cqual_tool.specs.Words.{FileNames}
 
--- the file of a unit: unit 0 is the prelude, and the sources are units from 1 on; one name twice is two sources
+-- a name, or an empty one where there is none
 abbrev pub or_no_name : Option (List ℕ) → List ℕ
 or_no_name None = []
 or_no_name (Some name) = name
 
+-- the file of a unit: unit 0 is the prelude, and the sources are units from 1 on; one name twice is two sources
 abbrev pub file_of : FileNames → ℕ → List ℕ
 file_of named unit = if nat_eq unit 0 then or_no_name named.prelude else or_no_name (slice_get named.sources (unit - 1))
 
@@ -26,9 +27,11 @@ last_of [] = []
 last_of (file ∷ []) = file
 last_of (file ∷ next ∷ more) = last_of (next ∷ more)
 
+-- a unit with the name of its file
 abbrev pub text_of : FileNames → Lexed → UnitText
 text_of named lexed = record { file = file_of named lexed.unit; lexed = lexed }
 
+-- units with the names of their files
 abbrev pub texts_of : FileNames → List Lexed → List UnitText
 texts_of named units = map (text_of named) units
 

@@ -8,7 +8,8 @@ use Rattle.cqual_tool.specs.Inputs.{Inputs, asked}
 use Rattle.cqual_tool.specs.Outcome.{Answers, IsAnswer, StartsFor}
 use Rattle.cqual_tool.specs.Sending.{AppendsFront}
 
--- Of the words: the files before it and after it, the bytes that were written and the puts that failed before and after it, the
+-- Of the words: the files before it and after it, the bytes that were written and the puts that failed before and after
+-- it, the
 -- status that it answers, and its readings.
 pub record Ran (words : List (List ℕ)) (old new : Standing) (before after : List ℕ) (failed fails : ℕ) (status : Status) (these : List Reading)
     : Type 0 where
@@ -17,7 +18,8 @@ pub record Ran (words : List (List ℕ)) (old new : Standing) (before after : Li
   pub there : (inputs : Inputs) × ReadsAs (asked words inputs) these
   pub started : StartsFor words status these
   pub outcome : IsAnswer status → (text : List ℕ) × (after ≡ before ++ text) × Answers words these status text
-  pub front : status ≡ WriteFault → (other : Status) × (text : List ℕ) × AppendsFront before after text × Answers words these other text
+  pub front : status ≡ WriteFault
+      → (other : Status) × (text : List ℕ) × AppendsFront before after text × Answers words these other text
   pub write_fault : status ≡ WriteFault → fails ≡ failed + 1
   pub writes : status ≢ WriteFault → fails ≡ failed
   pub read_fault : (status ≡ ReadFault) ↔ (has_broken these ≡ true)

@@ -24,6 +24,7 @@ abbrev pub in_unit : List ℕ → Option UnitText → ℕ → List ℕ → List 
 in_unit file None token code = malformed_line file code
 in_unit file (Some it) token code = token_line it.file it.lexed token code
 
+-- the line of a fault at a token of a unit that is known by its number
 abbrev pub unit_line : List ℕ → List UnitText → ℕ → ℕ → List ℕ → List ℕ
 unit_line file units unit token code = in_unit file (unit_in units unit) token code
 

@@ -29,7 +29,8 @@ IsLibraryOf it library = it.externals ≡ externals_by library
 abbrev pub externals_held : List UnitText → Ready → List External
 externals_held units it = map (external_at units it.made.skeletons) it.functions.items
 
--- Signatures may be asked of a program: no two of its units have one number, its skeletons have their variables in pre-order, and no
+-- Signatures may be asked of a program: no two of its units have one number, its skeletons have their variables in
+-- pre-order, and no
 -- function owns nodes of two external ones.
 pub record MaySign (it : Ready) : Type 0 where
   pub units : (named : FileNames) → AreApart (texts_of named it.tokens.items)
@@ -47,5 +48,6 @@ SaysRefused scene (Unwritable p) answer = Says NoSignature (no_signature_at (pla
 SaysRefused scene (NoSign p) answer = Says NoSignature (no_signature_at (place_text scene p.0 p.1) (codes "U4")) answer
 SaysRefused scene OutOfMemory answer = ⊥
 
+-- the answer of an accepted program, with this text
 abbrev pub accepted_with : Vec ℕ Global → Answer
 accepted_with text = record { status = Accepted; text = text }

@@ -6,7 +6,8 @@ use Rattle.cqual_words.specs.Words.{Question}
 use Rattle.cqual_words.specs.Asked.{question_in}
 use Rattle.cqual_tool.specs.declared.words.Named.{Named}
 
--- The files that are named, the sources in their order, what is asked of their program, and whether they are read as wider C.
+-- The files that are named, the sources in their order, what is asked of their program, and whether they are read as
+-- wider C.
 pub record FileNames : Type 0 where
   pub lattice : List ℕ
   pub prelude : Option (List ℕ)
@@ -24,6 +25,7 @@ saved_of (words.Verify certificate) = Some certificate
 saved_of (words.Who name) = None
 saved_of words.Sign = None
 
+-- the file of a report or a certificate that is to be checked, where one is
 abbrev pub saved_in : FileNames → Option (List ℕ)
 saved_in named = saved_of named.asked
 
@@ -37,6 +39,7 @@ names_in named = record {
   wide = named.wide;
 }
 
+-- the files that words name, with what is asked of them
 abbrev pub of_files : words.FileNames → Question → FileNames
 of_files files asked = record {
   lattice = files.lattice;

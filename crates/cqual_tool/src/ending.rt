@@ -6,7 +6,7 @@ ghost use Rattle.outside.specs.Readings.{stands};
 ghost use Rattle.lattice_core.specs.View.{orders_of};
 ghost use Rattle.index_words.specs.Marks.{IndexMark};
 ghost use Rattle.c_types.specs.Sources.{UnitRead, lexed_of, sources_in};
-ghost use Rattle.key_laws.specs.Differing.{UnitsDiffer};
+ghost use Rattle.row_laws.specs.KeyLaws.Differing.{UnitsDiffer};
 ghost use Rattle.constraint_gen.specs.Programs.{program_in};
 ghost use Rattle.constraint_gen.specs.Generating.{IsGenerated};
 ghost use Rattle.flow_graph.specs.System.{IsWellOwned};
@@ -37,8 +37,8 @@ use flow_graph::FlowGraph;
 use flow_query::answer_who;
 use lattice_core::Lattices;
 use outside::Files;
+use path_checker::report_checks::{Checked, judge_report, put_checked};
 use qual_base::{NoMemory, Numbered, UnitNo};
-use report_checks::{Checked, judge_report, put_checked};
 use sig_writer::Library;
 use std::alloc::Global;
 

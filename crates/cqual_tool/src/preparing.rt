@@ -31,7 +31,7 @@ use c_types::{Program as Resolved, ShapeFault, UnitTape, Units, resolve_tapes};
 use constraint_gen::{GenerateFault, Generated, generate};
 use index_words::Prelude;
 use lattice_core::Lattices;
-use name_scopes::Place;
+use name_tables::name_scopes::Place;
 use qual_base::{NoMemory, Numbered, QualWords, UnitNo};
 use sig_writer::{external_functions, externals_are_held, owned_apart, skeletons_are_in_order};
 use std::alloc::Global;

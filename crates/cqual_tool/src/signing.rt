@@ -23,7 +23,7 @@ use crate::status::Status;
 use annotate::{Scene, UnitText, put_spot, unit_at};
 use flow_graph::FlowGraph;
 use lattice_core::Lattices;
-use name_scopes::Place;
+use name_tables::name_scopes::Place;
 use qual_base::{EdgeId, LatticeNo, NoMemory, Numbered, TokenId, UnitNo};
 use sig_writer::{Library, SigFault, Unsuited, signed, suits};
 use std::alloc::Global;

@@ -52,7 +52,8 @@ pub refusal_right : (words : List Text) (e : Error) → HasKind (fault_of tool w
     → None ≡ asked_behind words
 refusal_right words e has other = go (fault_of tool words) (agrees words) has
   where
-    go : (ks : Kinds) → Judged ks (matches_of tool words) (asked_behind words) → HasKind ks e → None ≡ asked_behind words
+    go : (ks : Kinds) → Judged ks (matches_of tool words) (asked_behind words) → HasKind ks e
+        → None ≡ asked_behind words
     go [] judged (inl out) = absurd (other out)
     go [] judged (inr among) = absurd among
     go (k ∷ ks) judged has_ = sym judged

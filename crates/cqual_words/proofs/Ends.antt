@@ -79,7 +79,8 @@ own_default (Flagged flag) rows = go (has_row (flag_name flag) rows) (all_of (fl
     (all_more (flag_name flag) DefaultValue (codes "false") rows (part_same (Flagged flag))) refl
   where
     go : (b : Bool) (o : Option (List Text)) → b ≡ is_some o
-        → all_of (flag_name flag) (off_rows flag rows) ≡ Some (plain_texts o ++ codes "false" ∷ []) → all_of (flag_name flag) rows ≡ o
+        → all_of (flag_name flag) (off_rows flag rows) ≡ Some (plain_texts o ++ codes "false" ∷ [])
+        → all_of (flag_name flag) rows ≡ o
         → all_of (flag_name flag) (cond b rows (off_rows flag rows)) ≡ with_off (Flagged flag) o
     go true None e more is = absurd (true≢false e)
     go true (Some texts) e more is = is
@@ -98,7 +99,8 @@ other_default a (Flagged flag) rows other = go (has_row (flag_name flag) rows)
     go false = all_other (flag_name flag) (name_of a) DefaultValue (codes "false") rows other
 
 -- the defaults of some parts, by whether this part is among them
-texts_behind : (a : Part) (bs : List Part) (rows : List Row) → all_of (name_of a) (fold with_default rows (map rule_for bs))
+texts_behind : (a : Part) (bs : List Part) (rows : List Row)
+    → all_of (name_of a) (fold with_default rows (map rule_for bs))
     ≡ cond (is_some (find (λ b. is_part b a) bs)) (with_off a (all_of (name_of a) rows)) (all_of (name_of a) rows)
 texts_behind a [] rows = refl
 texts_behind a (b ∷ bs) rows = texts_behind a bs (with_default rows (rule_for b)) ∙ go (is_part b a) refl
@@ -122,7 +124,8 @@ texts_behind a (b ∷ bs) rows = texts_behind a bs (with_default rows (rule_for 
         ∙ twice_off (is_some (find (λ c. is_part c a) bs))
     go false e = ap (λ o. cond (is_some (find (λ c. is_part c a) bs)) (with_off a o) o) (other_default a b rows e)
 
-end_texts : (a : Part) (ps : List Piece) → all_of (name_of a) (end_rows (rows_at ps)) ≡ with_off a (joined None (texts_of a ps))
+end_texts : (a : Part) (ps : List Piece)
+    → all_of (name_of a) (end_rows (rows_at ps)) ≡ with_off a (joined None (texts_of a ps))
 end_texts a ps = texts_behind a parts (rows_at ps)
     ∙ ap (λ o. cond (is_some o) (with_off a (all_of (name_of a) (rows_at ps))) (all_of (name_of a) (rows_at ps))) (found a)
     ∙ ap (with_off a) (texts_are a ps)
@@ -139,7 +142,8 @@ says_true (Set other) flag e = refl
 says_true (Value key text) flag e = absurd (true≢false (sym (ap is_flagged e)))
 says_true (Plain word) flag e = absurd (true≢false (sym (ap is_flagged e)))
 
-flag_texts : (flag : Flag) (ps : List Piece) → texts_of (Flagged flag) ps ≡ map (λ _. codes "true") (texts_of (Flagged flag) ps)
+flag_texts : (flag : Flag) (ps : List Piece)
+    → texts_of (Flagged flag) ps ≡ map (λ _. codes "true") (texts_of (Flagged flag) ps)
 flag_texts flag [] = refl
 flag_texts flag (p ∷ ps) = go (is_part (part_of p) (Flagged flag)) refl (flag_texts flag ps)
   where
@@ -188,7 +192,8 @@ default_written Source rows all = go (has_row (codes "source") rows)
     go true = all
     go false = all
 
-end_written : (bs : List Part) (rows : List Row) → AreWritten rows → AreWritten (fold with_default rows (map rule_for bs))
+end_written : (bs : List Part) (rows : List Row) → AreWritten rows
+    → AreWritten (fold with_default rows (map rule_for bs))
 end_written [] rows all = all
 end_written (b ∷ bs) rows all = end_written bs (with_default rows (rule_for b)) (default_written b rows all)
 
@@ -240,7 +245,8 @@ options_fit ps (Valued key) = are_fit (Valued key) (texts_of (Valued key) ps)
 options_fit ps (Flagged flag) = are_fit (Flagged flag) (texts_of (Flagged flag) ps)
 options_fit ps Source = true
 
-fit_once : (ts : List Text) → is_once ts ≡ true → is_fit (slice_get ts 0) ≡ (list_all has_meaning ts && nat_le (length ts) 1)
+fit_once : (ts : List Text) → is_once ts ≡ true
+    → is_fit (slice_get ts 0) ≡ (list_all has_meaning ts && nat_le (length ts) 1)
 fit_once [] h = refl
 fit_once (t ∷ []) h = go (has_meaning t)
   where

@@ -219,7 +219,8 @@ made_and_who : meaning_of (codes "--generate=1" ∷ codes "--who=b" ∷ []) ≡ 
 unfolding pieces_from
 made_and_who = refl
 
--- no name, a name that begins with a hyphen, a certificate that is not named, a flag with a value, a flag that stands again
+-- no name, a name that begins with a hyphen, a certificate that is not named, a flag with a value, a flag that stands
+-- again
 empty_name : meaning_of (codes "--lattice=l.q" ∷ codes "s.c" ∷ codes "--who=" ∷ []) ≡ None
 unfolding pieces_from
 empty_name = refl

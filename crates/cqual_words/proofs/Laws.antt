@@ -24,7 +24,8 @@ asked_has files (Some question) = go (fits question files.sources) (goes_with qu
     go true false e = tt
     go false c e = tt
 
-made_has : (n : Text) (p : Option Text) (question : Option Question) (sources : List Text) → AllFit (made_of n p question sources)
+made_has : (n : Text) (p : Option Text) (question : Option Question) (sources : List Text)
+    → AllFit (made_of n p question sources)
 made_has n (Some p) question sources = tt
 made_has n None None sources = tt
 made_has n None (Some Infer) [] = go (number_of n)
@@ -40,7 +41,8 @@ made_has n None (Some (Verify v)) sources = tt
 made_has n None (Some (Who w)) sources = tt
 made_has n None (Some Sign) sources = tt
 
-task_has : (l p n : Option Text) (question : Option Question) (sources : List Text) → AllFit (task_with l p n question sources)
+task_has : (l p n : Option Text) (question : Option Question) (sources : List Text)
+    → AllFit (task_with l p n question sources)
 task_has (Some l) p None question sources = asked_has (files_of l p sources) question
 task_has (Some l) p (Some n) question sources = tt
 task_has None p (Some n) question sources = made_has n p question sources
@@ -52,7 +54,8 @@ behind_has words = go (list_all (λ part. are_fit part (texts_of part pieces)) p
     pieces : List Piece
     pieces = pieces_of words
 
-    go : (b : Bool) → AllFit (cond b (task_of_parts (value_among pieces) (stands_among pieces) (texts_of Source pieces)) None)
+    go : (b : Bool)
+        → AllFit (cond b (task_of_parts (value_among pieces) (stands_among pieces) (texts_of Source pieces)) None)
     go true = task_has (value_among pieces Lattice) (value_among pieces Prelude) (value_among pieces Number) _ (texts_of Source pieces)
     go false = tt
 
@@ -65,6 +68,7 @@ words_have : (words : List Text) → AllFit (meaning_of words)
 words_have words = widened_has (behind_wide words).0 (asked_behind (behind_wide words).1) (behind_has (behind_wide words).1)
 
 -- a question that words ask has as many sources as it may have
-pub asked_fits : (words : List Text) (question : Question) (files : FileNames) → meaning_of words ≡ Some (Ask question files)
+pub asked_fits : (words : List Text) (question : Question) (files : FileNames)
+    → meaning_of words ≡ Some (Ask question files)
     → fits question files.sources ≡ true
 asked_fits words question files is = subst AllFit is (words_have words)

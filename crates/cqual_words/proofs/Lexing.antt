@@ -3,7 +3,7 @@ use Rattle.std.proofs.Common.{refl, ◌≡◌, ◌==◌, ℕ, Bool, true, false,
 use Rattle.std.specs.Prelude.{slice_get}
 use Rattle.std.specs.Str.{bytes_eq, chars}
 use Rattle.clap.specs.Lexer.{long_of, short_of}
-use Rattle.clap.specs.Walk.{Held, Step, Waiting, arg_by_short, bundle, bundle_met, idle, option, plain, plain_word, positional, long_word}
+use Rattle.clap.specs.Walk.{Held, Step, Waiting, bundle, bundle_met, idle, option, plain, plain_word, positional, long_word}
 use Rattle.clap.specs.Walk.{trailing, subcommand_met, word_met}
 use Rattle.clap.specs.Walk.{arg_by_long}
 use Rattle.clap.specs.Faults.{bundle_fault, flags_fault, long_fault, word_fault}
@@ -22,7 +22,8 @@ pub data Looks (word : Text) : Type 0 where
       → word_of word ≡ option_word word (named name) value → has_meaning word ≡ false → Looks word
   Short : (b : ℕ) (more : Text) → bytes_eq word hyphens ≡ false → long_of word ≡ None → short_of word ≡ Some (b ∷ more)
       → word_of word ≡ Whole (Plain word) → has_meaning word ≡ false → Looks word
-  Other : bytes_eq word hyphens ≡ false → long_of word ≡ None → short_of word ≡ None → word_of word ≡ Whole (Plain word) → Looks word
+  Other : bytes_eq word hyphens ≡ false → long_of word ≡ None → short_of word ≡ None → word_of word ≡ Whole (Plain word)
+      → Looks word
 
 pub looks : (word : Text) → Looks word
 looks [] = Other refl refl refl refl
@@ -62,35 +63,40 @@ pub dashes_met : (waiting : Waiting) (i : ℕ) (word : Text) (h : Held) → byte
     → meets waiting i word h ≡ (h, trailing i)
 dashes_met waiting i word h e = rw (no_subcommand waiting word, e) refl
 
-pub dashes_fine : (waiting : Waiting) (word : Text) (h : Held) → bytes_eq word hyphens ≡ true → faults waiting word h ≡ []
+pub dashes_fine : (waiting : Waiting) (word : Text) (h : Held) → bytes_eq word hyphens ≡ true
+    → faults waiting word h ≡ []
 dashes_fine waiting word h e = rw (no_subcommand waiting word, e) refl
 
 -- an option's word, by its name
-pub long_met_by : (waiting : Waiting) (i : ℕ) (word name : Text) (value : Option Text) (h : Held) → bytes_eq word hyphens ≡ false
+pub long_met_by : (waiting : Waiting) (i : ℕ) (word name : Text) (value : Option Text) (h : Held)
+    → bytes_eq word hyphens ≡ false
     → long_of word ≡ Some (name, value) → meets waiting i word h ≡ long_word all_rules waiting word name value h
 long_met_by waiting i word name value h e long = rw (no_subcommand waiting word, e, long) refl
 
-pub long_faults : (waiting : Waiting) (word name : Text) (value : Option Text) (h : Held) → bytes_eq word hyphens ≡ false
-    → long_of word ≡ Some (name, value) → faults waiting word h ≡ long_fault all_rules false (arg_by_long all_rules name) value h
+pub long_faults : (waiting : Waiting) (word name : Text) (value : Option Text) (h : Held)
+    → bytes_eq word hyphens ≡ false
+    → long_of word ≡ Some (name, value)
+    → faults waiting word h ≡ long_fault all_rules false (arg_by_long all_rules name) value h
 long_faults waiting word name value h e long = rw (no_subcommand waiting word, e, long) refl
 
 -- any other word
-pub other_met : (waiting : Waiting) (i : ℕ) (word : Text) (h : Held) → bytes_eq word hyphens ≡ false → long_of word ≡ None
+pub other_met : (waiting : Waiting) (i : ℕ) (word : Text) (h : Held) → bytes_eq word hyphens ≡ false
+    → long_of word ≡ None
     → short_of word ≡ None
     → meets waiting i word h ≡ plain_word all_rules waiting word h
 other_met waiting i word h e long short = rw (no_subcommand waiting word, e, long, short) refl
 
-pub other_fine : (waiting : Waiting) (word : Text) (h : Held) → bytes_eq word hyphens ≡ false → long_of word ≡ None → short_of word ≡ None
+pub other_fine : (waiting : Waiting) (word : Text) (h : Held) → bytes_eq word hyphens ≡ false → long_of word ≡ None
+    → short_of word ≡ None
     → faults waiting word h ≡ []
 other_fine waiting word h e long short = rw (no_subcommand waiting word, e, long, short) refl
 
--- short options: there is none, so that clap refuses the word or, where its bytes spell no characters, reads it as any other
+-- short options: there is none, so that clap refuses the word or, where its bytes spell no characters, reads it as any
+-- other
 pub data ReadsShort (waiting : Waiting) (word : Text) (h : Held) : Type 0 where
   Refuses : faults waiting word h ≡ kind.UnknownArgument ∷ [] → ReadsShort waiting word h
-  Passes : faults waiting word h ≡ [] → ((i : ℕ) → meets waiting i word h ≡ plain_word all_rules waiting word h) → ReadsShort waiting word h
-
-no_short : (x : ℕ) → arg_by_short all_rules x ≡ None
-no_short x = refl
+  Passes : faults waiting word h ≡ [] → ((i : ℕ) → meets waiting i word h ≡ plain_word all_rules waiting word h)
+      → ReadsShort waiting word h
 
 abbrev no_skip : Held → Held
 no_skip h = record h { skip = 0 }
@@ -110,7 +116,8 @@ refused : (b : ℕ) (more : Text) (h : Held) (x : ℕ) → slice_get (chars (b �
 unfolding flags_fault
 refused b more h x e = rw e refl
 
-pub short_read : (waiting : Waiting) (word : Text) (h : Held) (b : ℕ) (more : Text) → bytes_eq word hyphens ≡ false → long_of word ≡ None
+pub short_read : (waiting : Waiting) (word : Text) (h : Held) (b : ℕ) (more : Text) → bytes_eq word hyphens ≡ false
+    → long_of word ≡ None
     → short_of word ≡ Some (b ∷ more) → ReadsShort waiting word (no_skip h)
 short_read waiting word h b more e long short = go (slice_get (chars (b ∷ more)) 0) refl
   where

@@ -49,7 +49,8 @@ abbrev pub IsRead : Text → Type 0
 IsRead text = IsNumeral 10 (without_leading_plus text) × (digits_value 10 (without_leading_plus text) < 2 ^ 32)
 
 -- what `parse` read
-pub read_number : (text : Text) (n : ℕ) → begins_number text ≡ true → IsRead text → n ≡ digits_value 10 (without_leading_plus text)
+pub read_number : (text : Text) (n : ℕ) → begins_number text ≡ true → IsRead text
+    → n ≡ digits_value 10 (without_leading_plus text)
     → n ≤ 1000 → Some n ≡ number_of text
 read_number text n begins h is most =
     let same = plusless text begins in
@@ -75,7 +76,8 @@ begins_some (b ∷ more) h =
     omega arith
 
 -- the number that it read is at least 1
-pub read_some : (text : Text) (n : ℕ) → begins_number text ≡ true → n ≡ digits_value 10 (without_leading_plus text) → 1 ≤ n
+pub read_some : (text : Text) (n : ℕ) → begins_number text ≡ true → n ≡ digits_value 10 (without_leading_plus text)
+    → 1 ≤ n
 read_some text n begins is = subst (λ m. 1 ≤ m) (sym (is ∙ ap (digits_value 10) (plusless text begins))) (begins_some text begins)
 
 -- what it did not read

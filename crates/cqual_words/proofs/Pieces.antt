@@ -127,7 +127,8 @@ texts_append a (p ∷ ps) qs = go (is_part (part_of p) a) (texts_append a ps qs)
     go true e = ap (λ ts. text_of p ∷ ts) e
     go false e = e
 
-pub texts_here : (p : Piece) (more : List Piece) → texts_of (part_of p) (p ∷ more) ≡ text_of p ∷ texts_of (part_of p) more
+pub texts_here : (p : Piece) (more : List Piece)
+    → texts_of (part_of p) (p ∷ more) ≡ text_of p ∷ texts_of (part_of p) more
 texts_here p more = ap (λ b. cond b (text_of p ∷ texts_of (part_of p) more) (texts_of (part_of p) more)) (part_same (part_of p))
 
 -- the texts of an id, by those that were there before and those that come
@@ -140,7 +141,8 @@ joined_none : (o : Option (List Text)) → o ≡ joined o []
 joined_none None = refl
 joined_none (Some before) = ap Some (sym (append-nil before))
 
-joined_one : (o : Option (List Text)) (t : Text) (ts : List Text) → joined (Some (plain_texts o ++ t ∷ [])) ts ≡ joined o (t ∷ ts)
+joined_one : (o : Option (List Text)) (t : Text) (ts : List Text)
+    → joined (Some (plain_texts o ++ t ∷ [])) ts ≡ joined o (t ∷ ts)
 joined_one None t ts = refl
 joined_one (Some before) t ts = ap Some (append_assoc before (t ∷ []) ts)
 
@@ -199,7 +201,8 @@ first_in o = option_and_then (λ ts. slice_get ts 0) o
 pub first_by : (id : Text) (rows : List Row) → first_of id rows ≡ first_in (all_of id rows)
 first_by id rows = go (find (is_id id) rows)
   where
-    go : (o : Option Row) → option_and_then (λ (r : Row). slice_get r.values 0) o ≡ first_in (option_map (λ (r : Row). r.values) o)
+    go : (o : Option Row)
+        → option_and_then (λ (r : Row). slice_get r.values 0) o ≡ first_in (option_map (λ (r : Row). r.values) o)
     go None = refl
     go (Some r) = refl
 
@@ -214,14 +217,16 @@ part_none : (a : Part) (ps : List Piece) → are_fit a (texts_of a ps) ≡ false
 part_none a ps h = ap (λ b. cond b (task_of_parts (value_among ps) (stands_among ps) (texts_of Source ps)) None)
     (fails (λ b. are_fit b (texts_of b ps)) a h)
 
-bad_among : (xs : List Text) (t : Text) (ys : List Text) → has_meaning t ≡ false → list_all has_meaning (xs ++ t ∷ ys) ≡ false
+bad_among : (xs : List Text) (t : Text) (ys : List Text) → has_meaning t ≡ false
+    → list_all has_meaning (xs ++ t ∷ ys) ≡ false
 bad_among [] t ys h = rw h refl
 bad_among (x ∷ xs) t ys h = rw (bad_among xs t ys h) (and-false (has_meaning x))
 
 too_many : (n : ℕ) → nat_le (suc (suc n)) 1 ≡ false
 too_many n = grind (arith, nat_tests)
 
-again_among : (xs : List Text) (t : Text) (ys : List Text) → has_any xs ≡ true → nat_le (length (xs ++ t ∷ ys)) 1 ≡ false
+again_among : (xs : List Text) (t : Text) (ys : List Text) → has_any xs ≡ true
+    → nat_le (length (xs ++ t ∷ ys)) 1 ≡ false
 again_among [] t ys h = absurd (true≢false (sym h))
 again_among (x ∷ []) t ys h = too_many (length ys)
 again_among (x ∷ y ∷ xs) t ys h = too_many (length (xs ++ t ∷ ys))
@@ -231,7 +236,8 @@ texts_at : (ps : List Piece) (p : Piece) (more : List Piece)
 texts_at ps p more = texts_append (part_of p) ps (p ∷ more) ∙ ap (λ ts. texts_of (part_of p) ps ++ ts) (texts_here p more)
 
 -- so does a text with no meaning
-pub spoilt : (ps : List Piece) (p : Piece) (more : List Piece) → has_meaning (text_of p) ≡ false → task_in (ps ++ p ∷ more) ≡ None
+pub spoilt : (ps : List Piece) (p : Piece) (more : List Piece) → has_meaning (text_of p) ≡ false
+    → task_in (ps ++ p ∷ more) ≡ None
 spoilt ps p more h = part_none (part_of p) (ps ++ p ∷ more) (ap (are_fit (part_of p)) (texts_at ps p more)
     ∙ rw (bad_among (texts_of (part_of p) ps) (text_of p) (texts_of (part_of p) more) h) refl)
 

@@ -24,9 +24,6 @@ shape = (built tool).top
 abbrev pub all_rules : List Rule
 all_rules = map rule_for parts
 
-pub rules_are : shape.rules ≡ all_rules
-rules_are = refl
-
 -- ---- rows
 
 pub at_none : (id : Text) (change : Row → List Row) (missing rows : List Row) → has_row id rows ≡ false
@@ -34,7 +31,8 @@ pub at_none : (id : Text) (change : Row → List Row) (missing rows : List Row) 
 at_none id change missing [] h = refl
 at_none id change missing (r ∷ rows) h = go (bytes_eq r.id id) h (at_none id change missing rows)
   where
-    go : (b : Bool) → (b || has_row id rows) ≡ false → (has_row id rows ≡ false → at_row id change missing rows ≡ rows ++ missing)
+    go : (b : Bool) → (b || has_row id rows) ≡ false
+        → (has_row id rows ≡ false → at_row id change missing rows ≡ rows ++ missing)
         → cond b (change r ++ rows) (r ∷ at_row id change missing rows) ≡ r ∷ rows ++ missing
     go true h next = absurd (true≢false h)
     go false h next = ap (λ rs. r ∷ rs) (next h)
@@ -63,7 +61,8 @@ pub used_flag : (flag : Flag) (rows : List Row) → has_row (flag_name flag) row
 used_flag flag rows h = ap (λ rs. with_piece rs (Set flag)) (without_none (flag_name flag) rows h)
 
 -- a word that is no option joins those before it
-pub used_source : (text : Text) (rows : List Row) → used (rule_for Source) (text ∷ []) rows ≡ with_piece rows (Plain text)
+pub used_source : (text : Text) (rows : List Row)
+    → used (rule_for Source) (text ∷ []) rows ≡ with_piece rows (Plain text)
 used_source text rows = refl
 
 -- the faults of these uses
@@ -87,7 +86,8 @@ pub flag_again : (flag : Flag) (rows : List Row) → has_row (flag_name flag) ro
 flag_again flag rows h = rw h refl
 
 -- an option that has no value
-pub none_faulty : (key : Key) (rows : List Row) → use_fault false (rule_for (Valued key)) [] rows ≡ kind.InvalidValue ∷ []
+pub none_faulty : (key : Key) (rows : List Row)
+    → use_fault false (rule_for (Valued key)) [] rows ≡ kind.InvalidValue ∷ []
 none_faulty key rows = refl
 
 -- ---- look-ups

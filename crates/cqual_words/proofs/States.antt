@@ -13,7 +13,8 @@ use Rattle.cqual_words.proofs.Pieces.{with_piece}
 use Rattle.cqual_words.proofs.Rules.{Hand, OfKey, OfSource, all_rules, by_id, key_again, key_fine, none_faulty, piece_of, rule_for}
 use Rattle.cqual_words.proofs.Rules.{source_fine, used_key, used_source}
 
--- what waits behind the pieces that clap has used: nothing, a piece that comes with the next flag or word, or an option whose value
+-- what waits behind the pieces that clap has used: nothing, a piece that comes with the next flag or word, or an option
+-- whose value
 -- is to come
 pub data Pend : Type 0 where
   Free : Pend
@@ -73,14 +74,16 @@ once_more ps p once none a once_only = ap is_once (texts_append a ps (p ∷ []))
 
 pub data Settling (ps : List Piece) (pend : Pend) : Type 0 where
   -- nothing waits, or it is used: an option that stands once, or a word that is no option
-  Settles : settle_fault all_rules false (held_at ps pend) ≡ [] → settled all_rules (held_at ps pend) ≡ held_at (all_at ps pend) Free
+  Settles : settle_fault all_rules false (held_at ps pend) ≡ []
+      → settled all_rules (held_at ps pend) ≡ held_at (all_at ps pend) Free
       → OnceEach (all_at ps pend) → Settling ps pend
   -- it is an option that was there before
   Repeats : settle_fault all_rules false (held_at ps pend) ≡ kind.ArgumentConflict ∷ [] → ((more : List Piece)
       → task_in (all_at ps pend ++ more) ≡ None)
       → Settling ps pend
   -- it is an option without its value
-  Lacks : (key : Key) → pend ≡ Wants key → settle_fault all_rules false (held_at ps pend) ≡ kind.InvalidValue ∷ [] → Settling ps pend
+  Lacks : (key : Key) → pend ≡ Wants key → settle_fault all_rules false (held_at ps pend) ≡ kind.InvalidValue ∷ []
+      → Settling ps pend
 
 settle_uses : (ps : List Piece) (a : Part) (texts : List Text)
     → settle_fault all_rules false (record { rows = rows_at ps; pending = Some (name_of a, texts); skip = 0 }) ≡ use_fault false
@@ -91,7 +94,8 @@ settled_uses : (ps : List Piece) (a : Part) (texts : List Text)
     → settled_rows all_rules (Some (name_of a, texts)) (rows_at ps) ≡ used (rule_for a) texts (rows_at ps)
 settled_uses ps a texts = ap (λ o. used_by_id o texts (rows_at ps)) (by_id a)
 
-pub wants_fault : (ps : List Piece) (key : Key) → settle_fault all_rules false (held_at ps (Wants key)) ≡ kind.InvalidValue ∷ []
+pub wants_fault : (ps : List Piece) (key : Key)
+    → settle_fault all_rules false (held_at ps (Wants key)) ≡ kind.InvalidValue ∷ []
 wants_fault ps key = settle_uses ps (Valued key) [] ∙ none_faulty key (rows_at ps)
 
 -- a piece that waits is used with those before it

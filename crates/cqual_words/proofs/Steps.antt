@@ -47,7 +47,8 @@ goes_on w after word words task fine is claim =
     (walked all_rules [] w word) words)))
     (finished all_rules (end_of (walked all_rules [] w word) words)) task) (sym fine) (subst (λ v. Claim v words task) (sym is) claim)
 
-stops : (w : Walk) (word : Text) (words : List Text) (task : Option Task) (k : ErrorKind) → turn_fault shape [] w word ≡ k ∷ []
+stops : (w : Walk) (word : Text) (words : List Text) (task : Option Task) (k : ErrorKind)
+    → turn_fault shape [] w word ≡ k ∷ []
     → task ≡ None
     → Claim w (word ∷ words) task
 unfolding walk_fault
@@ -58,12 +59,14 @@ stops w word words task k fault none =
 
 module _ (h : Held) (waiting : Waiting) (word : Text) (words : List Text) (task : Option Task) where
   -- the word is at fault
-  pub refuses : (k : ErrorKind) → faults waiting word h ≡ k ∷ [] → task ≡ None → Claim (walk_at h waiting false) (word ∷ words) task
+  pub refuses : (k : ErrorKind) → faults waiting word h ≡ k ∷ [] → task ≡ None
+      → Claim (walk_at h waiting false) (word ∷ words) task
   refuses k fault none = stops (walk_at h waiting false) word words task k
       (ap (λ ks. or_else ks (step_fault shape 1 (meets waiting 1 word h).0 (meets waiting 1 word h).1)) fault) none
 
   -- the word is a flag or a value of an option
-  pub reads : (after : Held) (then_ : Waiting) → faults waiting word h ≡ [] → meets waiting 1 word h ≡ (after, next then_)
+  pub reads : (after : Held) (then_ : Waiting) → faults waiting word h ≡ []
+      → meets waiting 1 word h ≡ (after, next then_)
       → Claim (walk_at after then_ false) words task → Claim (walk_at h waiting false) (word ∷ words) task
   unfolding walked
   reads after then_ fine met claim = goes_on (walk_at h waiting false) (walk_at after then_ false) word words task
@@ -168,7 +171,8 @@ is_wanting _ = false
 pub not_wanting : (pend : Pend) → is_wanting pend ≡ false → (key : Key) → pend ≡ Wants key → {T : Type 0} → T
 not_wanting pend still key e = absurd (true≢false (sym (ap is_wanting e) ∙ still))
 
-pub trails : (words : List Text) (ps : List Piece) (pend : Pend) (waiting : Waiting) → is_wanting pend ≡ false → OnceEach ps
+pub trails : (words : List Text) (ps : List Piece) (pend : Pend) (waiting : Waiting) → is_wanting pend ≡ false
+    → OnceEach ps
     → Claim (walk_at (held_at ps pend) waiting true) words (task_in (all_at ps pend ++ map Plain words))
 trails [] ps pend waiting still once = end_read ps pend waiting true (task_in (all_at ps pend ++ [])) (settling ps pend once)
     (λ key e. not_wanting pend still key e) (λ none. none []) (ap task_in (sym (append-nil (all_at ps pend))))

@@ -44,7 +44,8 @@ value_fault : (key : Key) (t : Text) (h : Held)
     → long_fault all_rules false (Some (rule_for (Valued key))) (Some t) h ≡ react_fault all_rules false (rule_for (Valued key)) (t ∷ []) h
 value_fault key t h = refl
 
-opens_fault : (key : Key) (h : Held) → long_fault all_rules false (Some (rule_for (Valued key))) None h ≡ settle_fault all_rules false h
+opens_fault : (key : Key) (h : Held)
+    → long_fault all_rules false (Some (rule_for (Valued key))) None h ≡ settle_fault all_rules false h
 opens_fault key h = refl
 
 value_met : (key : Key) (t : Text) (h : Held)
@@ -116,7 +117,8 @@ module _ (ps : List Piece) (pend : Pend) (waiting : Waiting) (word : Text) (word
 
   module _ (bad : has_meaning word ≡ false) (fine : settle_fault all_rules false h ≡ []) (held : settled all_rules h ≡ held_at all Free)
       (once : OnceEach all) (next_words : Walks words) where
-    uses_fault : (a : Rule) (values : List Text) → react_fault all_rules false a values h ≡ use_fault false a values (rows_at all)
+    uses_fault : (a : Rule) (values : List Text)
+        → react_fault all_rules false a values h ≡ use_fault false a values (rows_at all)
     uses_fault a values = ap₂ (λ ks (g : Held). or_else ks (use_fault false a values g.rows)) fine held
 
     uses_held : (a : Rule) (values : List Text) (p : Piece) → used a values (rows_at all) ≡ with_piece (rows_at all) p
@@ -203,7 +205,8 @@ module _ (words : List Text) (next_words : Walks words) (word : Text) (ps : List
   Here w = Claim (walk_at (held_at ps pend) awaits false) (word ∷ words) (task_in (after w))
 
   plainly : faults awaits word (held_at ps pend) ≡ []
-      → meets awaits 1 word (held_at ps pend) ≡ plain_word all_rules awaits word (held_at ps pend) → Here (Whole (Plain word))
+      → meets awaits 1 word (held_at ps pend) ≡ plain_word all_rules awaits word (held_at ps pend)
+      → Here (Whole (Plain word))
   plainly fine met = source_read ps pend awaits false word words (task_in (after (Whole (Plain word))))
       (fine, met ∙ plain_still pend word (held_at ps pend) still) (settling ps pend once)
       (λ key e. not_wanting pend still key e) (λ none. none (Plain word ∷ pieces_from None words))

@@ -9,6 +9,7 @@ use Rattle.cqual_words.specs.declared.asked.FileWords.{FileWords}
 use Rattle.cqual_words.specs.declared.asked.Question.{Question}
 use Rattle.cqual_words.specs.declared.asked.Question.TheVariants as questions
 
+-- the files that the code holds, as those that words name
 abbrev pub names_in : FileWords → FileNames
 names_in files = record {
   lattice = files.lattice.now;
@@ -27,6 +28,7 @@ question_in (questions.Verify certificate) = words.Verify certificate.now
 question_in (questions.Who name) = words.Who name.now
 question_in questions.Sign = words.Sign
 
+-- what the code holds, as a task
 abbrev pub task_of : Asked → Task
 task_of (asked.Ask question files) = words.Ask (question_in question) (names_in files)
 task_of (asked.Generate number) = words.Generate number

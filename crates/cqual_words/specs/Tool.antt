@@ -15,20 +15,25 @@ use Rattle.cqual_words.specs.Words.{task_of_parts}
 abbrev pub option_rule : Text → Rule
 option_rule name = record (new_rule name) { long = Some name; action = Some Set }
 
+-- an option without a value
 abbrev pub flag_rule : Text → Rule
 flag_rule name = record (new_rule name) { long = Some name; action = Some SetTrue }
 
+-- the words that are no options
 abbrev pub source_rule : Rule
 source_rule = record (new_rule (codes "source")) { action = Some Append }
 
+-- the rule of clap's parser for a part of the command line
 abbrev pub rule_of_part : Part → Rule
 rule_of_part (Valued key) = option_rule (key_name key)
 rule_of_part (Flagged flag) = flag_rule (flag_name flag)
 rule_of_part Source = source_rule
 
+-- the parser without rules: the words have no program's name, and `--help` and `--version` are no options of its own
 abbrev pub bare : App
 bare = on_top (λ s. record s { no_binary_name = true; disable_help_flag = true; disable_version_flag = true }) (new_app (codes "cqual"))
 
+-- the parser with a rule for each part
 abbrev pub tool : App
 tool = fold with_rule bare (map rule_of_part parts)
 

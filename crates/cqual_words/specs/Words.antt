@@ -16,8 +16,10 @@ pub record FileNames : Type 0 where
   pub sources : List Text
   pub wide : Bool
 
--- What is asked of a program: its report, its report with the annotated source behind it, what the report of a file comes to, its
--- certificate, what the certificate of a file comes to, what reaches the declared names of one spelling and what they reach, or its
+-- What is asked of a program: its report, its report with the annotated source behind it, what the report of a file
+-- comes to, its
+-- certificate, what the certificate of a file comes to, what reaches the declared names of one spelling and what they
+-- reach, or its
 -- signatures as a library.
 pub data Question : Type 0 where
   Infer : Question
@@ -35,7 +37,7 @@ pub data Task : Type 0 where
 
 -- ---- the pieces that words spell
 
--- the options that have a value, with their names
+-- the options that have a value
 pub data Key : Type 0 where
   Lattice : Key
   Prelude : Key
@@ -44,6 +46,7 @@ pub data Key : Type 0 where
   Name : Key
   Number : Key
 
+-- the name of such an option
 abbrev pub key_name : Key → Text
 key_name Lattice = codes "lattice"
 key_name Prelude = codes "prelude"
@@ -52,12 +55,13 @@ key_name Certificate = codes "verify"
 key_name Name = codes "who"
 key_name Number = codes "generate"
 
--- the options that have none, with their names
+-- the options that have none
 pub data Flag : Type 0 where
   Annotation : Flag
   Certification : Flag
   Signing : Flag
 
+-- the name of such an option
 abbrev pub flag_name : Flag → Text
 flag_name Annotation = codes "annotate"
 flag_name Certification = codes "certify"
@@ -87,6 +91,7 @@ pub data Piece : Type 0 where
   Set : Flag → Piece
   Plain : Text → Piece
 
+-- the part that a piece is of
 abbrev pub part_of : Piece → Part
 part_of (Value key text) = Valued key
 part_of (Set flag) = Flagged flag
@@ -120,17 +125,20 @@ spells name Source = false
 abbrev pub named : Text → Option Part
 named name = find (spells name) parts
 
--- what stands before the first `=`, and what stands behind it where there is one
+-- whether a byte is `=`
 abbrev pub is_equals : ℕ → Bool
 is_equals b = b == 61
 
+-- what stands before the first `=`
 abbrev pub name_in : Text → Text
 name_in text = before_first is_equals text
 
+-- what stands behind the first `=`, where there is one
 abbrev pub value_in : Text → Option Text
 value_in text = if list_any is_equals text then Some (after_first is_equals text) else None
 
--- the word of an option, by its name and the value that is attached; a word that names no option, and a flag with a value, is
+-- the word of an option, by its name and the value that is attached; a word that names no option, and a flag with a
+-- value, is
 -- read as a plain word, which begins with a hyphen and so has no meaning
 abbrev pub option_word : Text → Option Part → Option Text → Word
 option_word word (Some (Flagged flag)) None = Whole (Set flag)
@@ -140,6 +148,7 @@ option_word word (Some (Valued key)) None = Opens key
 option_word word (Some (Valued key)) (Some value) = Whole (Value key value)
 option_word word None value = Whole (Plain word)
 
+-- a word by what it has behind two hyphens at its start, if it has them
 abbrev pub word_behind : Text → Option Text → Word
 word_behind word None = Whole (Plain word)
 word_behind word (Some []) = Ends
@@ -149,18 +158,21 @@ word_behind word (Some (b ∷ more)) = option_word word (named (name_in (b ∷ m
 abbrev pub word_of : Text → Word
 word_of word = word_behind word (behind_hyphens word)
 
+-- the pieces of a word and of the words behind it; behind `--` each word is plain
 abbrev pub with_word : Word → List Text → (Option Key → List Piece) → List Piece
 with_word Ends words more = map Plain words
 with_word (Opens key) words more = more (Some key)
 with_word (Whole piece) words more = piece ∷ more None
 
--- the pieces of the words, where the first may be the value of an option before them; with no word left that value is empty
+-- the pieces of the words, where the first may be the value of an option before them; with no word left that value is
+-- empty
 unfoldable pub pieces_from : Option Key → List Text → List Piece
 pieces_from None [] = []
 pieces_from None (word ∷ words) = with_word (word_of word) words (λ opened. pieces_from opened words)
 pieces_from (Some key) [] = Value key [] ∷ []
 pieces_from (Some key) (word ∷ words) = Value key word ∷ pieces_from None words
 
+-- the pieces of all words
 abbrev pub pieces_of : List Text → List Piece
 pieces_of words = pieces_from None words
 
@@ -196,9 +208,11 @@ abbrev pub begins_number : Text → Bool
 begins_number [] = false
 begins_number (b ∷ more) = nat_le 49 b && nat_le b 57
 
+-- a decimal digit
 abbrev pub is_digit : ℕ → Bool
 is_digit b = nat_le 48 b && nat_le b 57
 
+-- whether a text is a decimal numeral without a sign and without 0 at its start
 abbrev pub is_numeral : Text → Bool
 is_numeral text = begins_number text && list_all is_digit text
 
@@ -210,6 +224,7 @@ number_of text = if is_numeral text && nat_le (digits_value 10 text) 1000 then S
 abbrev pub IsMade : ℕ → Type 0
 IsMade number = (1 ≤ number) × (number ≤ 1000)
 
+-- the files that words name, not yet read as wider C
 abbrev pub files_of : Text → Option Text → List Text → FileNames
 files_of lattice prelude sources = record { lattice = lattice; prelude = prelude; sources = sources; wide = false }
 
@@ -217,7 +232,8 @@ files_of lattice prelude sources = record { lattice = lattice; prelude = prelude
 abbrev pub IsSourceCount : ℕ → Type 0
 IsSourceCount count = (1 ≤ count) × (count ≤ 256)
 
--- What is asked of a program, by what is there of a report, of a certificate and of a name, and by whether the flags `--annotate`,
+-- What is asked of a program, by what is there of a report, of a certificate and of a name, and by whether the flags
+-- `--annotate`,
 -- `--certify` and `--signatures` stand: at most one of them.
 abbrev pub question_of : Option Text → Option Text → Option Text → Bool → Bool → Bool → Option Question
 question_of None None None false false false = Some Infer
@@ -273,10 +289,11 @@ task_of_parts value stands sources = task_with (value Lattice) (value Prelude) (
     (question_of (value Report) (value Certificate) (value Name) (stands Annotation) (stands Certification) (stands Signing))
     sources
 
--- the value of an option among the pieces, where it stands once, and whether a flag stands
+-- the value of an option among the pieces, where it stands once
 abbrev pub value_among : List Piece → Key → Option Text
 value_among pieces key = slice_get (texts_of (Valued key) pieces) 0
 
+-- whether a flag stands among the pieces
 abbrev pub stands_among : List Piece → Flag → Bool
 stands_among pieces flag = is_some (slice_get (texts_of (Flagged flag) pieces) 0)
 

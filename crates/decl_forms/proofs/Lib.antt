@@ -1,2 +1,3 @@
 pub mod Words
 pub mod Pushed
+pub mod InitForms

@@ -10,11 +10,11 @@ ghost use Rattle.decl_forms.specs.Listed.{listing, only, declrs_turn};
 ghost use Rattle.reader_base.specs.Lent.{Lends};
 ghost use Rattle.reader_base.specs.Looping.{IsLoop, Turns};
 
+use crate::init_forms::init;
 use c_nodes::{PresentDeclr, SizedInitDeclr, SizedInitDeclrs, SizedSomeInit};
 use c_reading::turns_take_tokens;
 use c_syntax::Attr;
 use decl_nodes::{no_init, some_init};
-use init_forms::init;
 use qual_base::NoMemory;
 use reader_base::{
     Answer, Ask, Place, ReadError, attrs, is_comma, is_equal, kind_at, label, named_declr, take_one,

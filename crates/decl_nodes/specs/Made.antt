@@ -5,6 +5,7 @@ use Rattle.c_nodes.specs.declared.sized.SizedStmt.{SizedStmt}
 use Rattle.c_tree.specs.Tree.{Stmt}
 use Rattle.c_tree.specs.View.{stmt_of}
 
+-- the tree of a sized statement
 abbrev pub stmt : SizedStmt → Stmt
 stmt s = stmt_of s.tree.value
 

@@ -1,7 +1,10 @@
 //! Specifiers, initialisers, declarations, statements and items, made of sized parts.
 //!
-//! The functions are named as the forms of trees that they make. Expressions, declarators and lists
-//! are made in `c_nodes`.
+//! The functions are named as the forms of trees that they make. Expressions, declarators and lists are made in
+//! `c_nodes`.
+//!
+//! Entry: the functions of `making`. Invariant: a sized part has the height that its type says.
+//! It does not know the tokens before and behind. Above: the readers of declarations and statements.
 #![tactic(auto)]
 
 mod declarations;

@@ -66,13 +66,15 @@ close_comma (kinds.Punct puncts.CloseBrace) h = refl
 close_comma kind h = absurd cc
 
 -- without a body
-without_good : {A : Type 0} (tag : Option Identifier) (a : A) (stops : TokenKind → Bool) (s : HeldScopes) (ts : List Lexeme) → Good true (without_body tag a) stops s ts
+without_good : {A : Type 0} (tag : Option Identifier) (a : A) (stops : TokenKind → Bool) (s : HeldScopes) (ts : List Lexeme)
+    → Good true (without_body tag a) stops s ts
 without_good None a stops s ts = refused_here true (without_body None a) stops s ts Unexpected (λ k e. refl)
 without_good (Some tag) a stops s ts = ends_good true a stops s ts
 
 module _ (n : ℕ) (inner : Inner) (places : InnerLaws n inner) (laws : Laws [] n inner) where
   -- [{ member* }]
-  body_good : (tag : Option Identifier) (room : ℕ) → room < suc n → 1 ≤ room → (s : HeldScopes) (ts : List Lexeme) → Good true (body_with inner tag room) no_brace s ts
+  body_good : (tag : Option Identifier) (room : ℕ) → room < suc n → 1 ≤ room → (s : HeldScopes) (ts : List Lexeme)
+      → Good true (body_with inner tag room) no_brace s ts
   unfolding body_with
   body_good tag room less one s ts =
       if_good true (λ s. is_open_brace) (members_with inner room) (without_body tag no_body) no_brace s ts
@@ -84,23 +86,27 @@ module _ (n : ℕ) (inner : Inner) (places : InnerLaws n inner) (laws : Laws [] 
   abbrev struct_part : Keyword → ℕ → List Attr → ℕ → Option Identifier → Reader SpecWord
   struct_part keyword token attrs room tag = behind (body_with inner tag room) (λ body. ends (struct_type (word_of keyword token) attrs tag body))
 
-  struct_part_falls : (keyword : Keyword) (token : ℕ) (attrs : List Attr) (room : ℕ) (tag : Option Identifier) → Falls (struct_part keyword token attrs room tag)
+  struct_part_falls : (keyword : Keyword) (token : ℕ) (attrs : List Attr) (room : ℕ) (tag : Option Identifier)
+      → Falls (struct_part keyword token attrs room tag)
   struct_part_falls keyword token attrs room tag s ts x e = let a = bind_ok e in omega (arith, body_falls [] none_tokens n inner laws tag room s ts a.0 a.1, left_is a.2)
 
-  struct_part_takes : (keyword : Keyword) (token : ℕ) (attrs : List Attr) (room : ℕ) → Shrinks (struct_part keyword token attrs room None)
+  struct_part_takes : (keyword : Keyword) (token : ℕ) (attrs : List Attr) (room : ℕ)
+      → Shrinks (struct_part keyword token attrs room None)
   unfolding body_with
   struct_part_takes keyword token attrs room s ts x e =
       let a = bind_ok e in
       let less : length a.0.rest < length ts = if_ok (is_open_brace (kind_at ts)) a.1 (λ is e. members_shrinks n inner places laws room s ts a.0 e) (λ is e. absurd cc) in
       omega (arith, less, left_is a.2)
 
-  struct_part_ready : (keyword : Keyword) (token : ℕ) (attrs : List Attr) (room : ℕ) (tag : Identifier) (s : HeldScopes) (at : ℕ) → Ready true (struct_part keyword token attrs room (Some tag)) any no_brace s at
+  struct_part_ready : (keyword : Keyword) (token : ℕ) (attrs : List Attr) (room : ℕ) (tag : Identifier) (s : HeldScopes) (at : ℕ)
+      → Ready true (struct_part keyword token attrs room (Some tag)) any no_brace s at
   unfolding body_with
   struct_part_ready keyword token attrs room tag s at =
       mapped_ready true (body_with inner (Some tag) room) (λ body. struct_type (word_of keyword token) attrs (Some tag) body) any no_brace s at
       (record { more = []; tree = no_body; scopes = s; keeps = kept_refl true s; begins = λ k h. refl; reads = λ k h. rw (no_brace_is (kind_at k) h) refl })
 
-  pub struct_good : (keyword : Keyword) (room : ℕ) → room < suc n → 1 ≤ room → (s : HeldScopes) (ts : List Lexeme) → is_end (kind_at ts) ≡ false → Good true (struct_with inner keyword room) no_brace s ts
+  pub struct_good : (keyword : Keyword) (room : ℕ) → room < suc n → 1 ≤ room → (s : HeldScopes) (ts : List Lexeme)
+      → is_end (kind_at ts) ≡ false → Good true (struct_with inner keyword room) no_brace s ts
   unfolding struct_with
   struct_good keyword room less one s ts known =
       take_behind true (λ token. behind (attrs_at room) (λ attrs. behind tag_at (struct_part keyword token attrs room))) no_brace
@@ -121,13 +127,15 @@ module _ (n : ℕ) (inner : Inner) (places : InnerLaws n inner) (laws : Laws [] 
   takes_kept : (s u : HeldScopes) (name : ℕ) → Kept true s u → Takes s name → Takes u name
   takes_kept s u name k t = record { free = rw k.held t.free; may = k.constants name t.may }
 
-  takes_declare : (s : HeldScopes) (name : ℕ) → Takes s name → declare name Constant s ≡ Some (with_name (innermost s) name Constant ∷ leave s)
+  takes_declare : (s : HeldScopes) (name : ℕ) → Takes s name
+      → declare name Constant s ≡ Some (with_name (innermost s) name Constant ∷ leave s)
   takes_declare s name t = declare_is name s s t.free t.may (kept_refl true s)
 
   abbrev declaring : EnumItem → Reader EnumItem
   declaring item s ts = declared item (declare item.name.name Constant s) ts
 
-  declaring_good : (item : EnumItem) (s : HeldScopes) (ts : List Lexeme) → Takes s item.name.name → Good true (declaring item) is_close_brace s ts
+  declaring_good : (item : EnumItem) (s : HeldScopes) (ts : List Lexeme) → Takes s item.name.name
+      → Good true (declaring item) is_close_brace s ts
   declaring_good item s ts t = subst (Outcome true (declaring item) is_close_brace s ts) (sym (is ts)) answer
     where
       after : HeldScopes
@@ -139,7 +147,8 @@ module _ (n : ℕ) (inner : Inner) (places : InnerLaws n inner) (laws : Laws [] 
       answer : Answered true (declaring item) is_close_brace s ts (found item after ts)
       answer = record { before = []; parts = refl; ending = λ h. h; keeps = declare_kept item.name.name s after (takes_declare s item.name.name t); same = λ k h. is k; ended = λ k h. is k }
 
-  declaring_ready : (item : EnumItem) (s : HeldScopes) (at : ℕ) → Takes s item.name.name → Ready true (declaring item) is_close_brace is_close_brace s at
+  declaring_ready : (item : EnumItem) (s : HeldScopes) (at : ℕ) → Takes s item.name.name
+      → Ready true (declaring item) is_close_brace is_close_brace s at
   declaring_ready item s at t = record {
     more = [];
     tree = item;
@@ -156,7 +165,8 @@ module _ (n : ℕ) (inner : Inner) (places : InnerLaws n inner) (laws : Laws [] 
   valued_law room less = value_law n inner places laws is_equal room less equal_end is_close_brace is_close_brace (λ kind h. h) close_equal close_operand
 
   -- behind the attributes
-  valued_good : (name : Identifier) (attrs : List Attr) (room : ℕ) → room < suc n → (s : HeldScopes) (ts : List Lexeme) → Takes s name.name →
+  valued_good : (name : Identifier) (attrs : List Attr) (room : ℕ) → room < suc n → (s : HeldScopes) (ts : List Lexeme)
+      → Takes s name.name →
       Good true (behind (value_with inner is_equal room) (λ value. declaring (item_of name attrs value))) is_close_brace s ts
   valued_good name attrs room less s ts t =
       bind_good true (value_with inner is_equal room) (λ value. declaring (item_of name attrs value)) is_close_brace is_close_brace s ts
@@ -165,7 +175,8 @@ module _ (n : ℕ) (inner : Inner) (places : InnerLaws n inner) (laws : Laws [] 
       (λ x is. declaring_good (item_of name attrs x.tree) x.scopes x.rest (takes_kept s x.scopes name.name (answer_keeps true (value_with inner is_equal room) is_close_brace s ts x ((valued_law room less).good s ts) is) t))
       (inr (λ kind h. h))
 
-  valued_ready : (name : Identifier) (attrs : List Attr) (room : ℕ) → room < suc n → (s : HeldScopes) (at : ℕ) → Takes s name.name →
+  valued_ready : (name : Identifier) (attrs : List Attr) (room : ℕ) → room < suc n → (s : HeldScopes) (at : ℕ)
+      → Takes s name.name →
       Ready true (behind (value_with inner is_equal room) (λ value. declaring (item_of name attrs value))) is_close_brace is_close_brace s at
   valued_ready name attrs room less s at t =
       ready_bind true (value_with inner is_equal room) (λ value. declaring (item_of name attrs value)) is_close_brace is_close_brace is_close_brace s at ((valued_law room less).ready s at)
@@ -174,7 +185,8 @@ module _ (n : ℕ) (inner : Inner) (places : InnerLaws n inner) (laws : Laws [] 
   close_attrs : (room : ℕ) → Law true (attrs_at room) is_close_brace is_close_brace
   close_attrs room = attrs_law true room is_close_brace is_close_brace ((λ kind h. h), close_attribute)
 
-  behind_name_good : (name : Identifier) (room : ℕ) → room < suc n → (s : HeldScopes) (ts : List Lexeme) → Takes s name.name → Good true (enumerator_behind inner name room) is_close_brace s ts
+  behind_name_good : (name : Identifier) (room : ℕ) → room < suc n → (s : HeldScopes) (ts : List Lexeme)
+      → Takes s name.name → Good true (enumerator_behind inner name room) is_close_brace s ts
   unfolding enumerator_behind
   behind_name_good name room less s ts t =
       bind_good true (attrs_at room) (λ attrs. behind (value_with inner is_equal room) (λ value. declaring (item_of name attrs value))) is_close_brace is_close_brace s ts
@@ -183,14 +195,16 @@ module _ (n : ℕ) (inner : Inner) (places : InnerLaws n inner) (laws : Laws [] 
       (λ x is. valued_good name x.tree room less x.scopes x.rest (takes_kept s x.scopes name.name (answer_keeps true (attrs_at room) is_close_brace s ts x ((close_attrs room).good s ts) is) t))
       (inr (λ kind h. h))
 
-  behind_name_ready : (name : Identifier) (room : ℕ) → room < suc n → (s : HeldScopes) (at : ℕ) → Takes s name.name → Ready true (enumerator_behind inner name room) any is_close_brace s at
+  behind_name_ready : (name : Identifier) (room : ℕ) → room < suc n → (s : HeldScopes) (at : ℕ) → Takes s name.name
+      → Ready true (enumerator_behind inner name room) any is_close_brace s at
   unfolding enumerator_behind
   behind_name_ready name room less s at t =
       ready_before true (behind (attrs_at room) (λ attrs. behind (value_with inner is_equal room) (λ value. declaring (item_of name attrs value)))) is_close_brace any is_close_brace is_close_brace s at (λ kind h. h) (λ kind h. refl)
       (ready_bind true (attrs_at room) (λ attrs. behind (value_with inner is_equal room) (λ value. declaring (item_of name attrs value))) is_close_brace is_close_brace is_close_brace s at ((close_attrs room).ready s at)
       (λ attrs scopes gives at. valued_ready name attrs room less scopes at (takes_kept s scopes name.name gives.keeps t)))
 
-  enumerator_good : (room : ℕ) → room < suc n → (s : HeldScopes) (ts : List Lexeme) → Good true (enumerator_with inner room) is_close_brace s ts
+  enumerator_good : (room : ℕ) → room < suc n → (s : HeldScopes) (ts : List Lexeme)
+      → Good true (enumerator_with inner room) is_close_brace s ts
   unfolding enumerator_with enumerator_named and_then
   enumerator_good room less s [] = refused_here true (enumerator_with inner room) is_close_brace s [] Unexpected none
     where
@@ -202,16 +216,19 @@ module _ (n : ℕ) (inner : Inner) (places : InnerLaws n inner) (laws : Laws [] 
       kind_is : (u : Lexeme) (us : List Lexeme) → first_kind (u ∷ us) ≡ Some t.kind → u.kind ≡ t.kind
       kind_is u us e = cc
 
-      no_name : spelled_name t.kind ≡ None → (k : List Lexeme) → first_kind k ≡ Some t.kind → enumerator_with inner room s k ≡ refuses Unexpected k
+      no_name : spelled_name t.kind ≡ None → (k : List Lexeme) → first_kind k ≡ Some t.kind
+          → enumerator_with inner room s k ≡ refuses Unexpected k
       no_name is [] e = absurd cc
       no_name is (u ∷ us) e = rw (kind_is u us e, is) refl
 
       -- what the reader does at this name
-      at_name : (name : ℕ) → spelled_name t.kind ≡ Some name → (u : Lexeme) (us : List Lexeme) → first_kind (u ∷ us) ≡ Some t.kind →
+      at_name : (name : ℕ) → spelled_name t.kind ≡ Some name → (u : Lexeme) (us : List Lexeme)
+          → first_kind (u ∷ us) ≡ Some t.kind →
           enumerator_with inner room s (u ∷ us) ≡ enumerator_named inner (identifier_of u.at name) room (u ∷ us) s us
       at_name name is u us e = let spelled : spelled_name u.kind ≡ Some name = ap spelled_name (kind_is u us e) ∙ is in rw spelled refl
 
-      refused : (name : ℕ) (f : Fault) → spelled_name t.kind ≡ Some name → ((u : Lexeme) (us : List Lexeme) → enumerator_named inner (identifier_of u.at name) room (u ∷ us) s us ≡ refuses f (u ∷ us)) →
+      refused : (name : ℕ) (f : Fault) → spelled_name t.kind ≡ Some name
+          → ((u : Lexeme) (us : List Lexeme) → enumerator_named inner (identifier_of u.at name) room (u ∷ us) s us ≡ refuses f (u ∷ us)) →
           Good true (enumerator_with inner room) is_close_brace s (t ∷ ts)
       refused name f is all = refused_here true (enumerator_with inner room) is_close_brace s (t ∷ ts) f each
         where
@@ -219,7 +236,8 @@ module _ (n : ℕ) (inner : Inner) (places : InnerLaws n inner) (laws : Laws [] 
           each [] e = absurd cc
           each (u ∷ us) e = at_name name is u us e ∙ all u us
 
-      taken : (name : ℕ) → spelled_name t.kind ≡ Some name → Takes s name → 1 ≤ room → Good true (enumerator_with inner room) is_close_brace s (t ∷ ts)
+      taken : (name : ℕ) → spelled_name t.kind ≡ Some name → Takes s name → 1 ≤ room
+          → Good true (enumerator_with inner room) is_close_brace s (t ∷ ts)
       taken name is takes one =
           good_as true (behind take_one (λ token. enumerator_behind inner (identifier_of token name) room)) (enumerator_with inner room) is_close_brace s (t ∷ ts) same
           (inl (λ x e. enumerator_shrinks [] none_tokens n inner laws room s (t ∷ ts) x (same (t ∷ ts) refl ∙ e)))
@@ -229,28 +247,35 @@ module _ (n : ℕ) (inner : Inner) (places : InnerLaws n inner) (laws : Laws [] 
           (λ x e. behind_name_good (identifier_of x.tree name) room less x.scopes x.rest (takes_kept s x.scopes name (answer_keeps true take_one any s (t ∷ ts) x (take_good true any s (t ∷ ts) (name_end t.kind name is)) e) takes))
           (inr (λ kind h. refl)))
         where
-          same : (k : List Lexeme) → first_kind k ≡ Some t.kind → enumerator_with inner room s k ≡ behind take_one (λ token. enumerator_behind inner (identifier_of token name) room) s k
+          same : (k : List Lexeme) → first_kind k ≡ Some t.kind
+              → enumerator_with inner room s k ≡ behind take_one (λ token. enumerator_behind inner (identifier_of token name) room) s k
           same [] e = absurd cc
           same (u ∷ us) e = at_name name is u us e ∙ rw (takes.may, takes.free) (fits_is 1 room (u ∷ us) (enumerator_behind inner (identifier_of u.at name) room s us) one)
 
-      by_room : (name : ℕ) → spelled_name t.kind ≡ Some name → Takes s name → (b : Bool) → nat_le 1 room ≡ b → Good true (enumerator_with inner room) is_close_brace s (t ∷ ts)
+      by_room : (name : ℕ) → spelled_name t.kind ≡ Some name → Takes s name → (b : Bool) → nat_le 1 room ≡ b
+          → Good true (enumerator_with inner room) is_close_brace s (t ∷ ts)
       by_room name is takes true fit = taken name is takes (leb-true 1 room fit)
       by_room name is takes false none = refused name TooDeep is (λ u us. rw (takes.may, takes.free) (fits_not 1 room (u ∷ us) (enumerator_behind inner (identifier_of u.at name) room s us) none))
 
-      by_held : (name : ℕ) → spelled_name t.kind ≡ Some name → may_declare (innermost s) name Constant ≡ true → (b : Bool) → is_name (innermost s).held name ≡ b → Good true (enumerator_with inner room) is_close_brace s (t ∷ ts)
+      by_held : (name : ℕ) → spelled_name t.kind ≡ Some name → may_declare (innermost s) name Constant ≡ true
+          → (b : Bool) → is_name (innermost s).held name ≡ b
+          → Good true (enumerator_with inner room) is_close_brace s (t ∷ ts)
       by_held name is may true held = refused name Unexpected is (λ u us. rw (may, held) refl)
       by_held name is may false free = by_room name is (record { free = free; may = may }) (nat_le 1 room) refl
 
-      by_may : (name : ℕ) → spelled_name t.kind ≡ Some name → (b : Bool) → may_declare (innermost s) name Constant ≡ b → Good true (enumerator_with inner room) is_close_brace s (t ∷ ts)
+      by_may : (name : ℕ) → spelled_name t.kind ≡ Some name → (b : Bool) → may_declare (innermost s) name Constant ≡ b
+          → Good true (enumerator_with inner room) is_close_brace s (t ∷ ts)
       by_may name is false may = refused name Redeclared is (λ u us. rw may refl)
       by_may name is true may = by_held name is may (is_name (innermost s).held name) refl
 
-      by_name : (o : Option ℕ) → spelled_name t.kind ≡ o → Good true (enumerator_with inner room) is_close_brace s (t ∷ ts)
+      by_name : (o : Option ℕ) → spelled_name t.kind ≡ o
+          → Good true (enumerator_with inner room) is_close_brace s (t ∷ ts)
       by_name None is = refused_here true (enumerator_with inner room) is_close_brace s (t ∷ ts) Unexpected (no_name is)
       by_name (Some name) is = by_may name is (may_declare (innermost s) name Constant) refl
 
   -- a fresh name is one
-  enumerator_ready : (room : ℕ) → room < suc n → 1 ≤ room → (s : HeldScopes) (at : ℕ) → Ready true (enumerator_with inner room) any is_close_brace s at
+  enumerator_ready : (room : ℕ) → room < suc n → 1 ≤ room → (s : HeldScopes) (at : ℕ)
+      → Ready true (enumerator_with inner room) any is_close_brace s at
   unfolding enumerator_with enumerator_named and_then
   enumerator_ready room less one s at =
       let free = fresh_free s in
@@ -265,7 +290,8 @@ module _ (n : ℕ) (inner : Inner) (places : InnerLaws n inner) (laws : Laws [] 
         reads = λ k h. rw (takes.may, takes.free) (fits_is 1 room _ _ one ∙ r.reads k h);
       }
 
-  next_enumerator_law : (room : ℕ) → room < suc n → (comma : ℕ) → Law true (next_enumerator inner room comma) any is_close_brace
+  next_enumerator_law : (room : ℕ) → room < suc n → (comma : ℕ)
+      → Law true (next_enumerator inner room comma) any is_close_brace
   unfolding next_enumerator
   next_enumerator_law room less comma = record {
     good = λ s ts.
@@ -280,7 +306,8 @@ module _ (n : ℕ) (inner : Inner) (places : InnerLaws n inner) (laws : Laws [] 
   enumerators_rest room opening =
       behind (listed (enumerator_with inner (room - 1)) (next_enumerator inner (room - 1))) (λ es. behind (token_at is_close_brace) (λ closing. ends (some_enum_body opening (enumerators_from es.items) es.ending closing)))
 
-  enumerators_good : (room : ℕ) → room < suc n → (s : HeldScopes) (ts : List Lexeme) → is_open_brace (kind_at ts) ≡ true → Good true (enumerators_with inner room) any s ts
+  enumerators_good : (room : ℕ) → room < suc n → (s : HeldScopes) (ts : List Lexeme) → is_open_brace (kind_at ts) ≡ true
+      → Good true (enumerators_with inner room) any s ts
   unfolding enumerators_with
   enumerators_good room less s ts is =
       node_good true 2 room (enumerators_rest room) any
@@ -304,7 +331,8 @@ module _ (n : ℕ) (inner : Inner) (places : InnerLaws n inner) (laws : Laws [] 
       let c = bind_ok b.2 in
       omega (arith, take_falls _ _ _ a.1, listed_shrinks (enumerator_with inner (room - 1)) (next_enumerator inner (room - 1)) (next_enumerator_falls [] none_tokens n inner laws (room - 1)) (enumerator_shrinks [] none_tokens n inner laws (room - 1)) _ _ _ b.1, token_falls is_close_brace _ _ _ c.1, left_is c.2)
 
-  enum_body_good : (tag : Option Identifier) (room : ℕ) → room < suc n → (s : HeldScopes) (ts : List Lexeme) → Good true (enum_body_with inner tag room) no_brace s ts
+  enum_body_good : (tag : Option Identifier) (room : ℕ) → room < suc n → (s : HeldScopes) (ts : List Lexeme)
+      → Good true (enum_body_with inner tag room) no_brace s ts
   unfolding enum_body_with
   enum_body_good tag room less s ts =
       if_good true (λ s. is_open_brace) (enumerators_with inner room) (without_body tag no_enum_body) no_brace s ts
@@ -316,7 +344,8 @@ module _ (n : ℕ) (inner : Inner) (places : InnerLaws n inner) (laws : Laws [] 
   abbrev enum_part : ℕ → List Attr → ℕ → Option Identifier → Reader SpecWord
   enum_part token attrs room tag = behind (enum_body_with inner tag room) (λ body. ends (enum_type (enum_of token attrs tag body)))
 
-  enum_part_falls : (token : ℕ) (attrs : List Attr) (room : ℕ) (tag : Option Identifier) → Falls (enum_part token attrs room tag)
+  enum_part_falls : (token : ℕ) (attrs : List Attr) (room : ℕ) (tag : Option Identifier)
+      → Falls (enum_part token attrs room tag)
   enum_part_falls token attrs room tag s ts x e = let a = bind_ok e in omega (arith, enum_body_falls [] none_tokens n inner laws tag room s ts a.0 a.1, left_is a.2)
 
   enum_part_takes : (token : ℕ) (attrs : List Attr) (room : ℕ) → Shrinks (enum_part token attrs room None)
@@ -326,13 +355,15 @@ module _ (n : ℕ) (inner : Inner) (places : InnerLaws n inner) (laws : Laws [] 
       let less : length a.0.rest < length ts = if_ok (is_open_brace (kind_at ts)) a.1 (λ is e. enumerators_shrinks room s ts a.0 e) (λ is e. absurd cc) in
       omega (arith, less, left_is a.2)
 
-  enum_part_ready : (token : ℕ) (attrs : List Attr) (room : ℕ) (tag : Identifier) (s : HeldScopes) (at : ℕ) → Ready true (enum_part token attrs room (Some tag)) any no_brace s at
+  enum_part_ready : (token : ℕ) (attrs : List Attr) (room : ℕ) (tag : Identifier) (s : HeldScopes) (at : ℕ)
+      → Ready true (enum_part token attrs room (Some tag)) any no_brace s at
   unfolding enum_body_with
   enum_part_ready token attrs room tag s at =
       mapped_ready true (enum_body_with inner (Some tag) room) (λ body. enum_type (enum_of token attrs (Some tag) body)) any no_brace s at
       (record { more = []; tree = no_enum_body; scopes = s; keeps = kept_refl true s; begins = λ k h. refl; reads = λ k h. rw (no_brace_is (kind_at k) h) refl })
 
-  pub enum_good : (room : ℕ) → room < suc n → (s : HeldScopes) (ts : List Lexeme) → is_end (kind_at ts) ≡ false → Good true (enum_with inner room) no_brace s ts
+  pub enum_good : (room : ℕ) → room < suc n → (s : HeldScopes) (ts : List Lexeme) → is_end (kind_at ts) ≡ false
+      → Good true (enum_with inner room) no_brace s ts
   unfolding enum_with
   enum_good room less s ts known =
       take_behind true (λ token. behind (attrs_at room) (λ attrs. behind tag_at (enum_part token attrs room))) no_brace

@@ -1,4 +1,5 @@
--- Declarators: a name, something in parentheses or nothing, with brackets and parameters behind it, and stars before it.
+-- Declarators: a name, something in parentheses or nothing, with brackets and parameters behind it, and stars before
+-- it.
 use Rattle.std.proofs.Common.{◌≡◌, ℕ, suc, ◌+◌, ◌<◌, ◌≤◌, Bool, true, false, if◌then◌else◌, List, [], ◌∷◌, ◌++◌, length, ◌⊎◌, inl, inr, Option, Some, None, refl, ◌∙◌, ap, subst, arith}
 use Rattle.std.specs.Prelude.{◌-◌, ◌&&◌, ◌||◌, nat_le, is_some}
 use Rattle.std.proofs.lemmas.Bool.{leb-true}
@@ -106,7 +107,8 @@ star_close (kinds.Punct puncts.Star) h = refl
 star_close kind h = absurd cc
 
 -- a name is no base word, and the end is none
-name_no_base : (s : HeldScopes) (mode : Mode) (wanted : Option Kind) (name : ℕ) → names_base s mode wanted (kinds.Name name) ≡ false
+name_no_base : (s : HeldScopes) (mode : Mode) (wanted : Option Kind) (name : ℕ)
+    → names_base s mode wanted (kinds.Name name) ≡ false
 name_no_base s Named (Some Typedef) name = by_wide (is_wide s)
   where
     by_wide : (b : Bool) → (b && false) ≡ false
@@ -114,7 +116,8 @@ name_no_base s Named (Some Typedef) name = by_wide (is_wide s)
     by_wide false = refl
 name_no_base s mode wanted name = refl
 
-base_end : (s : HeldScopes) (mode : Mode) (wanted : Option Kind) (kind : TokenKind) → names_base s mode wanted kind ≡ true → is_end kind ≡ false
+base_end : (s : HeldScopes) (mode : Mode) (wanted : Option Kind) (kind : TokenKind)
+    → names_base s mode wanted kind ≡ true → is_end kind ≡ false
 base_end s Named (Some Typedef) kinds.End h = absurd (by_wide (is_wide s) h)
   where
     by_wide : (b : Bool) → (b && false) ≡ true → ⊥
@@ -134,7 +137,8 @@ front_word Named kind h = name_word kind h
 front_word Abstract kind h = type_word kind h
 front_word Either kind h = type_word kind h
 
-at_name_kept : (wanted : Option Kind) (name : ℕ) (s t : HeldScopes) → at_name wanted name s ≡ Some t → Kept (holds_none wanted) s t
+at_name_kept : (wanted : Option Kind) (name : ℕ) (s t : HeldScopes) → at_name wanted name s ≡ Some t
+    → Kept (holds_none wanted) s t
 at_name_kept None name s t e = let same : s ≡ t = cc in subst (λ (t : HeldScopes). Kept true s t) same (kept_refl true s)
 at_name_kept (Some kind) name s t e = hold_kept name kind s t e
 
@@ -143,7 +147,8 @@ fresh_at None s = (s, refl)
 fresh_at (Some kind) s = (record (innermost s) { held = Some (fresh s) } ∷ leave s, free_held s (fresh s) kind (fresh_free s))
 
 -- the room of what stands behind a declarator that may be a function's
-room_below : (flag : Bool) (room n : ℕ) (d : Declared) (kind : TokenKind) → number_of flag room < suc n → room_at flag room d kind < suc n
+room_below : (flag : Bool) (room n : ℕ) (d : Declared) (kind : TokenKind) → number_of flag room < suc n
+    → room_at flag room d kind < suc n
 room_below false room n d kind h = h
 room_below true room n d kind h = by_test (is_some d.closed || (is_open_paren kind && is_bare d.declr))
   where
@@ -164,7 +169,8 @@ module _ (n : ℕ) (inner : Inner) (places : InnerLaws n inner) (laws : Laws [] 
   abbrev paren_read : Bool → ℕ → Declared → TokenKind → Reader Declared
   paren_read flag room d kind s ts = fits (suc (some_declr_height d.declr)) (room_at flag room d kind) ts (params_behind inner flag d (room_at flag room d kind) s ts)
 
-  suffix_law : (flag : Bool) (room : ℕ) → number_of flag room < suc n → (mode : Mode) (d : Declared) → Law true (run (suffix_turn inner flag room) d) (stops_declr mode) (stops_declr mode)
+  suffix_law : (flag : Bool) (room : ℕ) → number_of flag room < suc n → (mode : Mode) (d : Declared)
+      → Law true (run (suffix_turn inner flag room) d) (stops_declr mode) (stops_declr mode)
   suffix_law flag room less mode d = record {
     good = λ s ts. run_good true (suffix_turn inner flag room) (suffix_shrinks [] none_tokens n inner laws flag room) (stops_declr mode) none step d s ts;
     ready = λ s at. record {
@@ -177,16 +183,19 @@ module _ (n : ℕ) (inner : Inner) (places : InnerLaws n inner) (laws : Laws [] 
     };
   }
     where
-      none : (d : Declared) (s : HeldScopes) (k : List Lexeme) → stops_declr mode (kind_at k) ≡ true → suffix_turn inner flag room d s k ≡ None
+      none : (d : Declared) (s : HeldScopes) (k : List Lexeme) → stops_declr mode (kind_at k) ≡ true
+          → suffix_turn inner flag room d s k ≡ None
       none d s k h = rw (declr_open_bracket mode (kind_at k) h, declr_open_paren mode (kind_at k) h) refl
 
-      step : (d : Declared) (s : HeldScopes) (ts : List Lexeme) → GoodTurn true (suffix_turn inner flag room) (stops_declr mode) d s ts
+      step : (d : Declared) (s : HeldScopes) (ts : List Lexeme)
+          → GoodTurn true (suffix_turn inner flag room) (stops_declr mode) d s ts
       step d s ts = by_bracket (is_open_bracket (kind_at ts)) refl
         where
           turn_at : TokenKind → Option (Read Declared)
           turn_at kind = None
 
-          by_paren : is_open_bracket (kind_at ts) ≡ false → (b : Bool) → is_open_paren (kind_at ts) ≡ b → GoodTurn true (suffix_turn inner flag room) (stops_declr mode) d s ts
+          by_paren : is_open_bracket (kind_at ts) ≡ false → (b : Bool) → is_open_paren (kind_at ts) ≡ b
+              → GoodTurn true (suffix_turn inner flag room) (stops_declr mode) d s ts
           by_paren off false other = inl (λ k h. rw (kind_same k ts h, off, other) refl)
           by_paren off true is =
               inr (
@@ -197,7 +206,8 @@ module _ (n : ℕ) (inner : Inner) (places : InnerLaws n inner) (laws : Laws [] 
                     (params_behind_good n inner places laws flag d (room_at flag room d (kind_at ts)) (room_below flag room n d (kind_at ts) less) (omega (arith, fit)) s ts is)),
               )
 
-          by_bracket : (b : Bool) → is_open_bracket (kind_at ts) ≡ b → GoodTurn true (suffix_turn inner flag room) (stops_declr mode) d s ts
+          by_bracket : (b : Bool) → is_open_bracket (kind_at ts) ≡ b
+              → GoodTurn true (suffix_turn inner flag room) (stops_declr mode) d s ts
           by_bracket true is =
               inr (
                 bracket_read flag room d (kind_at ts),
@@ -217,7 +227,8 @@ module _ (n : ℕ) (inner : Inner) (places : InnerLaws n inner) (laws : Laws [] 
     abbrev closed_paren : ℕ → List Attr → Option HeldScope → Declr → Reader Declared
     closed_paren opening attrs closed d = behind (token_at is_close_paren) (λ closing. ends (record { declr = some_declr (with_paren opening attrs d closing); closed = closed }))
 
-    closed_paren_law : (opening : ℕ) (attrs : List Attr) (closed : Option HeldScope) (d : Declr) → Law kept (closed_paren opening attrs closed d) is_close_paren any
+    closed_paren_law : (opening : ℕ) (attrs : List Attr) (closed : Option HeldScope) (d : Declr)
+        → Law kept (closed_paren opening attrs closed d) is_close_paren any
     closed_paren_law opening attrs closed d =
         bind_law kept (token_at is_close_paren) (λ closing. ends (record { declr = some_declr (with_paren opening attrs d closing); closed = closed })) is_close_paren any any
         (token_law kept is_close_paren (kinds.Punct puncts.CloseParen) is_close_paren close_paren_end refl refl)
@@ -226,12 +237,14 @@ module _ (n : ℕ) (inner : Inner) (places : InnerLaws n inner) (laws : Laws [] 
     abbrev paren_rest : ℕ → List Attr → Declared → Reader Declared
     paren_rest opening attrs d = behind (present d.declr) (closed_paren opening attrs d.closed)
 
-    paren_rest_good : (opening : ℕ) (attrs : List Attr) (d : SomeDeclr) (closed : Option HeldScope) (s : HeldScopes) (ts : List Lexeme) → Good kept (paren_rest opening attrs (record { declr = d; closed = closed })) any s ts
+    paren_rest_good : (opening : ℕ) (attrs : List Attr) (d : SomeDeclr) (closed : Option HeldScope) (s : HeldScopes) (ts : List Lexeme)
+        → Good kept (paren_rest opening attrs (record { declr = d; closed = closed })) any s ts
     unfolding and_then
     paren_rest_good opening attrs no_declr closed s ts = refused_here kept (paren_rest opening attrs (record { declr = no_declr; closed = closed })) any s ts Unexpected (λ k e. refl)
     paren_rest_good opening attrs (some_declr d) closed s ts = (closed_paren_law opening attrs closed d).good s ts
 
-    paren_rest_ready : (opening : ℕ) (attrs : List Attr) (d : SomeDeclr) (closed : Option HeldScope) (it : Declr) → d ≡ some_declr it → (s : HeldScopes) (at : ℕ) →
+    paren_rest_ready : (opening : ℕ) (attrs : List Attr) (d : SomeDeclr) (closed : Option HeldScope) (it : Declr)
+        → d ≡ some_declr it → (s : HeldScopes) (at : ℕ) →
         Ready kept (paren_rest opening attrs (record { declr = d; closed = closed })) is_close_paren any s at
     unfolding and_then
     paren_rest_ready opening attrs no_declr closed it e s at = absurd cc
@@ -245,7 +258,8 @@ module _ (n : ℕ) (inner : Inner) (places : InnerLaws n inner) (laws : Laws [] 
         let b = bind_ok a.2 in
         omega (arith, same, token_falls is_close_paren _ _ _ b.1, left_is b.2)
 
-    paren_good : (mode : Mode) (opening : ℕ) (attrs : List Attr) → 1 ≤ room → (s : HeldScopes) (ts : List Lexeme) → Good kept (paren_with inner mode wanted flag opening attrs room) any s ts
+    paren_good : (mode : Mode) (opening : ℕ) (attrs : List Attr) → 1 ≤ room → (s : HeldScopes) (ts : List Lexeme)
+        → Good kept (paren_with inner mode wanted flag opening attrs room) any s ts
     unfolding paren_with
     paren_good mode opening attrs one s ts =
         bind_good kept (inner.declr mode wanted flag (room - 1)) (paren_rest opening attrs) is_close_paren any s ts
@@ -258,7 +272,8 @@ module _ (n : ℕ) (inner : Inner) (places : InnerLaws n inner) (laws : Laws [] 
         (inl (λ x y is e. paren_rest_shrinks opening attrs x.tree x.scopes x.rest y e))
 
     -- where a name must come
-    named_paren_law : (opening : ℕ) (attrs : List Attr) → 2 ≤ room → Law kept (paren_with inner Named wanted flag opening attrs room) is_name_kind any
+    named_paren_law : (opening : ℕ) (attrs : List Attr) → 2 ≤ room
+        → Law kept (paren_with inner Named wanted flag opening attrs room) is_name_kind any
     unfolding paren_with
     named_paren_law opening attrs two = record {
       good = λ s ts. paren_good Named opening attrs (omega (arith, two)) s ts;
@@ -273,7 +288,8 @@ module _ (n : ℕ) (inner : Inner) (places : InnerLaws n inner) (laws : Laws [] 
           paren_rest_ready opening attrs d.declr d.closed it.0 it.1 scopes at);
     }
 
-    named_paren_good : (s : HeldScopes) (ts : List Lexeme) → is_open_paren (kind_at ts) ≡ true → Good kept (named_paren inner wanted flag room) any s ts
+    named_paren_good : (s : HeldScopes) (ts : List Lexeme) → is_open_paren (kind_at ts) ≡ true
+        → Good kept (named_paren inner wanted flag room) any s ts
     unfolding named_paren
     named_paren_good s ts is =
         node_good kept 2 room (λ opening. behind (attrs_at room) (λ attrs. paren_with inner Named wanted flag opening attrs room)) any
@@ -294,7 +310,8 @@ module _ (n : ℕ) (inner : Inner) (places : InnerLaws n inner) (laws : Laws [] 
     abbrev nothing_yet : Declared
     nothing_yet = record { declr = no_declr; closed = None }
 
-    opened_good : (mode : Mode) (opening : ℕ) (attrs : List Attr) → 1 ≤ room → (are_none attrs ≡ true) ⊎ (1 ≤ room - 1) → (s : HeldScopes) (ts : List Lexeme) → Good kept (opened_by inner mode wanted flag opening attrs room) any s ts
+    opened_good : (mode : Mode) (opening : ℕ) (attrs : List Attr) → 1 ≤ room → (are_none attrs ≡ true) ⊎ (1 ≤ room - 1)
+        → (s : HeldScopes) (ts : List Lexeme) → Good kept (opened_by inner mode wanted flag opening attrs room) any s ts
     unfolding opened_by
     opened_good mode opening attrs one fit s ts =
         if_good kept (opens_params attrs) (prototype_with inner nothing_yet opening attrs room) (λ s ts. if opens_declr mode (kind_at ts) then paren_with inner mode wanted flag opening attrs room s ts else refuses Unexpected ts) any s ts
@@ -309,7 +326,8 @@ module _ (n : ℕ) (inner : Inner) (places : InnerLaws n inner) (laws : Laws [] 
         room_less true h = omega (arith, h)
         room_less false h = h
 
-    opened_shrinks : (mode : Mode) (opening : ℕ) (attrs : List Attr) → Shrinks (opened_by inner mode wanted flag opening attrs room)
+    opened_shrinks : (mode : Mode) (opening : ℕ) (attrs : List Attr)
+        → Shrinks (opened_by inner mode wanted flag opening attrs room)
     unfolding opened_by
     opened_shrinks mode opening attrs s ts x e =
         if_ok (opens_params attrs s (kind_at ts)) e
@@ -318,12 +336,14 @@ module _ (n : ℕ) (inner : Inner) (places : InnerLaws n inner) (laws : Laws [] 
         (λ is e. paren_shrinks [] none_tokens n inner laws mode wanted flag opening attrs room s ts x e)
         (λ is e. absurd cc))
 
-    opened_empty : (mode : Mode) (opening : ℕ) (s : HeldScopes) (k : List Lexeme) → is_close_paren (kind_at k) ≡ true → opened_by inner mode wanted flag opening [] room s k ≡ prototype_with inner nothing_yet opening [] room s k
+    opened_empty : (mode : Mode) (opening : ℕ) (s : HeldScopes) (k : List Lexeme) → is_close_paren (kind_at k) ≡ true
+        → opened_by inner mode wanted flag opening [] room s k ≡ prototype_with inner nothing_yet opening [] room s k
     unfolding opened_by
     opened_empty mode opening s k h = rw h refl
 
     -- behind attributes: `* )`
-    star_opened : (mode : Mode) (opening : ℕ) (attrs : List Attr) → may_be_absent mode ≡ true → 2 ≤ room → (s : HeldScopes) (at : ℕ) → Ready kept (opened_by inner mode wanted flag opening attrs room) is_star any s at
+    star_opened : (mode : Mode) (opening : ℕ) (attrs : List Attr) → may_be_absent mode ≡ true → 2 ≤ room
+        → (s : HeldScopes) (at : ℕ) → Ready kept (opened_by inner mode wanted flag opening attrs room) is_star any s at
     unfolding opened_by paren_with
     star_opened mode opening attrs absent_is two s at =
         ready_as kept (paren_with inner mode wanted flag opening attrs room) (opened_by inner mode wanted flag opening attrs room) is_star any s at (λ k h. chosen k (kind_at k) refl h)
@@ -342,22 +362,26 @@ module _ (n : ℕ) (inner : Inner) (places : InnerLaws n inner) (laws : Laws [] 
         it = places.declrs.there mode wanted flag (room - 1) s (numbered_from at r.more ++ closing ∷ []) (found r.tree r.scopes (closing ∷ [])) (r.reads (closing ∷ []) refl)
             (put_before is_star at r.more closing refl (r.begins (closing ∷ []) refl))
 
-        chosen : (k : List Lexeme) (kind : TokenKind) → kind_at k ≡ kind → is_star kind ≡ true → opened_by inner mode wanted flag opening attrs room s k ≡ paren_with inner mode wanted flag opening attrs room s k
+        chosen : (k : List Lexeme) (kind : TokenKind) → kind_at k ≡ kind → is_star kind ≡ true
+            → opened_by inner mode wanted flag opening attrs room s k ≡ paren_with inner mode wanted flag opening attrs room s k
         chosen k kind is h =
             else_is (opens_params attrs s (kind_at k)) _ (no_params (are_none attrs) k kind is h) (then_is (opens_declr mode (kind_at k)) _ (a_declr k kind is h) refl)
           where
-            no_params : (b : Bool) (k : List Lexeme) (kind : TokenKind) → kind_at k ≡ kind → is_star kind ≡ true → ((b && is_close_paren (kind_at k)) || begins_specs s (kind_at k)) ≡ false
+            no_params : (b : Bool) (k : List Lexeme) (kind : TokenKind) → kind_at k ≡ kind → is_star kind ≡ true
+                → ((b && is_close_paren (kind_at k)) || begins_specs s (kind_at k)) ≡ false
             no_params true k kind is h = rw (is, star_close kind h, star_specs s kind h) refl
             no_params false k kind is h = rw (is, star_specs s kind h) refl
 
-            a_declr : (k : List Lexeme) (kind : TokenKind) → kind_at k ≡ kind → is_star kind ≡ true → opens_declr mode (kind_at k) ≡ true
+            a_declr : (k : List Lexeme) (kind : TokenKind) → kind_at k ≡ kind → is_star kind ≡ true
+                → opens_declr mode (kind_at k) ≡ true
             a_declr k kind is h = rw (is, h) refl
 
     -- the parenthesis, attributes, and what stands behind them
     abbrev opened_rest : Mode → ℕ → Reader Declared
     opened_rest mode opening = behind (attrs_at room) (λ attrs. opened_by inner mode wanted flag opening attrs room)
 
-    opened_rest_law : (mode : Mode) → may_be_absent mode ≡ true → 1 ≤ room → (opening : ℕ) → Law kept (opened_rest mode opening) any any
+    opened_rest_law : (mode : Mode) → may_be_absent mode ≡ true → 1 ≤ room → (opening : ℕ)
+        → Law kept (opened_rest mode opening) any any
     opened_rest_law mode absent_is one opening = record {
       good = λ s ts.
           bind_good kept (attrs_at room) (λ attrs. opened_by inner mode wanted flag opening attrs room) is_star any s ts
@@ -379,11 +403,13 @@ module _ (n : ℕ) (inner : Inner) (places : InnerLaws n inner) (laws : Laws [] 
       };
     }
       where
-        fits_lead : (attrs : List Attr) → (are_none attrs ≡ true) ⊎ (2 ≤ room) → (are_none attrs ≡ true) ⊎ (1 ≤ room - 1)
+        fits_lead : (attrs : List Attr) → (are_none attrs ≡ true) ⊎ (2 ≤ room)
+            → (are_none attrs ≡ true) ⊎ (1 ≤ room - 1)
         fits_lead attrs (inl none) = inl none
         fits_lead attrs (inr two) = inr (omega (arith, two))
 
-    opened_with_good : (mode : Mode) → may_be_absent mode ≡ true → (s : HeldScopes) (ts : List Lexeme) → is_open_paren (kind_at ts) ≡ true → Good kept (opened_with inner mode wanted flag room) any s ts
+    opened_with_good : (mode : Mode) → may_be_absent mode ≡ true → (s : HeldScopes) (ts : List Lexeme)
+        → is_open_paren (kind_at ts) ≡ true → Good kept (opened_with inner mode wanted flag room) any s ts
     unfolding opened_with
     opened_with_good mode absent_is s ts is = node_good kept 1 room (opened_rest mode) any (λ one opening. opened_rest_law mode absent_is one opening) s ts (open_paren_end (kind_at ts) is)
 
@@ -395,7 +421,8 @@ module _ (n : ℕ) (inner : Inner) (places : InnerLaws n inner) (laws : Laws [] 
         let b = bind_ok a.2 in
         omega (arith, take_falls _ _ _ a.1, none_tokens.attrs_falls room _ _ _ b.1, opened_shrinks mode a.0.tree b.0.tree _ _ _ b.2)
 
-    some_paren_good : (mode : Mode) (s : HeldScopes) (ts : List Lexeme) → is_open_paren (kind_at ts) ≡ true → Good kept (some_paren inner mode wanted flag room) any s ts
+    some_paren_good : (mode : Mode) (s : HeldScopes) (ts : List Lexeme) → is_open_paren (kind_at ts) ≡ true
+        → Good kept (some_paren inner mode wanted flag room) any s ts
     some_paren_good Named s ts is = named_paren_good s ts is
     some_paren_good Abstract s ts is = opened_with_good Abstract refl s ts is
     some_paren_good Either s ts is = opened_with_good Either refl s ts is
@@ -407,23 +434,28 @@ module _ (n : ℕ) (inner : Inner) (places : InnerLaws n inner) (laws : Laws [] 
 
     -- A name, or nothing.
 
-    absent_is : (mode : Mode) → may_be_absent mode ≡ true → (s : HeldScopes) (k : List Lexeme) → absent mode s k ≡ ends nothing_yet s k
+    absent_is : (mode : Mode) → may_be_absent mode ≡ true → (s : HeldScopes) (k : List Lexeme)
+        → absent mode s k ≡ ends nothing_yet s k
     absent_is Named h s k = absurd cc
     absent_is Abstract h s k = refl
     absent_is Either h s k = refl
 
     -- where no name need stand a base word is none
-    no_base : (mode : Mode) → may_be_absent mode ≡ true → (s : HeldScopes) (kind : TokenKind) → names_base s mode wanted kind ≡ false
+    no_base : (mode : Mode) → may_be_absent mode ≡ true → (s : HeldScopes) (kind : TokenKind)
+        → names_base s mode wanted kind ≡ false
     no_base Named h s kind = absurd cc
     no_base Abstract h s kind = refl
     no_base Either h s kind = refl
 
     -- before what may follow an absent declarator there is none
-    none_read : (mode : Mode) → may_be_absent mode ≡ true → (s : HeldScopes) (k : List Lexeme) → stops_type (kind_at k) ≡ true → core_with inner mode wanted flag room s k ≡ ends nothing_yet s k
+    none_read : (mode : Mode) → may_be_absent mode ≡ true → (s : HeldScopes) (k : List Lexeme)
+        → stops_type (kind_at k) ≡ true → core_with inner mode wanted flag room s k ≡ ends nothing_yet s k
     unfolding core_with
     none_read mode h s k stop = rw (type_open_paren (kind_at k) stop, no_base mode h s (kind_at k), type_name_none (kind_at k) stop) (absent_is mode h s k)
 
-    named_good : (mode : Mode) (name : ℕ) (s : HeldScopes) (t : Lexeme) (ts : List Lexeme) → spelled_name t.kind ≡ Some name → takes_name mode ≡ true → Good kept (core_with inner mode wanted flag room) (stops_declr mode) s (t ∷ ts)
+    named_good : (mode : Mode) (name : ℕ) (s : HeldScopes) (t : Lexeme) (ts : List Lexeme)
+        → spelled_name t.kind ≡ Some name → takes_name mode ≡ true
+        → Good kept (core_with inner mode wanted flag room) (stops_declr mode) s (t ∷ ts)
     unfolding core_with and_then
     named_good mode name s t ts is takes = by_held (at_name wanted name s) refl
       where
@@ -438,30 +470,36 @@ module _ (n : ℕ) (inner : Inner) (places : InnerLaws n inner) (laws : Laws [] 
         kind_is : (u : Lexeme) (us : List Lexeme) → first_kind (u ∷ us) ≡ Some t.kind → u.kind ≡ t.kind
         kind_is u us e = cc
 
-        to_name : (u : Lexeme) (us : List Lexeme) → first_kind (u ∷ us) ≡ Some t.kind → core_with inner mode wanted flag room s (u ∷ us) ≡ name_held name room (at_name wanted name s) s (u ∷ us)
+        to_name : (u : Lexeme) (us : List Lexeme) → first_kind (u ∷ us) ≡ Some t.kind
+            → core_with inner mode wanted flag room s (u ∷ us) ≡ name_held name room (at_name wanted name s) s (u ∷ us)
         to_name u us e = rw (kind_is u us e, no_paren t.kind is, plain t.kind is, is, takes) refl
 
-        refused : (f : Fault) → ((u : Lexeme) (us : List Lexeme) → name_held name room (at_name wanted name s) s (u ∷ us) ≡ refuses f (u ∷ us)) →
+        refused : (f : Fault)
+            → ((u : Lexeme) (us : List Lexeme) → name_held name room (at_name wanted name s) s (u ∷ us) ≡ refuses f (u ∷ us)) →
             Good kept (core_with inner mode wanted flag room) (stops_declr mode) s (t ∷ ts)
         refused f all = refused_here kept (core_with inner mode wanted flag room) (stops_declr mode) s (t ∷ ts) f each
           where
-            each : (k : List Lexeme) → first_kind k ≡ Some t.kind → core_with inner mode wanted flag room s k ≡ refuses f k
+            each : (k : List Lexeme) → first_kind k ≡ Some t.kind
+                → core_with inner mode wanted flag room s k ≡ refuses f k
             each [] e = absurd cc
             each (u ∷ us) e = to_name u us e ∙ all u us
 
-        by_room : (held : HeldScopes) → at_name wanted name s ≡ Some held → (b : Bool) → nat_le 1 room ≡ b → Good kept (core_with inner mode wanted flag room) (stops_declr mode) s (t ∷ ts)
+        by_room : (held : HeldScopes) → at_name wanted name s ≡ Some held → (b : Bool) → nat_le 1 room ≡ b
+            → Good kept (core_with inner mode wanted flag room) (stops_declr mode) s (t ∷ ts)
         by_room held at false none = refused TooDeep (λ u us. rw at (fits_not 1 room (u ∷ us) _ none))
         by_room held at true fit =
             one_good kept (core_with inner mode wanted flag room) (stops_declr mode) s held t ts (record { declr = some_declr (declr_name t.at name); closed = None })
             (λ k. to_name t k refl ∙ rw at (fits_is 1 room (t ∷ k) _ (leb-true 1 room fit))) (name_end t.kind name is) (at_name_kept wanted name s held at)
 
-        by_held : (o : Option HeldScopes) → at_name wanted name s ≡ o → Good kept (core_with inner mode wanted flag room) (stops_declr mode) s (t ∷ ts)
+        by_held : (o : Option HeldScopes) → at_name wanted name s ≡ o
+            → Good kept (core_with inner mode wanted flag room) (stops_declr mode) s (t ∷ ts)
         by_held None at = refused Redeclared (λ u us. rw at refl)
         by_held (Some held) at = by_room held at (nat_le 1 room) refl
 
     -- no name that may stand there
     unnamed_good : (mode : Mode) (s : HeldScopes) (ts : List Lexeme) → is_open_paren (kind_at ts) ≡ false →
-        ((k : List Lexeme) → first_kind k ≡ first_kind ts → core_with inner mode wanted flag room s k ≡ absent mode s k) → Good kept (core_with inner mode wanted flag room) (stops_declr mode) s ts
+        ((k : List Lexeme) → first_kind k ≡ first_kind ts → core_with inner mode wanted flag room s k ≡ absent mode s k)
+        → Good kept (core_with inner mode wanted flag room) (stops_declr mode) s ts
     unnamed_good Named s ts off same = refused_here kept (core_with inner Named wanted flag room) stops_named s ts Unexpected (λ k e. same k e)
     unnamed_good Abstract s ts off same = none_good kept (core_with inner Abstract wanted flag room) stops_type s ts nothing_yet (λ k e. same k e) (λ k h. none_read Abstract refl s k h)
     unnamed_good Either s ts off same = none_good kept (core_with inner Either wanted flag room) stops_type s ts nothing_yet (λ k e. same k e) (λ k h. none_read Either refl s k h)
@@ -477,34 +515,41 @@ module _ (n : ℕ) (inner : Inner) (places : InnerLaws n inner) (laws : Laws [] 
         let a = bind_ok (fits_ok 1 room ts e).1 in
         omega (arith, take_falls _ _ _ a.1, left_is a.2)
 
-    core_good : (mode : Mode) (s : HeldScopes) (ts : List Lexeme) → Good kept (core_with inner mode wanted flag room) (stops_declr mode) s ts
+    core_good : (mode : Mode) (s : HeldScopes) (ts : List Lexeme)
+        → Good kept (core_with inner mode wanted flag room) (stops_declr mode) s ts
     unfolding core_with
     core_good mode s ts = by_paren (is_open_paren (kind_at ts)) refl
       where
-        by_name : is_open_paren (kind_at ts) ≡ false → names_base s mode wanted (kind_at ts) ≡ false → (o : Option ℕ) → spelled_name (kind_at ts) ≡ o → Good kept (core_with inner mode wanted flag room) (stops_declr mode) s ts
+        by_name : is_open_paren (kind_at ts) ≡ false → names_base s mode wanted (kind_at ts) ≡ false → (o : Option ℕ)
+            → spelled_name (kind_at ts) ≡ o → Good kept (core_with inner mode wanted flag room) (stops_declr mode) s ts
         by_name off plain None is = unnamed_good mode s ts off (λ k e. rw (kind_same k ts e, off, plain, is) refl)
         by_name off plain (Some name) is = by_takes ts off plain is (takes_name mode) refl
           where
-            by_takes : (ts : List Lexeme) → is_open_paren (kind_at ts) ≡ false → names_base s mode wanted (kind_at ts) ≡ false → spelled_name (kind_at ts) ≡ Some name → (b : Bool) → takes_name mode ≡ b →
+            by_takes : (ts : List Lexeme) → is_open_paren (kind_at ts) ≡ false
+                → names_base s mode wanted (kind_at ts) ≡ false → spelled_name (kind_at ts) ≡ Some name → (b : Bool)
+                → takes_name mode ≡ b →
                 Good kept (core_with inner mode wanted flag room) (stops_declr mode) s ts
             by_takes [] off plain is b takes = absurd cc
             by_takes (t ∷ ts) off plain is true takes = named_good mode name s t ts is takes
             by_takes (t ∷ ts) off plain is false takes = unnamed_good mode s (t ∷ ts) off (λ k e. rw (kind_same k (t ∷ ts) e, off, plain, is, takes) refl)
 
-        by_base : is_open_paren (kind_at ts) ≡ false → (b : Bool) → names_base s mode wanted (kind_at ts) ≡ b → Good kept (core_with inner mode wanted flag room) (stops_declr mode) s ts
+        by_base : is_open_paren (kind_at ts) ≡ false → (b : Bool) → names_base s mode wanted (kind_at ts) ≡ b
+            → Good kept (core_with inner mode wanted flag room) (stops_declr mode) s ts
         by_base off true is =
             good_as kept (base_named room) (core_with inner mode wanted flag room) (stops_declr mode) s ts (λ k e. rw (kind_same k ts e, off, is) refl) (inl (λ x e. base_shrinks s ts x e))
             (good_before kept (base_named room) any (stops_declr mode) s ts (λ kind h. refl) (base_good s ts (base_end s mode wanted (kind_at ts) is)))
         by_base off false plain = by_name off plain (spelled_name (kind_at ts)) refl
 
-        by_paren : (b : Bool) → is_open_paren (kind_at ts) ≡ b → Good kept (core_with inner mode wanted flag room) (stops_declr mode) s ts
+        by_paren : (b : Bool) → is_open_paren (kind_at ts) ≡ b
+            → Good kept (core_with inner mode wanted flag room) (stops_declr mode) s ts
         by_paren true is =
             good_as kept (some_paren inner mode wanted flag room) (core_with inner mode wanted flag room) (stops_declr mode) s ts (λ k e. rw (kind_same k ts e, is) refl) (inl (λ x e. some_paren_shrinks mode s ts x e))
             (good_before kept (some_paren inner mode wanted flag room) any (stops_declr mode) s ts (λ kind h. refl) (some_paren_good mode s ts is))
         by_paren false off = by_base off (names_base s mode wanted (kind_at ts)) refl
 
     -- a fresh name
-    core_ready : 1 ≤ room → (s : HeldScopes) (at : ℕ) → Ready kept (core_with inner Named wanted flag room) is_name_kind stops_named s at
+    core_ready : 1 ≤ room → (s : HeldScopes) (at : ℕ)
+        → Ready kept (core_with inner Named wanted flag room) is_name_kind stops_named s at
     unfolding core_with and_then
     core_ready one s at =
         let held = fresh_at wanted s in
@@ -517,7 +562,8 @@ module _ (n : ℕ) (inner : Inner) (places : InnerLaws n inner) (laws : Laws [] 
           reads = λ k h. rw (name_no_base s Named wanted (fresh s), held.1) (fits_is 1 room (record { kind = kinds.Name (fresh s); at = at } ∷ k) _ one);
         }
 
-    direct_good : (mode : Mode) (s : HeldScopes) (ts : List Lexeme) → Good kept (direct_with inner mode wanted flag room) (stops_declr mode) s ts
+    direct_good : (mode : Mode) (s : HeldScopes) (ts : List Lexeme)
+        → Good kept (direct_with inner mode wanted flag room) (stops_declr mode) s ts
     unfolding direct_with
     direct_good mode s ts =
         behind_good kept (core_with inner mode wanted flag room) (λ core. run (suffix_turn inner flag room) core) (stops_declr mode) (stops_declr mode) s ts (core_good mode s ts)
@@ -529,7 +575,8 @@ module _ (n : ℕ) (inner : Inner) (places : InnerLaws n inner) (laws : Laws [] 
 
     -- A star, words, and a declarator.
 
-    inner_law : (mode : Mode) → 1 ≤ room → least_pointer mode ≤ room → Law kept (inner.declr mode wanted flag (room - 1)) (front_of mode) (stops_declr mode)
+    inner_law : (mode : Mode) → 1 ≤ room → least_pointer mode ≤ room
+        → Law kept (inner.declr mode wanted flag (room - 1)) (front_of mode) (stops_declr mode)
     inner_law Named one fit = record {
       good = λ s ts. places.declrs.good Named wanted flag (room - 1) (number_lower flag room n less one) s ts;
       ready = λ s at. places.declrs.named wanted flag (room - 1) (number_lower flag room n less one) (omega (arith, fit)) s at;
@@ -549,7 +596,8 @@ module _ (n : ℕ) (inner : Inner) (places : InnerLaws n inner) (laws : Laws [] 
     abbrev pointer_rest : Mode → ℕ → Reader Declared
     pointer_rest mode token = behind (pointer_words_at room) (λ words. behind (inner.declr mode wanted flag (room - 1)) (λ d. ends (pointed token words d)))
 
-    pointer_passes : (mode : Mode) (token : ℕ) → ((words : List PointerWord) (s : HeldScopes) (ts : List Lexeme) (y : Found Declared) → behind (inner.declr mode wanted flag (room - 1)) (λ d. ends (pointed token words d)) s ts ≡ done y → length y.rest < length ts)
+    pointer_passes : (mode : Mode) (token : ℕ)
+        → ((words : List PointerWord) (s : HeldScopes) (ts : List Lexeme) (y : Found Declared) → behind (inner.declr mode wanted flag (room - 1)) (λ d. ends (pointed token words d)) s ts ≡ done y → length y.rest < length ts)
         ⊎ ((kind : TokenKind) → stops_declr mode kind ≡ true → front_of mode kind ≡ true)
     pointer_passes Named token = inl (λ words s ts y e. let a = bind_ok e in omega (arith, laws.declrs.shrinks wanted flag (room - 1) s ts a.0 a.1, left_is a.2))
     pointer_passes Abstract token = inr (λ kind h. h)
@@ -560,14 +608,16 @@ module _ (n : ℕ) (inner : Inner) (places : InnerLaws n inner) (laws : Laws [] 
     least_one Abstract = omega arith
     least_one Either = omega arith
 
-    pointer_rest_law : (mode : Mode) → least_pointer mode ≤ room → (token : ℕ) → Law kept (pointer_rest mode token) any (stops_declr mode)
+    pointer_rest_law : (mode : Mode) → least_pointer mode ≤ room → (token : ℕ)
+        → Law kept (pointer_rest mode token) any (stops_declr mode)
     pointer_rest_law mode fit token =
         let least = least_one mode in
         bind_law kept (pointer_words_at room) (λ words. behind (inner.declr mode wanted flag (room - 1)) (λ d. ends (pointed token words d))) any (front_of mode) (stops_declr mode)
         (pointer_words_law kept room any (front_of mode) ((λ kind h. refl), front_word mode))
         (λ words. mapped_law kept (inner.declr mode wanted flag (room - 1)) (pointed token words) (front_of mode) (stops_declr mode) (inner_law mode (omega (arith, fit, least)) fit)) (pointer_passes mode token)
 
-    pointer_good : (mode : Mode) (s : HeldScopes) (ts : List Lexeme) → is_star (kind_at ts) ≡ true → Good kept (pointer_with inner mode wanted flag room) (stops_declr mode) s ts
+    pointer_good : (mode : Mode) (s : HeldScopes) (ts : List Lexeme) → is_star (kind_at ts) ≡ true
+        → Good kept (pointer_with inner mode wanted flag room) (stops_declr mode) s ts
     unfolding pointer_with
     pointer_good mode s ts is = node_good kept (least_pointer mode) room (pointer_rest mode) (stops_declr mode) (pointer_rest_law mode) s ts (star_end (kind_at ts) is)
 
@@ -580,7 +630,8 @@ module _ (n : ℕ) (inner : Inner) (places : InnerLaws n inner) (laws : Laws [] 
         let c = bind_ok b.2 in
         omega (arith, take_falls _ _ _ a.1, none_tokens.pointer_words_falls room _ _ _ b.1, laws.declrs.falls _ _ _ _ _ _ _ c.1, left_is c.2)
 
-    pub declr_good : (mode : Mode) (s : HeldScopes) (ts : List Lexeme) → Good kept (declr_with inner mode wanted flag room) (stops_declr mode) s ts
+    pub declr_good : (mode : Mode) (s : HeldScopes) (ts : List Lexeme)
+        → Good kept (declr_with inner mode wanted flag room) (stops_declr mode) s ts
     unfolding declr_with
     declr_good mode s ts =
         if_good kept (λ s. is_star) (pointer_with inner mode wanted flag room) (direct_with inner mode wanted flag room) (stops_declr mode) s ts (λ is. pointer_good mode s ts is) (λ is. direct_good mode s ts)
@@ -588,33 +639,39 @@ module _ (n : ℕ) (inner : Inner) (places : InnerLaws n inner) (laws : Laws [] 
 
     -- From nothing.
 
-    suffix_read : (mode : Mode) (d : Declared) (s : HeldScopes) (at : ℕ) → Ready kept (run (suffix_turn inner flag room) d) (stops_declr mode) (stops_declr mode) s at
+    suffix_read : (mode : Mode) (d : Declared) (s : HeldScopes) (at : ℕ)
+        → Ready kept (run (suffix_turn inner flag room) d) (stops_declr mode) (stops_declr mode) s at
     suffix_read mode d s at = ready_weaker kept (run (suffix_turn inner flag room) d) (stops_declr mode) (stops_declr mode) s at ((suffix_law flag room less mode d).ready s at)
 
-    pub declr_named : 1 ≤ room → (s : HeldScopes) (at : ℕ) → Ready kept (declr_with inner Named wanted flag room) is_name_kind stops_named s at
+    pub declr_named : 1 ≤ room → (s : HeldScopes) (at : ℕ)
+        → Ready kept (declr_with inner Named wanted flag room) is_name_kind stops_named s at
     unfolding declr_with direct_with
     declr_named one s at =
         ready_as kept (behind (core_with inner Named wanted flag room) (λ core. run (suffix_turn inner flag room) core)) (declr_with inner Named wanted flag room) is_name_kind stops_named s at (λ k h. rw (name_star (kind_at k) h) refl)
         (ready_bind kept (core_with inner Named wanted flag room) (λ core. run (suffix_turn inner flag room) core) is_name_kind stops_named stops_named s at (core_ready one s at) (λ core scopes gives at. suffix_read Named core scopes at))
 
     -- nothing at all
-    absent_core : (mode : Mode) → may_be_absent mode ≡ true → (s : HeldScopes) (at : ℕ) → Ready true (core_with inner mode wanted flag room) stops_type stops_type s at
+    absent_core : (mode : Mode) → may_be_absent mode ≡ true → (s : HeldScopes) (at : ℕ)
+        → Ready true (core_with inner mode wanted flag room) stops_type stops_type s at
     absent_core mode h s at = record { more = []; tree = nothing_yet; scopes = s; keeps = kept_refl true s; begins = λ k stop. stop; reads = λ k stop. none_read mode h s k stop }
 
-    pub declr_absent : (mode : Mode) → may_be_absent mode ≡ true → (s : HeldScopes) (at : ℕ) → Ready true (declr_with inner mode wanted flag room) stops_type stops_type s at
+    pub declr_absent : (mode : Mode) → may_be_absent mode ≡ true → (s : HeldScopes) (at : ℕ)
+        → Ready true (declr_with inner mode wanted flag room) stops_type stops_type s at
     unfolding declr_with direct_with
     declr_absent mode h s at =
         ready_as true (behind (core_with inner mode wanted flag room) (λ core. run (suffix_turn inner flag room) core)) (declr_with inner mode wanted flag room) stops_type stops_type s at (λ k stop. rw (declr_star Abstract (kind_at k) stop) refl)
         (ready_bind true (core_with inner mode wanted flag room) (λ core. run (suffix_turn inner flag room) core) stops_type stops_type stops_type s at (absent_core mode h s at) (λ core scopes gives at. (suffix_law flag room less Abstract core).ready scopes at))
 
     -- a star
-    starred_rest : (mode : Mode) → may_be_absent mode ≡ true → 1 ≤ room → (token : ℕ) (s : HeldScopes) (at : ℕ) → Ready true (pointer_rest mode token) any stops_type s at
+    starred_rest : (mode : Mode) → may_be_absent mode ≡ true → 1 ≤ room → (token : ℕ) (s : HeldScopes) (at : ℕ)
+        → Ready true (pointer_rest mode token) any stops_type s at
     starred_rest mode h one token s at =
         ready_bind true (pointer_words_at room) (λ words. behind (inner.declr mode wanted flag (room - 1)) (λ d. ends (pointed token words d))) any stops_type stops_type s at
         ((pointer_words_law true room any stops_type ((λ kind h. refl), type_word)).ready s at)
         (λ words scopes gives at. mapped_ready true (inner.declr mode wanted flag (room - 1)) (pointed token words) stops_type stops_type scopes at (inner_none mode h scopes at))
       where
-        inner_none : (mode : Mode) → may_be_absent mode ≡ true → (s : HeldScopes) (at : ℕ) → Ready true (inner.declr mode wanted flag (room - 1)) stops_type stops_type s at
+        inner_none : (mode : Mode) → may_be_absent mode ≡ true → (s : HeldScopes) (at : ℕ)
+            → Ready true (inner.declr mode wanted flag (room - 1)) stops_type stops_type s at
         inner_none Named h s at = absurd cc
         inner_none Abstract h s at = places.declrs.absent wanted flag (room - 1) (number_lower flag room n less one) s at
         inner_none Either h s at = places.declrs.either wanted flag (room - 1) (number_lower flag room n less one) s at
@@ -624,7 +681,8 @@ module _ (n : ℕ) (inner : Inner) (places : InnerLaws n inner) (laws : Laws [] 
     least_absent Abstract h one = one
     least_absent Either h one = one
 
-    pub declr_starred : (mode : Mode) → may_be_absent mode ≡ true → 1 ≤ room → (s : HeldScopes) (at : ℕ) → Ready true (declr_with inner mode wanted flag room) is_star stops_type s at
+    pub declr_starred : (mode : Mode) → may_be_absent mode ≡ true → 1 ≤ room → (s : HeldScopes) (at : ℕ)
+        → Ready true (declr_with inner mode wanted flag room) is_star stops_type s at
     unfolding declr_with pointer_with
     declr_starred mode h one s at =
         ready_as true (λ s ts. fits (least_pointer mode) room ts (behind take_one (pointer_rest mode) s ts)) (declr_with inner mode wanted flag room) is_star stops_type s at (λ k is. rw is refl)

@@ -33,14 +33,16 @@ else_is true x is e = absurd cc
 else_is false x is e = e
 
 -- where there is no room the first token is refused
-pub fits_not : {A : Type 0} (least room : ℕ) (ts : List Lexeme) (read : Read A) → nat_le least room ≡ false → fits least room ts read ≡ refuses TooDeep ts
+pub fits_not : {A : Type 0} (least room : ℕ) (ts : List Lexeme) (read : Read A) → nat_le least room ≡ false
+    → fits least room ts read ≡ refuses TooDeep ts
 unfolding fits
 fits_not least room ts read h = rw h refl
 
 pub left_is : {A : Type 0} {y x : Found A} → done y ≡ done x → length y.rest ≡ length x.rest
 left_is {A} e = ap (λ (x : Found A). length x.rest) (ok_is e)
 
-pub token_then_shrinks : {B : Type 0} (test : TokenKind → Bool) (make : ℕ → B) → Shrinks (behind (token_at test) (λ token. ends (make token)))
+pub token_then_shrinks : {B : Type 0} (test : TokenKind → Bool) (make : ℕ → B)
+    → Shrinks (behind (token_at test) (λ token. ends (make token)))
 token_then_shrinks test make s ts y e =
     let a = bind_ok e in
     omega (arith, token_falls test _ _ _ a.1, left_is a.2)
@@ -51,7 +53,8 @@ take_shrinks f falls s ts x e =
     omega (arith, take_falls s ts a.0 a.1, falls a.0.tree a.0.scopes a.0.rest x a.2)
 
 -- an item of a row was taken, so there was room for it
-pub repeated_room : {T : Type 0} (begins : TokenKind → Bool) (least room : ℕ) (read : Reader T) → Shrinks read → (s : HeldScopes) (ts : List Lexeme) (x : Found (List T)) →
+pub repeated_room : {T : Type 0} (begins : TokenKind → Bool) (least room : ℕ) (read : Reader T) → Shrinks read
+    → (s : HeldScopes) (ts : List Lexeme) (x : Found (List T)) →
     repeated begins (λ s ts. fits least room ts (read s ts)) s ts ≡ done x → length x.rest < length ts → least ≤ room
 unfolding repeated
 repeated_room {T} begins least room read shrinks s ts x e less = by_test (begins (kind_at ts)) (sym (run_is (repeated_turn begins item) (row_turn_shrinks begins item item_shrinks) [] s ts) ∙ e)
@@ -62,27 +65,33 @@ repeated_room {T} begins least room read shrinks s ts x e less = by_test (begins
     item_shrinks : Shrinks item
     item_shrinks s ts x e = shrinks s ts x (fits_ok least room ts e).1
 
-    by_test : (b : Bool) → after (if b then Some (and_then (item s ts) (λ x. ends ([] ++ x.tree ∷ []) x.scopes x.rest)) else None) [] s ts (run (repeated_turn begins item)) ≡ done x → least ≤ room
+    by_test : (b : Bool)
+        → after (if b then Some (and_then (item s ts) (λ x. ends ([] ++ x.tree ∷ []) x.scopes x.rest)) else None) [] s ts (run (repeated_turn begins item)) ≡ done x
+        → least ≤ room
     by_test true e = let a = bind_ok e in let b = bind_ok a.1 in (fits_ok least room ts b.1).0
     by_test false e = let same : length ts ≡ length x.rest = left_is e in absurd (omega (arith, same, less))
 
 module _ (keep : Bool) where
   -- a part behind one that is good
-  pub behind_good : {A B : Type 0} (a : Reader A) (f : A → Reader B) (middle stops : TokenKind → Bool) (s : HeldScopes) (ts : List Lexeme) → Good keep a middle s ts → ((x : A) → Law keep (f x) middle stops) →
+  pub behind_good : {A B : Type 0} (a : Reader A) (f : A → Reader B) (middle stops : TokenKind → Bool) (s : HeldScopes) (ts : List Lexeme)
+      → Good keep a middle s ts → ((x : A) → Law keep (f x) middle stops) →
       Passes keep f middle stops → Good keep (behind a f) stops s ts
   behind_good a f middle stops s ts g lf passes =
       bind_good keep a f middle stops s ts (λ tree scopes gives at. (lf tree).ready scopes at) g (λ x is. (lf x.tree).good x.scopes x.rest) (passes_at keep f middle stops (a s ts) passes)
 
   -- nothing stands behind a part that never answers
-  pub never_behind : {A B : Type 0} (a : Reader A) (f : A → Reader B) (middle stops : TokenKind → Bool) (some_kind : TokenKind) → middle some_kind ≡ true → (s : HeldScopes) (ts : List Lexeme) →
-      ((k : List Lexeme) (x : Found A) → a s k ≡ done x → ⊥) → Good keep a middle s ts → Good keep (behind a f) stops s ts
+  pub never_behind : {A B : Type 0} (a : Reader A) (f : A → Reader B) (middle stops : TokenKind → Bool) (some_kind : TokenKind)
+      → middle some_kind ≡ true → (s : HeldScopes) (ts : List Lexeme) →
+      ((k : List Lexeme) (x : Found A) → a s k ≡ done x → ⊥) → Good keep a middle s ts
+      → Good keep (behind a f) stops s ts
   never_behind a f middle stops some_kind goes s ts never g =
       bind_good keep a f middle stops s ts
       (λ tree scopes gives at. let h = gives.reads (record { kind = some_kind; at = 0 } ∷ []) goes in absurd (never h.0 (found tree scopes (record { kind = some_kind; at = 0 } ∷ [])) h.1))
       g (λ x is. absurd (never ts x is)) (inl (λ x y is e. absurd (never ts x is)))
 
   -- a node that begins with a token that is known
-  pub node_good : {B : Type 0} (least room : ℕ) (f : ℕ → Reader B) (stops : TokenKind → Bool) → (least ≤ room → (x : ℕ) → Law keep (f x) any stops) → (s : HeldScopes) (ts : List Lexeme) →
+  pub node_good : {B : Type 0} (least room : ℕ) (f : ℕ → Reader B) (stops : TokenKind → Bool)
+      → (least ≤ room → (x : ℕ) → Law keep (f x) any stops) → (s : HeldScopes) (ts : List Lexeme) →
       is_end (kind_at ts) ≡ false → Good keep (λ s ts. fits least room ts (behind take_one f s ts)) stops s ts
   node_good least room f stops lf s ts known = fits_good keep least room (behind take_one f) stops s ts (λ fit. take_behind keep f stops (lf fit) s ts known)
 
@@ -101,7 +110,8 @@ module _ (keep : Bool) where
   }
 
   -- what an answer keeps of the scopes
-  pub answer_keeps : {A : Type 0} (read : Reader A) (stops : TokenKind → Bool) (s : HeldScopes) (ts : List Lexeme) (x : Found A) → Good keep read stops s ts → read s ts ≡ done x → Kept keep s x.scopes
+  pub answer_keeps : {A : Type 0} (read : Reader A) (stops : TokenKind → Bool) (s : HeldScopes) (ts : List Lexeme) (x : Found A)
+      → Good keep read stops s ts → read s ts ≡ done x → Kept keep s x.scopes
   answer_keeps {A} read stops s ts x g is = by_read (read s ts) g is
     where
       by_read : (r : Read A) → Outcome keep read stops s ts r → r ≡ done x → Kept keep s x.scopes
@@ -113,7 +123,8 @@ module _ (keep : Bool) {B : Type 0} (part : Option Identifier → Reader B) (sto
   pub tagged_shrinks : Shrinks (behind tag_at part)
   tagged_shrinks s ts x e = by_tokens ts e
     where
-      by_name : (t : Lexeme) (us : List Lexeme) (o : Option ℕ) → spelled_name t.kind ≡ o → behind tag_at part s (t ∷ us) ≡ done x → length x.rest < length (t ∷ us)
+      by_name : (t : Lexeme) (us : List Lexeme) (o : Option ℕ) → spelled_name t.kind ≡ o
+          → behind tag_at part s (t ∷ us) ≡ done x → length x.rest < length (t ∷ us)
       by_name t us None is e = let a = bind_ok e in
           let same : done (found None s (t ∷ us)) ≡ done a.0 = sym (tag_none keep s (t ∷ us) is) ∙ a.1 in
           subst (λ (y : Found (Option Identifier)). part y.tree y.scopes y.rest ≡ done x → length x.rest < length (t ∷ us)) (ok_is same) (λ e. takes s (t ∷ us) x e) a.2
@@ -134,10 +145,12 @@ module _ (keep : Bool) {B : Type 0} (part : Option Identifier → Reader B) (sto
     unfolding and_then
     tagged_good s ts = by_tokens ts (spelled_name (kind_at ts)) refl
       where
-        none_is : (ts : List Lexeme) → spelled_name (kind_at ts) ≡ None → (k : List Lexeme) → first_kind k ≡ first_kind ts → behind tag_at part s k ≡ part None s k
+        none_is : (ts : List Lexeme) → spelled_name (kind_at ts) ≡ None → (k : List Lexeme)
+            → first_kind k ≡ first_kind ts → behind tag_at part s k ≡ part None s k
         none_is ts is k e = rw (tag_none keep s k (ap spelled_name (kind_same k ts e) ∙ is)) refl
 
-        by_tokens : (ts : List Lexeme) (o : Option ℕ) → spelled_name (kind_at ts) ≡ o → Good keep (behind tag_at part) stops s ts
+        by_tokens : (ts : List Lexeme) (o : Option ℕ) → spelled_name (kind_at ts) ≡ o
+            → Good keep (behind tag_at part) stops s ts
         by_tokens ts None is = good_as keep (part None) (behind tag_at part) stops s ts (none_is ts is) (inl (λ x e. takes s ts x e)) (good None s ts)
         by_tokens [] (Some name) is = absurd cc
         by_tokens (t ∷ ts) (Some name) is =
@@ -162,7 +175,9 @@ module _ (keep : Bool) {B : Type 0} (part : Option Identifier → Reader B) (sto
     tagged_law = record { good = tagged_good; ready = tagged_ready }
 
 -- tokens that were put before a token of another kind
-pub put_before : (front : TokenKind → Bool) (at : ℕ) (more : List TokenKind) (t : Lexeme) → front t.kind ≡ false → front (kind_at (numbered_from at more ++ t ∷ [])) ≡ true → length (t ∷ []) < length (numbered_from at more ++ t ∷ [])
+pub put_before : (front : TokenKind → Bool) (at : ℕ) (more : List TokenKind) (t : Lexeme) → front t.kind ≡ false
+    → front (kind_at (numbered_from at more ++ t ∷ [])) ≡ true
+    → length (t ∷ []) < length (numbered_from at more ++ t ∷ [])
 put_before front at [] t h is = absurd cc
 put_before front at (kind ∷ more) t h is = let some = longer (suc at) more in omega (arith, some)
   where
@@ -188,7 +203,8 @@ append_same (t ∷ b) (u ∷ c) k h =
     let same = append_same b c k later in
     rw (first, same) refl
 
-pub fewer_tokens : (b c p rest k : List Lexeme) (m : ℕ) → b ≡ c → rest ≡ p ++ k → length rest < length (c ++ k) → length b < suc m → length p < m
+pub fewer_tokens : (b c p rest k : List Lexeme) (m : ℕ) → b ≡ c → rest ≡ p ++ k → length rest < length (c ++ k)
+    → length b < suc m → length p < m
 fewer_tokens b c p rest k m same parts fewer less =
     let one = ap length same in
     let two = ap length parts in

@@ -16,7 +16,8 @@ use Rattle.reading_steps.proofs.Fresh.{fresh_free, free_names_no_type}
 use Rattle.reading_steps.proofs.Steps.{kind_same, refused_here, good_as}
 use Rattle.token_places.proofs.Single.{name_good}
 
-pub identifier_law : (keep : Bool) (front : TokenKind → Bool) → ((name : ℕ) → front (kinds.Name name) ≡ true) → Law keep identifier_at front any
+pub identifier_law : (keep : Bool) (front : TokenKind → Bool) → ((name : ℕ) → front (kinds.Name name) ≡ true)
+    → Law keep identifier_at front any
 identifier_law keep front named = record {
   good = λ s ts. by_test s ts (is_identifier s (spelled_name (kind_at ts))) refl;
   ready = λ s at. record {
@@ -29,7 +30,8 @@ identifier_law keep front named = record {
   };
 }
   where
-    by_test : (s : HeldScopes) (ts : List Lexeme) (b : Bool) → is_identifier s (spelled_name (kind_at ts)) ≡ b → Good keep identifier_at any s ts
+    by_test : (s : HeldScopes) (ts : List Lexeme) (b : Bool) → is_identifier s (spelled_name (kind_at ts)) ≡ b
+        → Good keep identifier_at any s ts
     by_test s ts true is =
         good_as keep name_at identifier_at any s ts (λ k e. rw (kind_same k ts e, is) refl) (inl (λ x e. identifier_shrinks s ts x (rw is e))) (name_good keep any s ts)
     by_test s ts false is = refused_here keep identifier_at any s ts Unexpected (λ k e. rw (kind_same k ts e, is) refl)

@@ -83,29 +83,30 @@ pub name_attribute : (kind : TokenKind) → is_name_kind kind ≡ true → is_at
 name_attribute (kinds.Name name) h = refl
 name_attribute kind h = absurd cc
 
-specs_open_brace : (kind : TokenKind) → stops_specs kind ≡ true → is_open_brace kind ≡ false
-specs_open_brace (kinds.Punct puncts.OpenBrace) h = absurd cc
-specs_open_brace kind h = refl
-
 not_close : (kind : TokenKind) → is_close_brace kind ≡ true → not (is_close_brace kind) ≡ false
 not_close kind h = rw h refl
 
-present_ready : (keep : Bool) (d : SomeDeclr) (it : Declr) (front stops : TokenKind → Bool) → ((kind : TokenKind) → stops kind ≡ true → front kind ≡ true) → d ≡ some_declr it → (s : HeldScopes) (at : ℕ) →
+present_ready : (keep : Bool) (d : SomeDeclr) (it : Declr) (front stops : TokenKind → Bool)
+    → ((kind : TokenKind) → stops kind ≡ true → front kind ≡ true) → d ≡ some_declr it → (s : HeldScopes) (at : ℕ) →
     Ready keep (present d) front stops s at
 present_ready keep d it front stops h e s at = subst (λ (d : SomeDeclr). Ready keep (present d) front stops s at) (sym e) (ready_ends keep it front stops s at h)
 
-pub present_good : (keep : Bool) (d : SomeDeclr) (stops : TokenKind → Bool) (s : HeldScopes) (ts : List Lexeme) → (it : Declr) → d ≡ some_declr it → Good keep (present d) stops s ts
+pub present_good : (keep : Bool) (d : SomeDeclr) (stops : TokenKind → Bool) (s : HeldScopes) (ts : List Lexeme)
+    → (it : Declr) → d ≡ some_declr it → Good keep (present d) stops s ts
 present_good keep d stops s ts it e = subst (λ (d : SomeDeclr). Good keep (present d) stops s ts) (sym e) (ends_good keep it stops s ts)
 
 module _ (n : ℕ) (inner : Inner) (places : InnerLaws n inner) (laws : Laws [] n inner) where
   -- an expression inside, before some of the tokens that end one
-  pub expr_law : (reach : Reach) (room : ℕ) → room < n → 1 ≤ room → (front stops : TokenKind → Bool) → ((kind : TokenKind) → is_number kind ≡ true → front kind ≡ true) →
-      ((kind : TokenKind) → stops kind ≡ true → stops_expr reach kind ≡ true) → Law true (inner.expr reach nothing room) front stops
+  pub expr_law : (reach : Reach) (room : ℕ) → room < n → 1 ≤ room → (front stops : TokenKind → Bool)
+      → ((kind : TokenKind) → is_number kind ≡ true → front kind ≡ true) →
+      ((kind : TokenKind) → stops kind ≡ true → stops_expr reach kind ≡ true)
+      → Law true (inner.expr reach nothing room) front stops
   expr_law reach room less one front stops f h =
       law_before true (inner.expr reach nothing room) is_number front (stops_expr reach) stops h f
       (record { good = λ s ts. places.exprs.good reach nothing room less s ts; ready = λ s at. places.exprs.ready reach nothing room less (omega (arith, one)) s at })
 
-  pub specs_here_good : (role : Role) (room : ℕ) → room < suc n → (s : HeldScopes) (ts : List Lexeme) → Good true (specs_here inner role room) stops_specs s ts
+  pub specs_here_good : (role : Role) (room : ℕ) → room < suc n → (s : HeldScopes) (ts : List Lexeme)
+      → Good true (specs_here inner role room) stops_specs s ts
   unfolding specs_here
   specs_here_good role room less s ts =
       if_good true (begins_role role) (λ s ts. fits 2 room ts (inner.specs role no_words (room - 1) s ts)) (λ s ts. refuses Unexpected ts) stops_specs s ts
@@ -114,15 +115,19 @@ module _ (n : ℕ) (inner : Inner) (places : InnerLaws n inner) (laws : Laws [] 
       (λ is. inl (λ x e. laws.words.shrinks role (room - 1) s ts x (fits_ok 2 room ts e).1))
       (λ is. inl (λ x e. absurd cc))
 
-  pub specs_here_ready : (role : Role) (room : ℕ) → room < suc n → 2 ≤ room → (s : HeldScopes) (at : ℕ) → Ready true (specs_here inner role room) is_int stops_specs s at
+  pub specs_here_ready : (role : Role) (room : ℕ) → room < suc n → 2 ≤ room → (s : HeldScopes) (at : ℕ)
+      → Ready true (specs_here inner role room) is_int stops_specs s at
   unfolding specs_here
   specs_here_ready role room less two s at =
       ready_as true (λ s ts. fits 2 room ts (inner.specs role no_words (room - 1) s ts)) (specs_here inner role room) is_int stops_specs s at (λ k h. rw (int_begins role s (kind_at k) h) refl)
       (ready_fits true 2 room (inner.specs role no_words (room - 1)) is_int stops_specs s at two (places.words.begins role (room - 1) (omega (arith, less, two)) (omega (arith, two)) s at))
 
   -- [sign cond]
-  pub value_law : (test : TokenKind → Bool) (room : ℕ) → room < suc n → ((kind : TokenKind) → test kind ≡ true → is_end kind ≡ false) → (front stops : TokenKind → Bool) →
-      ((kind : TokenKind) → stops kind ≡ true → front kind ≡ true) → ((kind : TokenKind) → stops kind ≡ true → test kind ≡ false) → ((kind : TokenKind) → stops kind ≡ true → stops_operand kind ≡ true) →
+  pub value_law : (test : TokenKind → Bool) (room : ℕ) → room < suc n
+      → ((kind : TokenKind) → test kind ≡ true → is_end kind ≡ false) → (front stops : TokenKind → Bool) →
+      ((kind : TokenKind) → stops kind ≡ true → front kind ≡ true)
+      → ((kind : TokenKind) → stops kind ≡ true → test kind ≡ false)
+      → ((kind : TokenKind) → stops kind ≡ true → stops_operand kind ≡ true) →
       Law true (value_with inner test room) front stops
   unfolding value_with
   value_law test room less known front stops fronts off operand = record {
@@ -151,11 +156,13 @@ module _ (n : ℕ) (inner : Inner) (places : InnerLaws n inner) (laws : Laws [] 
           let b = bind_ok a.2 in
           omega (arith, take_falls _ _ _ a.1, laws.exprs.shrinks _ _ _ _ _ _ b.1, left_is b.2)
 
-  named_there : (wanted : Option Kind) (flag : Bool) (room : ℕ) (s : HeldScopes) (ts : List Lexeme) (x : Found Declared) → inner.declr Named wanted flag room s ts ≡ done x → (d : Declr) × (x.tree.declr ≡ some_declr d)
+  named_there : (wanted : Option Kind) (flag : Bool) (room : ℕ) (s : HeldScopes) (ts : List Lexeme) (x : Found Declared)
+      → inner.declr Named wanted flag room s ts ≡ done x → (d : Declr) × (x.tree.declr ≡ some_declr d)
   named_there wanted flag room s ts x e = places.declrs.there Named wanted flag room s ts x e (laws.declrs.shrinks wanted flag room s ts x e)
 
   -- A declarator with a name.
-  pub named_declr_good : (wanted : Option Kind) (room : ℕ) → room < n → (s : HeldScopes) (ts : List Lexeme) → Good (holds_none wanted) (named_declr inner wanted room) stops_named s ts
+  pub named_declr_good : (wanted : Option Kind) (room : ℕ) → room < n → (s : HeldScopes) (ts : List Lexeme)
+      → Good (holds_none wanted) (named_declr inner wanted room) stops_named s ts
   unfolding named_declr
   named_declr_good wanted room less s ts =
       bind_good (holds_none wanted) (inner.declr Named wanted false room) (λ d. present d.declr) stops_named stops_named s ts
@@ -167,7 +174,8 @@ module _ (n : ℕ) (inner : Inner) (places : InnerLaws n inner) (laws : Laws [] 
       (λ x is. let d = named_there wanted false room s ts x is in present_good (holds_none wanted) x.tree.declr stops_named x.scopes x.rest d.0 d.1)
       (inr (λ kind h. h))
 
-  pub named_declr_ready : (wanted : Option Kind) (room : ℕ) → room < n → 1 ≤ room → (s : HeldScopes) (at : ℕ) → Ready (holds_none wanted) (named_declr inner wanted room) is_name_kind stops_named s at
+  pub named_declr_ready : (wanted : Option Kind) (room : ℕ) → room < n → 1 ≤ room → (s : HeldScopes) (at : ℕ)
+      → Ready (holds_none wanted) (named_declr inner wanted room) is_name_kind stops_named s at
   unfolding named_declr
   named_declr_ready wanted room less one s at =
       ready_bind (holds_none wanted) (inner.declr Named wanted false room) (λ d. present d.declr) is_name_kind stops_named stops_named s at (places.declrs.named wanted false room less one s at)
@@ -177,7 +185,8 @@ module _ (n : ℕ) (inner : Inner) (places : InnerLaws n inner) (laws : Laws [] 
       present_ready (holds_none wanted) tree.declr d.0 stops_named stops_named (λ kind h. h) d.1 scopes at)
 
   -- one was read, so there was room for it
-  pub named_declr_room : (wanted : Option Kind) (room : ℕ) (s : HeldScopes) (ts : List Lexeme) (x : Found Declr) → named_declr inner wanted room s ts ≡ done x → 1 ≤ room
+  pub named_declr_room : (wanted : Option Kind) (room : ℕ) (s : HeldScopes) (ts : List Lexeme) (x : Found Declr)
+      → named_declr inner wanted room s ts ≡ done x → 1 ≤ room
   unfolding named_declr
   named_declr_room wanted room s ts x e = let a = bind_ok e in places.declrs.room Named wanted false room s ts a.0 a.1 (laws.declrs.shrinks wanted false room s ts a.0 a.1)
 
@@ -185,7 +194,8 @@ module _ (n : ℕ) (inner : Inner) (places : InnerLaws n inner) (laws : Laws [] 
   semi_attrs : (room : ℕ) → Law true (attrs_at room) is_semicolon is_semicolon
   semi_attrs room = attrs_law true room is_semicolon is_semicolon ((λ kind h. h), semi_attribute)
 
-  width_good : (room : ℕ) → room < suc n → (s : HeldScopes) (ts : List Lexeme) → is_colon (kind_at ts) ≡ true → Good true (width_with inner room) is_semicolon s ts
+  width_good : (room : ℕ) → room < suc n → (s : HeldScopes) (ts : List Lexeme) → is_colon (kind_at ts) ≡ true
+      → Good true (width_with inner room) is_semicolon s ts
   unfolding width_with
   width_good room less s ts is =
       node_good true 2 room (λ colon. behind (inner.expr Conditional nothing (room - 1)) (λ e. behind (attrs_at room) (λ attrs. ends (unnamed colon e attrs)))) is_semicolon
@@ -204,13 +214,15 @@ module _ (n : ℕ) (inner : Inner) (places : InnerLaws n inner) (laws : Laws [] 
       (value_law is_colon room less colon_end is_semicolon is_semicolon (λ kind h. h) semi_colon semi_operand)
       (λ width. mapped_law true (attrs_at room) (named d width) is_semicolon is_semicolon (semi_attrs room)) (inr (λ kind h. h))
 
-  field_good : (room : ℕ) → room < suc n → 1 ≤ room → (s : HeldScopes) (ts : List Lexeme) → Good true (field_with inner room) is_semicolon s ts
+  field_good : (room : ℕ) → room < suc n → 1 ≤ room → (s : HeldScopes) (ts : List Lexeme)
+      → Good true (field_with inner room) is_semicolon s ts
   unfolding field_with
   field_good room less one s ts =
       behind_good true (named_declr inner None (room - 1)) (field_rest room) is_semicolon is_semicolon s ts
       (good_before true (named_declr inner None (room - 1)) stops_named is_semicolon s ts semi_named (named_declr_good None (room - 1) (omega (arith, less, one)) s ts)) (field_rest_law room less) (inr (λ kind h. h))
 
-  pub mem_declr_good : (room : ℕ) → room < suc n → 1 ≤ room → (s : HeldScopes) (ts : List Lexeme) → Good true (mem_declr_with inner room) is_semicolon s ts
+  pub mem_declr_good : (room : ℕ) → room < suc n → 1 ≤ room → (s : HeldScopes) (ts : List Lexeme)
+      → Good true (mem_declr_with inner room) is_semicolon s ts
   unfolding mem_declr_with
   mem_declr_good room less one s ts =
       if_good true (λ s. is_colon) (width_with inner room) (field_with inner room) is_semicolon s ts (λ is. width_good room less s ts is) (λ is. field_good room less one s ts)
@@ -218,14 +230,16 @@ module _ (n : ℕ) (inner : Inner) (places : InnerLaws n inner) (laws : Laws [] 
       (λ is. inl (λ x e. mem_declr_shrinks [] none_tokens n inner laws room s ts x (else_is (is_colon (kind_at ts)) _ is e)))
 
   -- one that was read has two levels at least
-  mem_declr_room : (room : ℕ) (s : HeldScopes) (ts : List Lexeme) (x : Found MemDeclr) → mem_declr_with inner room s ts ≡ done x → 2 ≤ room
+  mem_declr_room : (room : ℕ) (s : HeldScopes) (ts : List Lexeme) (x : Found MemDeclr)
+      → mem_declr_with inner room s ts ≡ done x → 2 ≤ room
   unfolding mem_declr_with width_with field_with
   mem_declr_room room s ts x e =
       if_ok (is_colon (kind_at ts)) e (λ is e. (fits_ok 2 room ts e).0)
       (λ is e. let a = bind_ok e in let one = named_declr_room None (room - 1) s ts a.0 a.1 in omega (arith, one))
 
   -- a name is one
-  mem_declr_ready : (room : ℕ) → room < suc n → 2 ≤ room → (s : HeldScopes) (at : ℕ) → Ready true (mem_declr_with inner room) is_name_kind is_semicolon s at
+  mem_declr_ready : (room : ℕ) → room < suc n → 2 ≤ room → (s : HeldScopes) (at : ℕ)
+      → Ready true (mem_declr_with inner room) is_name_kind is_semicolon s at
   unfolding mem_declr_with field_with
   mem_declr_ready room less two s at =
       ready_as true (behind (named_declr inner None (room - 1)) (field_rest room)) (mem_declr_with inner room) is_name_kind is_semicolon s at (λ k h. rw (name_colon (kind_at k) h) refl)
@@ -233,12 +247,14 @@ module _ (n : ℕ) (inner : Inner) (places : InnerLaws n inner) (laws : Laws [] 
       (ready_before true (named_declr inner None (room - 1)) is_name_kind is_name_kind stops_named is_semicolon s at semi_named (λ kind h. h) (named_declr_ready None (room - 1) (omega (arith, less, two)) (omega (arith, two)) s at))
       (λ tree scopes gives at. (field_rest_law room less tree).ready scopes at))
 
-  first_member_good : (room : ℕ) → room < suc n → 1 ≤ room → (s : HeldScopes) (ts : List Lexeme) → Good true (first_member inner room) is_semicolon s ts
+  first_member_good : (room : ℕ) → room < suc n → 1 ≤ room → (s : HeldScopes) (ts : List Lexeme)
+      → Good true (first_member inner room) is_semicolon s ts
   unfolding first_member
   first_member_good room less one s ts = mapped_good true (mem_declr_with inner room) (λ d. record { attrs = []; declr = d }) is_semicolon s ts (mem_declr_good room less one s ts)
 
   -- Attr* MemDeclr, behind a comma
-  next_member_law : (room : ℕ) → room < suc n → 2 ≤ room → (comma : ℕ) → Law true (next_member inner room comma) any is_semicolon
+  next_member_law : (room : ℕ) → room < suc n → 2 ≤ room → (comma : ℕ)
+      → Law true (next_member inner room comma) any is_semicolon
   unfolding next_member
   next_member_law room less two comma =
       bind_law true (attrs_at room) (λ attrs. behind (mem_declr_with inner room) (λ d. ends (one_more (record { attrs = attrs; declr = d })))) any is_name_kind is_semicolon
@@ -247,11 +263,13 @@ module _ (n : ℕ) (inner : Inner) (places : InnerLaws n inner) (laws : Laws [] 
       (record { good = λ s ts. mem_declr_good room less (omega (arith, two)) s ts; ready = λ s at. mem_declr_ready room less two s at }))
       (inl (λ attrs s ts y e. let a = bind_ok e in omega (arith, mem_declr_shrinks [] none_tokens n inner laws room s ts a.0 a.1, left_is a.2)))
 
-  members_listed : (room : ℕ) → room < suc n → 1 ≤ room → (s : HeldScopes) (ts : List Lexeme) → Good true (listed (first_member inner room) (next_member inner room)) is_semicolon s ts
+  members_listed : (room : ℕ) → room < suc n → 1 ≤ room → (s : HeldScopes) (ts : List Lexeme)
+      → Good true (listed (first_member inner room) (next_member inner room)) is_semicolon s ts
   unfolding listed first_member
   members_listed room less one s ts = by_room (nat_le 2 room) refl
     where
-      by_room : (b : Bool) → nat_le 2 room ≡ b → Good true (listed (first_member inner room) (next_member inner room)) is_semicolon s ts
+      by_room : (b : Bool) → nat_le 2 room ≡ b
+          → Good true (listed (first_member inner room) (next_member inner room)) is_semicolon s ts
       by_room true is =
           listed_good true (next_member inner room) (next_member_falls [] none_tokens n inner laws room) is_semicolon is_semicolon (λ kind h. h) semi_comma (next_member_law room less (leb-true 2 room is))
           (first_member inner room) s ts (first_member_good room less one s ts)
@@ -275,7 +293,8 @@ module _ (n : ℕ) (inner : Inner) (places : InnerLaws n inner) (laws : Laws [] 
   abbrev member_rest : List ℕ → ℕ → SpecWords → Reader StructItem
   member_rest exts room words = behind (mem_declrs_with inner (room - 1)) (λ ds. behind (token_at is_semicolon) (λ semi. ends (member exts words (mem_declrs_from ds) semi)))
 
-  member_rest_law : (exts : List ℕ) (room : ℕ) → room < suc n → 2 ≤ room → (words : SpecWords) → Law true (member_rest exts room words) stops_specs any
+  member_rest_law : (exts : List ℕ) (room : ℕ) → room < suc n → 2 ≤ room → (words : SpecWords)
+      → Law true (member_rest exts room words) stops_specs any
   member_rest_law exts room less two words =
       bind_law true (mem_declrs_with inner (room - 1)) (λ ds. behind (token_at is_semicolon) (λ semi. ends (member exts words (mem_declrs_from ds) semi))) stops_specs is_semicolon any
       (mem_declrs_law (room - 1) (omega (arith, less, two)) (omega (arith, two)))
@@ -290,14 +309,17 @@ module _ (n : ℕ) (inner : Inner) (places : InnerLaws n inner) (laws : Laws [] 
       omega (arith, mem_declrs_falls [] none_tokens n inner laws (room - 1) s ts a.0 a.1, token_falls is_semicolon _ _ _ b.1, left_is b.2)
 
   -- specifiers that were read had room for two levels
-  pub specs_here_room : (role : Role) (room : ℕ) (s : HeldScopes) (ts : List Lexeme) (x : Found SpecWords) → specs_here inner role room s ts ≡ done x → 2 ≤ room
+  pub specs_here_room : (role : Role) (room : ℕ) (s : HeldScopes) (ts : List Lexeme) (x : Found SpecWords)
+      → specs_here inner role room s ts ≡ done x → 2 ≤ room
   unfolding specs_here
   specs_here_room role room s ts x e = if_ok (begins_role role s (kind_at ts)) e (λ is e. (fits_ok 2 room ts e).0) (λ is e. absurd cc)
 
-  behind_exts_good : (exts : List ℕ) (room : ℕ) → room < suc n → (s : HeldScopes) (ts : List Lexeme) → Good true (behind (specs_here inner Typed room) (member_rest exts room)) any s ts
+  behind_exts_good : (exts : List ℕ) (room : ℕ) → room < suc n → (s : HeldScopes) (ts : List Lexeme)
+      → Good true (behind (specs_here inner Typed room) (member_rest exts room)) any s ts
   behind_exts_good exts room less s ts = by_room (nat_le 2 room) refl
     where
-      by_room : (b : Bool) → nat_le 2 room ≡ b → Good true (behind (specs_here inner Typed room) (member_rest exts room)) any s ts
+      by_room : (b : Bool) → nat_le 2 room ≡ b
+          → Good true (behind (specs_here inner Typed room) (member_rest exts room)) any s ts
       by_room true is =
           behind_good true (specs_here inner Typed room) (member_rest exts room) stops_specs any s ts (specs_here_good Typed room less s ts) (member_rest_law exts room less (leb-true 2 room is))
           (inl (λ words s ts y e. member_rest_shrinks exts room words s ts y e))
@@ -305,11 +327,13 @@ module _ (n : ℕ) (inner : Inner) (places : InnerLaws n inner) (laws : Laws [] 
           never_behind true (specs_here inner Typed room) (member_rest exts room) stops_specs any (kinds.Punct puncts.Semicolon) refl s ts
           (λ k x e. let two = specs_here_room Typed room s k x e in let none = leb-false 2 room is in absurd (omega (arith, two, none))) (specs_here_good Typed room less s ts)
 
-  pub exts_room : (room : ℕ) (s : HeldScopes) (ts : List Lexeme) (x : Found (List ℕ)) → extensions_at room s ts ≡ done x → length x.rest < length ts → 2 ≤ room
+  pub exts_room : (room : ℕ) (s : HeldScopes) (ts : List Lexeme) (x : Found (List ℕ)) → extensions_at room s ts ≡ done x
+      → length x.rest < length ts → 2 ≤ room
   unfolding extensions_at
   exts_room room s ts x e less = repeated_room is_extension 2 room take_one (λ s ts x e. let one = take_falls s ts x e in omega (arith, one)) s ts x e less
 
-  member_good : (room : ℕ) → room < suc n → (s : HeldScopes) (ts : List Lexeme) → Good true (member_with inner room) any s ts
+  member_good : (room : ℕ) → room < suc n → (s : HeldScopes) (ts : List Lexeme)
+      → Good true (member_with inner room) any s ts
   unfolding member_with
   member_good room less s ts =
       bind_good true (extensions_at room) (λ exts. behind (specs_here inner Typed room) (member_rest exts room)) is_int any s ts
@@ -324,7 +348,8 @@ module _ (n : ℕ) (inner : Inner) (places : InnerLaws n inner) (laws : Laws [] 
       let rest : length y.rest < length a.0.rest = member_rest_shrinks x.tree room a.0.tree a.0.scopes a.0.rest y a.2 in
       omega (arith, one, rest)))
 
-  pub struct_item_good : (room : ℕ) → room < suc n → (s : HeldScopes) (ts : List Lexeme) → Good true (struct_item_with inner room) any s ts
+  pub struct_item_good : (room : ℕ) → room < suc n → (s : HeldScopes) (ts : List Lexeme)
+      → Good true (struct_item_with inner room) any s ts
   unfolding struct_item_with
   struct_item_good room less s ts =
       if_good true (λ s. is_semicolon) (λ s ts. fits 1 room ts (behind take_one (λ semi. ends (member_semi (record { token = semi }))) s ts))
@@ -346,7 +371,8 @@ module _ (n : ℕ) (inner : Inner) (places : InnerLaws n inner) (laws : Laws [] 
   members_rest room opening =
       behind (repeated (λ kind. not (is_close_brace kind)) (struct_item_with inner (room - 1))) (λ items. behind (token_at is_close_brace) (λ closing. ends (some_body opening (struct_items_from items) closing)))
 
-  pub members_good : (room : ℕ) → room < suc n → 1 ≤ room → (s : HeldScopes) (ts : List Lexeme) → is_open_brace (kind_at ts) ≡ true → Good true (members_with inner room) any s ts
+  pub members_good : (room : ℕ) → room < suc n → 1 ≤ room → (s : HeldScopes) (ts : List Lexeme)
+      → is_open_brace (kind_at ts) ≡ true → Good true (members_with inner room) any s ts
   unfolding members_with
   members_good room less one s ts is =
       take_behind true (members_rest room) any

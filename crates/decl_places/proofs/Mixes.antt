@@ -23,27 +23,27 @@ use Rattle.c_specs.specs.Reading.{pushed}
 use Rattle.c_reading.specs.Tokens.{word_of}
 use Rattle.decl_places.specs.Laws.{WordsAreCompleted}
 
-mix_pushed : (mix : Option Mix) (ws : SpecWords) (w : SpecWord) → mix_from mix (pushed ws w) ≡ then_class (mix_from mix ws) (class_of w)
+mix_pushed : (mix : Option Mix) (ws : SpecWords) (w : SpecWord)
+    → mix_from mix (pushed ws w) ≡ then_class (mix_from mix ws) (class_of w)
 mix_pushed mix no_words w = refl
 mix_pushed mix (more_words x ws) w = mix_pushed (then_class mix (class_of x)) ws w
 
 pub mix_of_pushed : (ws : SpecWords) (w : SpecWord) → mix_of (pushed ws w) ≡ then_class (mix_of ws) (class_of w)
 mix_of_pushed ws w = mix_pushed (Some no_mix) ws w
 
--- the words go on to be a mix
-pub goes_begins : (ws : SpecWords) (w : SpecWord) → goes_on ws (class_of w) ≡ true → is_some (mix_of (pushed ws w)) ≡ true
-goes_begins ws w h = ap is_some (mix_of_pushed ws w) ∙ h
-
 -- a struct, a union, an enumeration and a typedef name are a whole type
-named_is_whole : (mix : Option Mix) → is_some (then_class mix classes.Named) ≡ true → whole_in (then_class mix classes.Named) ≡ true
+named_is_whole : (mix : Option Mix) → is_some (then_class mix classes.Named) ≡ true
+    → whole_in (then_class mix classes.Named) ≡ true
 named_is_whole None h = absurd cc
 named_is_whole (Some mix) h = by_types mix.types h
   where
-    by_types : (types : Types) → is_some (with_types mix (with_named types)) ≡ true → whole_in (with_types mix (with_named types)) ≡ true
+    by_types : (types : Types) → is_some (with_types mix (with_named types)) ≡ true
+        → whole_in (with_types mix (with_named types)) ≡ true
     by_types (Words bases.Nothing marks.Unmarked) h = refl
     by_types types h = absurd cc
 
-pub named_whole : (ws : SpecWords) (w : SpecWord) → class_of w ≡ classes.Named → goes_on ws (class_of w) ≡ true → is_whole_mix (pushed ws w) ≡ true
+pub named_whole : (ws : SpecWords) (w : SpecWord) → class_of w ≡ classes.Named → goes_on ws (class_of w) ≡ true
+    → is_whole_mix (pushed ws w) ≡ true
 named_whole ws w is h =
     ap whole_in (mix_of_pushed ws w ∙ ap (then_class (mix_of ws)) is) ∙ named_is_whole (mix_of ws) (ap (λ (class : Class). is_some (then_class (mix_of ws) class)) (sym is) ∙ h)
 
@@ -59,7 +59,8 @@ put_types mix m None h = absurd cc
 put_types mix m (Some after) h = same_types (record { types = mix.types; storage = after }) m h
 
 -- a word that is no type leaves the type as it is
-free_types : (w : SpecWord) (mix m : Mix) → is_type_word w ≡ false → then_class (Some mix) (class_of w) ≡ Some m → m.types ≡ mix.types
+free_types : (w : SpecWord) (mix m : Mix) → is_type_word w ≡ false → then_class (Some mix) (class_of w) ≡ Some m
+    → m.types ≡ mix.types
 free_types (storage word) mix m e h = put_types mix m (stored mix.storage (storing word.keyword)) h
 free_types (thread token) mix m e h = put_types mix m (stored mix.storage stores.Thread) h
 free_types (inline_word token) mix m e h = same_types mix m h
@@ -79,16 +80,19 @@ none_from : (ws : SpecWords) → mix_from None ws ≡ None
 none_from no_words = refl
 none_from (more_words w ws) = none_from ws
 
-untyped_types : (ws : SpecWords) (mix m : Mix) → is_typed ws ≡ false → mix_from (Some mix) ws ≡ Some m → m.types ≡ mix.types
+untyped_types : (ws : SpecWords) (mix m : Mix) → is_typed ws ≡ false → mix_from (Some mix) ws ≡ Some m
+    → m.types ≡ mix.types
 untyped_types no_words mix m e h = same_types mix m h
 untyped_types (more_words w ws) mix m e h = by_word (λ next e h. untyped_types ws next m e h) (is_type_word w) refl e
   where
-    by_mix : ((next : Mix) → is_typed ws ≡ false → mix_from (Some next) ws ≡ Some m → m.types ≡ next.types) → (o : Option Mix) → then_class (Some mix) (class_of w) ≡ o → is_type_word w ≡ false →
+    by_mix : ((next : Mix) → is_typed ws ≡ false → mix_from (Some next) ws ≡ Some m → m.types ≡ next.types)
+        → (o : Option Mix) → then_class (Some mix) (class_of w) ≡ o → is_type_word w ≡ false →
         is_typed ws ≡ false → mix_from o ws ≡ Some m → m.types ≡ mix.types
     by_mix again None is free e h = let none = none_from ws in absurd cc
     by_mix again (Some next) is free e h = again next e h ∙ free_types w mix next free is
 
-    by_word : ((next : Mix) → is_typed ws ≡ false → mix_from (Some next) ws ≡ Some m → m.types ≡ next.types) → (b : Bool) → is_type_word w ≡ b → (if b then true else is_typed ws) ≡ false → m.types ≡ mix.types
+    by_word : ((next : Mix) → is_typed ws ≡ false → mix_from (Some next) ws ≡ Some m → m.types ≡ next.types)
+        → (b : Bool) → is_type_word w ≡ b → (if b then true else is_typed ws) ≡ false → m.types ≡ mix.types
     by_word again true is e = absurd cc
     by_word again false is e = by_mix again (then_class (Some mix) (class_of w)) refl is e h
 
@@ -118,12 +122,14 @@ pub record MadeWhole (ws : SpecWords) : Type 0 where
 pub made_whole : (ws : SpecWords) → is_some (mix_of ws) ≡ true → is_whole_mix ws ≡ false → MadeWhole ws
 made_whole ws begins none = by_mix (mix_of ws) refl begins none
   where
-    by_types : (mix : Mix) (base : Base) (mark : Mark) → mix_of ws ≡ Some mix → mix.types ≡ Words base mark → whole_of (Words base mark) ≡ false → MadeWhole ws
+    by_types : (mix : Mix) (base : Base) (mark : Mark) → mix_of ws ≡ Some mix → mix.types ≡ Words base mark
+        → whole_of (Words base mark) ≡ false → MadeWhole ws
     by_types mix bases.Nothing marks.Unmarked is types none = record { keyword = keywords.Int; is_int_or_double = inl refl; goes = rw (is, types) refl; whole = rw (is, types) refl }
     by_types mix bases.Long marks.Complex is types none = record { keyword = keywords.Double; is_int_or_double = inr refl; goes = rw (is, types) refl; whole = rw (is, types) refl }
     by_types mix base mark is types none = absurd cc
 
-    by_all : (mix : Mix) (types : Types) → mix_of ws ≡ Some mix → mix.types ≡ types → whole_of types ≡ false → MadeWhole ws
+    by_all : (mix : Mix) (types : Types) → mix_of ws ≡ Some mix → mix.types ≡ types → whole_of types ≡ false
+        → MadeWhole ws
     by_all mix Named is types none = absurd cc
     by_all mix (Words base mark) is types none = by_types mix base mark is types none
 
@@ -137,7 +143,8 @@ pub specs_high : (ws : SpecWords) → 1 ≤ specs_height ws
 specs_high no_words = omega arith
 specs_high (more_words w ws) = let rest : 1 ≤ specs_height ws = specs_high ws in omega (arith, rest)
 
-pub pushed_low : (ws : SpecWords) (w : SpecWord) (room : ℕ) → specs_height ws ≤ room → spec_word_height w + 1 ≤ room → specs_height (pushed ws w) ≤ room
+pub pushed_low : (ws : SpecWords) (w : SpecWord) (room : ℕ) → specs_height ws ≤ room → spec_word_height w + 1 ≤ room
+    → specs_height (pushed ws w) ≤ room
 pushed_low no_words w room h l = omega (arith, h, l)
 pushed_low (more_words x ws) w room h l = let rest = pushed_low ws w room (omega (arith, h)) l in omega (arith, h, rest)
 
@@ -188,7 +195,9 @@ auto_mix : (ws : SpecWords) (mix : Option Mix) → has_auto ws ≡ true → IsNa
 auto_mix no_words mix h = absurd cc
 auto_mix (more_words w ws) mix h = by_word (is_auto w) refl h (auto_mix ws (then_class mix (class_of w)))
   where
-    by_word : (b : Bool) → is_auto w ≡ b → b || has_auto ws ≡ true → (has_auto ws ≡ true → IsNamedMix (mix_from (then_class mix (class_of w)) ws)) → IsNamedMix (mix_from (then_class mix (class_of w)) ws)
+    by_word : (b : Bool) → is_auto w ≡ b → b || has_auto ws ≡ true
+        → (has_auto ws ≡ true → IsNamedMix (mix_from (then_class mix (class_of w)) ws))
+        → IsNamedMix (mix_from (then_class mix (class_of w)) ws)
     by_word true is h later = named_from ws (then_class mix (class_of w)) (subst (λ (class : Class). IsNamedMix (then_class mix class)) (sym (auto_class w is)) (named_class mix))
     by_word false is h later = later h
 
@@ -200,7 +209,8 @@ auto_base ws h = by_mix (mix_of ws) (auto_mix ws (Some no_mix) h)
     by_mix (Some mix) h = rw h refl
 
 -- `__auto_type` among words is one of the first, or the last
-pub pushed_auto : (ws : SpecWords) (w : SpecWord) → has_auto (pushed ws w) ≡ true → (has_auto ws ≡ true) ⊎ (is_auto w ≡ true)
+pub pushed_auto : (ws : SpecWords) (w : SpecWord) → has_auto (pushed ws w) ≡ true
+    → (has_auto ws ≡ true) ⊎ (is_auto w ≡ true)
 pushed_auto no_words w h = by_word (is_auto w) refl h
   where
     by_word : (b : Bool) → is_auto w ≡ b → b || false ≡ true → (false ≡ true) ⊎ (is_auto w ≡ true)
@@ -208,7 +218,9 @@ pushed_auto no_words w h = by_word (is_auto w) refl h
     by_word false is h = absurd cc
 pushed_auto (more_words x ws) w h = by_word (is_auto x) refl h (pushed_auto ws w)
   where
-    by_word : (b : Bool) → is_auto x ≡ b → b || has_auto (pushed ws w) ≡ true → (has_auto (pushed ws w) ≡ true → (has_auto ws ≡ true) ⊎ (is_auto w ≡ true)) → (b || has_auto ws ≡ true) ⊎ (is_auto w ≡ true)
+    by_word : (b : Bool) → is_auto x ≡ b → b || has_auto (pushed ws w) ≡ true
+        → (has_auto (pushed ws w) ≡ true → (has_auto ws ≡ true) ⊎ (is_auto w ≡ true))
+        → (b || has_auto ws ≡ true) ⊎ (is_auto w ≡ true)
     by_word true is h later = inl refl
     by_word false is h later = later h
 

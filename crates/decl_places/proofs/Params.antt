@@ -20,7 +20,7 @@ use Rattle.c_reading.specs.Reading.{Found, Read, Reader, ends, fits, kind_at, ta
 use Rattle.c_reading.specs.Tokens.{is_made, word_qual_of, array_word_of, is_open_bracket, is_close_bracket, is_open_paren, is_close_paren, is_star, is_dots, is_attribute, quals_at, array_words_at, attr_at, attrs_at}
 use Rattle.c_reading.specs.Parts.{Inner, nothing, star, Declared, ParamItem, params_from}
 use Rattle.c_reading.specs.Specifying.{specs_here}
-use Rattle.c_reading.specs.Declaring.{is_identifier, begins_identifiers, identifier_at, names_list, identifiers_of, identifiers_with, list_behind, is_bare, are_none, takes_attrs, with_array, with_params, closed_by, words_of_quals, words_of_attrs, star_size, size_with, array_with, param_attrs, param_with, next_param, params_with, prototype_with, params_behind}
+use Rattle.c_reading.specs.Declaring.{begins_identifiers, identifier_at, names_list, identifiers_of, identifiers_with, list_behind, is_bare, are_none, takes_attrs, with_array, with_params, closed_by, words_of_quals, words_of_attrs, star_size, size_with, array_with, param_attrs, param_with, next_param, params_with, prototype_with, params_behind}
 use Rattle.c_reading.proofs.Binding.{found, done, ok_is, bind_ok, bind_is, fits_ok, take_falls, token_falls, if_ok}
 use Rattle.c_reading.proofs.Loops.{after, run_is, run_ends}
 use Rattle.c_reading.proofs.Forms.{Falls, Shrinks}
@@ -70,10 +70,6 @@ paren_dots : (kind : TokenKind) → is_close_paren kind ≡ true → is_dots kin
 paren_dots (kinds.Punct puncts.CloseParen) h = refl
 paren_dots kind h = absurd cc
 
-dots_qual : (kind : TokenKind) → is_dots kind ≡ true → is_made (word_qual_of kind) ≡ false
-dots_qual (kinds.Punct puncts.Ellipsis) h = refl
-dots_qual kind h = absurd cc
-
 -- what may follow qualifiers behind a comma where a list of parameters is completed
 abbrev dots_or_paren : TokenKind → Bool
 dots_or_paren (kinds.Punct puncts.Ellipsis) = true
@@ -90,16 +86,19 @@ or_qual (kinds.Punct puncts.CloseParen) h = refl
 or_qual kind h = absurd cc
 
 -- no attributes
-pub attrs_none : (room : ℕ) (s : HeldScopes) (k : List Lexeme) → is_attribute (kind_at k) ≡ false → attrs_at room s k ≡ ends [] s k
+pub attrs_none : (room : ℕ) (s : HeldScopes) (k : List Lexeme) → is_attribute (kind_at k) ≡ false
+    → attrs_at room s k ≡ ends [] s k
 unfolding attrs_at repeated
 attrs_none room s k h = run_ends (repeated_turn is_attribute (λ s ts. fits 2 room ts (attr_at s ts))) (row_turn_shrinks is_attribute (λ s ts. fits 2 room ts (attr_at s ts)) (λ s ts x e. none_tokens.attr_shrinks s ts x (fits_ok 2 room ts e).1)) [] s k (rw h refl)
 
-pub attrs_taken : (room : ℕ) (s : HeldScopes) (ts : List Lexeme) (x : Found (List Attr)) → attrs_at room s ts ≡ done x → length x.rest < length ts → 2 ≤ room
+pub attrs_taken : (room : ℕ) (s : HeldScopes) (ts : List Lexeme) (x : Found (List Attr)) → attrs_at room s ts ≡ done x
+    → length x.rest < length ts → 2 ≤ room
 unfolding attrs_at
 attrs_taken room s ts x e less = repeated_room is_attribute 2 room attr_at none_tokens.attr_shrinks s ts x e less
 
 -- some attributes, for which there is room
-pub attrs_some : (room : ℕ) (s : HeldScopes) (ts : List Lexeme) (x : Found (List Attr)) → attrs_at room s ts ≡ done x → (are_none x.tree ≡ true) ⊎ (2 ≤ room)
+pub attrs_some : (room : ℕ) (s : HeldScopes) (ts : List Lexeme) (x : Found (List Attr)) → attrs_at room s ts ≡ done x
+    → (are_none x.tree ≡ true) ⊎ (2 ≤ room)
 unfolding attrs_at repeated
 attrs_some room s ts x e = by_test (is_attribute (kind_at ts)) refl
   where
@@ -127,7 +126,8 @@ module _ (n : ℕ) (inner : Inner) (places : InnerLaws n inner) (laws : Laws [] 
       if is_close_bracket (kind_at ts) then ends (some_size (size_star token)) s ts
       else behind (inner.expr Assigned (star token) (room - 1)) (λ e. ends (some_size (size_value e))) s ts
 
-  star_rest_law : (room : ℕ) → room < suc n → 1 ≤ room → (token : ℕ) → Law true (star_rest room token) any is_close_bracket
+  star_rest_law : (room : ℕ) → room < suc n → 1 ≤ room → (token : ℕ)
+      → Law true (star_rest room token) any is_close_bracket
   star_rest_law room less one token = record {
     good = λ s ts.
         if_good true (λ s. is_close_bracket) (ends (some_size (size_star token))) (behind (inner.expr Assigned (star token) (room - 1)) (λ e. ends (some_size (size_value e)))) is_close_bracket s ts
@@ -139,7 +139,8 @@ module _ (n : ℕ) (inner : Inner) (places : InnerLaws n inner) (laws : Laws [] 
     ready = λ s at. record { more = []; tree = some_size (size_star token); scopes = s; keeps = kept_refl true s; begins = λ k h. refl; reads = λ k h. rw h refl };
   }
 
-  star_size_good : (room : ℕ) → room < suc n → 1 ≤ room → (s : HeldScopes) (ts : List Lexeme) → is_star (kind_at ts) ≡ true → Good true (star_size inner room) is_close_bracket s ts
+  star_size_good : (room : ℕ) → room < suc n → 1 ≤ room → (s : HeldScopes) (ts : List Lexeme)
+      → is_star (kind_at ts) ≡ true → Good true (star_size inner room) is_close_bracket s ts
   unfolding star_size
   star_size_good room less one s ts is = take_behind true (star_rest room) is_close_bracket (star_rest_law room less one) s ts (star_end (kind_at ts) is)
 
@@ -186,7 +187,8 @@ module _ (n : ℕ) (inner : Inner) (places : InnerLaws n inner) (laws : Laws [] 
   abbrev array_made : Declared → ℕ → List ArrayWord → SomeSize → ℕ → Declared
   array_made d opening words size closing = record { declr = some_declr (with_array d.declr opening words size closing); closed = d.closed }
 
-  pub array_good : (d : Declared) (room : ℕ) → room < suc n → 1 ≤ room → (s : HeldScopes) (ts : List Lexeme) → is_open_bracket (kind_at ts) ≡ true → Good true (array_with inner d room) any s ts
+  pub array_good : (d : Declared) (room : ℕ) → room < suc n → 1 ≤ room → (s : HeldScopes) (ts : List Lexeme)
+      → is_open_bracket (kind_at ts) ≡ true → Good true (array_with inner d room) any s ts
   unfolding array_with
   array_good d room less one s ts is =
       take_behind true (λ opening. behind array_words_at (λ words. behind (size_with inner room) (λ size. behind (token_at is_close_bracket) (λ closing. ends (array_made d opening words size closing))))) any
@@ -225,7 +227,8 @@ module _ (n : ℕ) (inner : Inner) (places : InnerLaws n inner) (laws : Laws [] 
   abbrev released : SpecWords → ℕ → Declared → Reader ParamItem
   released words room d s ts = behind (param_attrs inner d.declr room) (λ attrs. ends (item_of words d.declr attrs)) (release Value s) ts
 
-  released_law : (words : SpecWords) (room : ℕ) (d : Declared) → Law false (released words room d) is_close_paren is_close_paren
+  released_law : (words : SpecWords) (room : ℕ) (d : Declared)
+      → Law false (released words room d) is_close_paren is_close_paren
   released_law words room d =
       let l = mapped_law false (param_attrs inner d.declr room) (item_of words d.declr) is_close_paren is_close_paren (attrs_part_law d.declr room) in
       record {
@@ -236,7 +239,8 @@ module _ (n : ℕ) (inner : Inner) (places : InnerLaws n inner) (laws : Laws [] 
   abbrev param_rest : ℕ → SpecWords → Reader ParamItem
   param_rest room words = behind (inner.declr Either (Some Value) false (room - 1)) (released words room)
 
-  param_rest_law : (room : ℕ) → room < suc n → 1 ≤ room → (words : SpecWords) → Law false (param_rest room words) stops_specs is_close_paren
+  param_rest_law : (room : ℕ) → room < suc n → 1 ≤ room → (words : SpecWords)
+      → Law false (param_rest room words) stops_specs is_close_paren
   param_rest_law room less one words =
       bind_law false (inner.declr Either (Some Value) false (room - 1)) (released words room) stops_specs is_close_paren is_close_paren
       (record {
@@ -253,7 +257,8 @@ module _ (n : ℕ) (inner : Inner) (places : InnerLaws n inner) (laws : Laws [] 
       type_specs (kinds.Punct puncts.Colon) h = refl
       type_specs kind h = absurd cc
 
-  param_good : (known : SpecWords) (room : ℕ) → room < suc n → 1 ≤ room → (s : HeldScopes) (ts : List Lexeme) → Good false (param_with inner known room) is_close_paren s ts
+  param_good : (known : SpecWords) (room : ℕ) → room < suc n → 1 ≤ room → (s : HeldScopes) (ts : List Lexeme)
+      → Good false (param_with inner known room) is_close_paren s ts
   unfolding param_with
   param_good no_words room less one s ts =
       behind_good false (specs_here inner Typed room) (param_rest room) stops_specs is_close_paren s ts (good_weaker false (specs_here inner Typed room) stops_specs s ts (specs_here_good n inner places laws Typed room less s ts))
@@ -264,11 +269,13 @@ module _ (n : ℕ) (inner : Inner) (places : InnerLaws n inner) (laws : Laws [] 
       (param_rest_law room less one) (inr paren_specs)
 
   -- without room for words no parameter is read
-  param_never : (room : ℕ) → room < 1 → (s : HeldScopes) (ts : List Lexeme) (x : Found ParamItem) → param_with inner no_words room s ts ≡ done x → ⊥
+  param_never : (room : ℕ) → room < 1 → (s : HeldScopes) (ts : List Lexeme) (x : Found ParamItem)
+      → param_with inner no_words room s ts ≡ done x → ⊥
   unfolding param_with
   param_never room none s ts x e = let a = bind_ok e in let two = specs_here_room n inner places laws Typed room s ts a.0 a.1 in omega (arith, none, two)
 
-  param_refused : (room : ℕ) → room < suc n → room < 1 → (s : HeldScopes) (ts : List Lexeme) → Good false (param_with inner no_words room) is_close_paren s ts
+  param_refused : (room : ℕ) → room < suc n → room < 1 → (s : HeldScopes) (ts : List Lexeme)
+      → Good false (param_with inner no_words room) is_close_paren s ts
   unfolding param_with
   param_refused room less none s ts =
       never_behind false (specs_here inner Typed room) (param_rest room) stops_specs is_close_paren (kinds.Punct puncts.CloseParen) refl s ts
@@ -280,7 +287,8 @@ module _ (n : ℕ) (inner : Inner) (places : InnerLaws n inner) (laws : Laws [] 
       if is_dots (kind_at ts) then behind take_one (λ dots. ends (list_end (record { comma = comma; quals = quals; dots = dots }))) s ts
       else behind (param_with inner (words_of_quals quals) room) (λ p. ends (one_more p)) s ts
 
-  quals_rest_law : (room comma : ℕ) → room < suc n → 1 ≤ room → (quals : List Qual) → Law false (quals_rest room comma quals) dots_or_paren is_close_paren
+  quals_rest_law : (room comma : ℕ) → room < suc n → 1 ≤ room → (quals : List Qual)
+      → Law false (quals_rest room comma quals) dots_or_paren is_close_paren
   quals_rest_law room comma less one quals = record {
     good = λ s ts.
         if_good false (λ s. is_dots) (behind take_one (λ dots. ends (list_end (record { comma = comma; quals = quals; dots = dots })))) (behind (param_with inner (words_of_quals quals) room) (λ p. ends (one_more p))) is_close_paren s ts
@@ -299,10 +307,12 @@ module _ (n : ℕ) (inner : Inner) (places : InnerLaws n inner) (laws : Laws [] 
     };
   }
     where
-      dots_read : (s : HeldScopes) (at : ℕ) (k : List Lexeme) → quals_rest room comma quals s (record { kind = kinds.Punct puncts.Ellipsis; at = at } ∷ k) ≡ ends (list_end (record { comma = comma; quals = quals; dots = at })) s k
+      dots_read : (s : HeldScopes) (at : ℕ) (k : List Lexeme)
+          → quals_rest room comma quals s (record { kind = kinds.Punct puncts.Ellipsis; at = at } ∷ k) ≡ ends (list_end (record { comma = comma; quals = quals; dots = at })) s k
       dots_read s at k = bind_is (λ (x : Found ℕ). ends (list_end (record { comma = comma; quals = quals; dots = x.tree })) x.scopes x.rest) {x = found at s k} refl refl
 
-  next_param_law : (room : ℕ) → room < suc n → 1 ≤ room → (comma : ℕ) → Law false (next_param inner room comma) any is_close_paren
+  next_param_law : (room : ℕ) → room < suc n → 1 ≤ room → (comma : ℕ)
+      → Law false (next_param inner room comma) any is_close_paren
   unfolding next_param
   next_param_law room less one comma =
       bind_law false quals_at (quals_rest room comma) any dots_or_paren is_close_paren (quals_law false any dots_or_paren ((λ kind h. refl), or_qual)) (quals_rest_law room comma less one) (inr paren_or)
@@ -311,11 +321,14 @@ module _ (n : ℕ) (inner : Inner) (places : InnerLaws n inner) (laws : Laws [] 
   abbrev LeadFits : List Attr → ℕ → Type 0
   LeadFits lead room = (are_none lead ≡ true) ⊎ (1 ≤ room)
 
-  listed_params : (lead : List Attr) (room : ℕ) → room < suc n → LeadFits lead room → (s : HeldScopes) (ts : List Lexeme) → Good false (listed (param_with inner (words_of_attrs lead) room) (next_param inner room)) is_close_paren s ts
+  listed_params : (lead : List Attr) (room : ℕ) → room < suc n → LeadFits lead room
+      → (s : HeldScopes) (ts : List Lexeme)
+      → Good false (listed (param_with inner (words_of_attrs lead) room) (next_param inner room)) is_close_paren s ts
   unfolding listed
   listed_params lead room less fit s ts = by_room (nat_le 1 room) refl lead fit
     where
-      by_room : (b : Bool) → nat_le 1 room ≡ b → (lead : List Attr) → LeadFits lead room → Good false (listed (param_with inner (words_of_attrs lead) room) (next_param inner room)) is_close_paren s ts
+      by_room : (b : Bool) → nat_le 1 room ≡ b → (lead : List Attr) → LeadFits lead room
+          → Good false (listed (param_with inner (words_of_attrs lead) room) (next_param inner room)) is_close_paren s ts
       by_room true is lead fit =
           listed_good false (next_param inner room) (next_param_falls [] none_tokens n inner laws room) is_close_paren is_close_paren (λ kind h. h) paren_comma (next_param_law room less (leb-true 1 room is))
           (param_with inner (words_of_attrs lead) room) s ts (param_good (words_of_attrs lead) room less (leb-true 1 room is) s ts)
@@ -324,7 +337,8 @@ module _ (n : ℕ) (inner : Inner) (places : InnerLaws n inner) (laws : Laws [] 
       by_room false is (a ∷ lead) (inl none) = absurd cc
       by_room false is (a ∷ lead) (inr one) = let none = leb-false 1 room is in absurd (omega (arith, one, none))
 
-  params_good : (lead : List Attr) (room : ℕ) → room < suc n → LeadFits lead room → (s : HeldScopes) (ts : List Lexeme) → Good false (params_with inner lead room) is_close_paren s ts
+  params_good : (lead : List Attr) (room : ℕ) → room < suc n → LeadFits lead room → (s : HeldScopes) (ts : List Lexeme)
+      → Good false (params_with inner lead room) is_close_paren s ts
   unfolding params_with
   params_good [] room less fit s ts =
       if_good false (λ s kind. true && is_close_paren kind) (ends (record { items = []; ending = None })) (listed (param_with inner no_words room) (next_param inner room)) is_close_paren s ts
@@ -341,7 +355,8 @@ module _ (n : ℕ) (inner : Inner) (places : InnerLaws n inner) (laws : Laws [] 
   abbrev inside : List Attr → ℕ → Reader Closed
   inside lead room = behind (params_with inner lead room) (λ ps. behind (token_at is_close_paren) (λ closing. ends (record { list = ps; closing = closing })))
 
-  inside_good : (lead : List Attr) (room : ℕ) → room < suc n → LeadFits lead room → (s : HeldScopes) (ts : List Lexeme) → Good false (inside lead room) any s ts
+  inside_good : (lead : List Attr) (room : ℕ) → room < suc n → LeadFits lead room → (s : HeldScopes) (ts : List Lexeme)
+      → Good false (inside lead room) any s ts
   inside_good lead room less fit s ts =
       behind_good false (params_with inner lead room) (λ ps. behind (token_at is_close_paren) (λ closing. ends (record { list = ps; closing = closing }))) is_close_paren any s ts (params_good lead room less fit s ts)
       (λ ps. bind_law false (token_at is_close_paren) (λ closing. ends (record { list = ps; closing = closing })) is_close_paren any any (token_law false is_close_paren (kinds.Punct puncts.CloseParen) is_close_paren close_paren_end refl refl)
@@ -357,7 +372,8 @@ module _ (n : ℕ) (inner : Inner) (places : InnerLaws n inner) (laws : Laws [] 
   abbrev closed_list : CommaList ParamItem Dots → ℕ → Closed
   closed_list ps closing = record { list = ps; closing = closing }
 
-  prototype_is : (d : Declared) (opening : ℕ) (lead : List Attr) (room : ℕ) (s : HeldScopes) (k : List Lexeme) → prototype_with inner d opening lead room s k ≡ in_scope (λ s. new_scope (is_wide s)) (inside lead (room - 1)) (declared_of d opening) s k
+  prototype_is : (d : Declared) (opening : ℕ) (lead : List Attr) (room : ℕ) (s : HeldScopes) (k : List Lexeme)
+      → prototype_with inner d opening lead room s k ≡ in_scope (λ s. new_scope (is_wide s)) (inside lead (room - 1)) (declared_of d opening) s k
   unfolding prototype_with and_then
   prototype_is d opening lead room s k = by_params (params_with inner lead (room - 1) (enter s) k)
     where
@@ -374,7 +390,9 @@ module _ (n : ℕ) (inner : Inner) (places : InnerLaws n inner) (laws : Laws [] 
       by_params (Ok ps) = by_token ps.tree (token_at is_close_paren ps.scopes ps.rest)
       by_params (Err e) = refl
 
-  pub prototype_good : (d : Declared) (opening : ℕ) (lead : List Attr) (room : ℕ) → room < suc n → 1 ≤ room → LeadFits lead (room - 1) → (s : HeldScopes) (ts : List Lexeme) → Good true (prototype_with inner d opening lead room) any s ts
+  pub prototype_good : (d : Declared) (opening : ℕ) (lead : List Attr) (room : ℕ) → room < suc n → 1 ≤ room
+      → LeadFits lead (room - 1) → (s : HeldScopes) (ts : List Lexeme)
+      → Good true (prototype_with inner d opening lead room) any s ts
   prototype_good d opening lead room less one fit s ts =
       good_as true (in_scope (λ s. new_scope (is_wide s)) (inside lead (room - 1)) (declared_of d opening)) (prototype_with inner d opening lead room) any s ts (λ k e. prototype_is d opening lead room s k) (inr (λ k e. prototype_is d opening lead room s k))
       (own_good (λ s. new_scope (is_wide s)) (inside lead (room - 1)) (declared_of d opening) any s ts (inside_good lead (room - 1) (omega (arith, less, one)) fit (new_scope (is_wide s) ∷ s) ts))
@@ -393,7 +411,8 @@ module _ (n : ℕ) (inner : Inner) (places : InnerLaws n inner) (laws : Laws [] 
   abbrev identifiers_part : Bool → Declr → ℕ → Reader Declared
   identifiers_part wide d opening = behind (names_list identifier_at) (λ names. behind (token_at is_close_paren) (λ closing. ends (identifiers_made wide d opening names closing)))
 
-  identifiers_good : (d : Declr) (opening : ℕ) (s : HeldScopes) (ts : List Lexeme) → Good true (identifiers_with inner d opening) any s ts
+  identifiers_good : (d : Declr) (opening : ℕ) (s : HeldScopes) (ts : List Lexeme)
+      → Good true (identifiers_with inner d opening) any s ts
   unfolding identifiers_with
   identifiers_good d opening s ts =
       good_as true (identifiers_part (is_wide s) d opening) (identifiers_with inner d opening) any s ts (λ k e. refl) (inr (λ k e. refl))
@@ -423,20 +442,24 @@ module _ (n : ℕ) (inner : Inner) (places : InnerLaws n inner) (laws : Laws [] 
   either_shrinks false d opening room s ts x e = prototype_shrinks [] none_tokens n inner laws d opening [] room s ts x e
   either_shrinks true d opening room s ts x e = by_declr d.declr e
     where
-      by_declr : (inside : SomeDeclr) → identifiers_of inside (λ inside. identifiers_with inner inside opening s ts) (prototype_with inner d opening [] room s ts) ≡ done x → length x.rest < length ts
+      by_declr : (inside : SomeDeclr)
+          → identifiers_of inside (λ inside. identifiers_with inner inside opening s ts) (prototype_with inner d opening [] room s ts) ≡ done x
+          → length x.rest < length ts
       by_declr no_declr e = prototype_shrinks [] none_tokens n inner laws d opening [] room s ts x e
       by_declr (some_declr inside) e = identifiers_shrinks inside opening s ts x e
 
   list_part_shrinks : (flag : Bool) (d : Declared) (opening room : ℕ) → Shrinks (list_part flag d opening room)
   list_part_shrinks flag d opening room s ts x e = either_shrinks (identified flag d s (kind_at ts)) d opening room s ts x e
 
-  list_part_good : (flag : Bool) (d : Declared) (opening room : ℕ) → room < suc n → 1 ≤ room → (s : HeldScopes) (ts : List Lexeme) → Good true (list_part flag d opening room) any s ts
+  list_part_good : (flag : Bool) (d : Declared) (opening room : ℕ) → room < suc n → 1 ≤ room
+      → (s : HeldScopes) (ts : List Lexeme) → Good true (list_part flag d opening room) any s ts
   list_part_good flag d opening room less one s ts = by_test (identified flag d s (kind_at ts)) refl
     where
       prototypes : Good true (prototype_with inner d opening [] room) any s ts
       prototypes = prototype_good d opening [] room less one (inl refl) s ts
 
-      by_declr : (inside : SomeDeclr) → Good true (λ s ts. identifiers_of inside (λ inside. identifiers_with inner inside opening s ts) (prototype_with inner d opening [] room s ts)) any s ts
+      by_declr : (inside : SomeDeclr)
+          → Good true (λ s ts. identifiers_of inside (λ inside. identifiers_with inner inside opening s ts) (prototype_with inner d opening [] room s ts)) any s ts
       by_declr no_declr = prototypes
       by_declr (some_declr inside) = identifiers_good inside opening s ts
 
@@ -448,7 +471,9 @@ module _ (n : ℕ) (inner : Inner) (places : InnerLaws n inner) (laws : Laws [] 
           good_as true (prototype_with inner d opening [] room) (list_part flag d opening room) any s ts (λ k e. rw (kind_same k ts e, is) refl)
           (inl (λ x e. list_part_shrinks flag d opening room s ts x (rw is e))) prototypes
 
-  pub params_behind_good : (flag : Bool) (d : Declared) (room : ℕ) → room < suc n → 1 ≤ room → (s : HeldScopes) (ts : List Lexeme) → is_open_paren (kind_at ts) ≡ true → Good true (params_behind inner flag d room) any s ts
+  pub params_behind_good : (flag : Bool) (d : Declared) (room : ℕ) → room < suc n → 1 ≤ room
+      → (s : HeldScopes) (ts : List Lexeme) → is_open_paren (kind_at ts) ≡ true
+      → Good true (params_behind inner flag d room) any s ts
   params_behind_good flag d room less one s ts is =
       take_behind true (λ opening. list_part flag d opening room) any
       (λ opening. record {

@@ -47,7 +47,8 @@ nothing_yet = record { declr = no_declr; closed = None }
 module _ (n : ℕ) (inner : Inner) (places : InnerLaws n inner) (laws : Laws [] n inner) where
   -- what is made of brackets and parentheses is a declarator
 
-  array_there : (d : Declared) (room : ℕ) (s : HeldScopes) (ts : List Lexeme) (x : Found Declared) → array_with inner d room s ts ≡ done x → There x.tree.declr
+  array_there : (d : Declared) (room : ℕ) (s : HeldScopes) (ts : List Lexeme) (x : Found Declared)
+      → array_with inner d room s ts ≡ done x → There x.tree.declr
   unfolding array_with
   array_there d room s ts x e =
       let a = bind_ok e in
@@ -56,25 +57,30 @@ module _ (n : ℕ) (inner : Inner) (places : InnerLaws n inner) (laws : Laws [] 
       let f = bind_ok c.2 in
       subst (λ (x : Found Declared). There x.tree.declr) (ok_is f.2) (_, refl)
 
-  prototype_there : (d : Declared) (opening : ℕ) (lead : List Attr) (room : ℕ) (s : HeldScopes) (ts : List Lexeme) (x : Found Declared) → prototype_with inner d opening lead room s ts ≡ done x → There x.tree.declr
+  prototype_there : (d : Declared) (opening : ℕ) (lead : List Attr) (room : ℕ) (s : HeldScopes) (ts : List Lexeme) (x : Found Declared)
+      → prototype_with inner d opening lead room s ts ≡ done x → There x.tree.declr
   unfolding prototype_with
   prototype_there d opening lead room s ts x e =
       let a = bind_ok e in
       let b = bind_ok a.2 in
       subst (λ (x : Found Declared). There x.tree.declr) (ok_is b.2) (_, refl)
 
-  identifiers_there : (inside : Declr) (opening : ℕ) (s : HeldScopes) (ts : List Lexeme) (x : Found Declared) → identifiers_with inner inside opening s ts ≡ done x → There x.tree.declr
+  identifiers_there : (inside : Declr) (opening : ℕ) (s : HeldScopes) (ts : List Lexeme) (x : Found Declared)
+      → identifiers_with inner inside opening s ts ≡ done x → There x.tree.declr
   unfolding identifiers_with
   identifiers_there inside opening s ts x e =
       let a = bind_ok e in
       let b = bind_ok a.2 in
       subst (λ (x : Found Declared). There x.tree.declr) (ok_is b.2) (_, refl)
 
-  list_there : (b : Bool) (d : Declared) (opening room : ℕ) (s : HeldScopes) (ts : List Lexeme) (x : Found Declared) → list_behind inner b d opening room s ts ≡ done x → There x.tree.declr
+  list_there : (b : Bool) (d : Declared) (opening room : ℕ) (s : HeldScopes) (ts : List Lexeme) (x : Found Declared)
+      → list_behind inner b d opening room s ts ≡ done x → There x.tree.declr
   list_there false d opening room s ts x e = prototype_there d opening [] room s ts x e
   list_there true d opening room s ts x e = by_declr d.declr e
     where
-      by_declr : (inside : SomeDeclr) → identifiers_of inside (λ inside. identifiers_with inner inside opening s ts) (prototype_with inner d opening [] room s ts) ≡ done x → There x.tree.declr
+      by_declr : (inside : SomeDeclr)
+          → identifiers_of inside (λ inside. identifiers_with inner inside opening s ts) (prototype_with inner d opening [] room s ts) ≡ done x
+          → There x.tree.declr
       by_declr no_declr e = prototype_there d opening [] room s ts x e
       by_declr (some_declr inside) e = identifiers_there inside opening s ts x e
 
@@ -101,7 +107,8 @@ module _ (n : ℕ) (inner : Inner) (places : InnerLaws n inner) (laws : Laws [] 
       (λ is e. paren_there mode wanted flag opening attrs room s ts x e)
       (λ is e. absurd cc))
 
-  paren_read : (mode : Mode) (wanted : Option Kind) (flag : Bool) (room : ℕ) (s : HeldScopes) (ts : List Lexeme) (x : Found Declared) → some_paren inner mode wanted flag room s ts ≡ done x → (1 ≤ room) × There x.tree.declr
+  paren_read : (mode : Mode) (wanted : Option Kind) (flag : Bool) (room : ℕ) (s : HeldScopes) (ts : List Lexeme) (x : Found Declared)
+      → some_paren inner mode wanted flag room s ts ≡ done x → (1 ≤ room) × There x.tree.declr
   unfolding named_paren opened_with
   paren_read Named wanted flag room s ts x e =
       let r = fits_ok 2 room ts e in
@@ -119,36 +126,42 @@ module _ (n : ℕ) (inner : Inner) (places : InnerLaws n inner) (laws : Laws [] 
       let b = bind_ok a.2 in
       (r.0, opened_there Either wanted flag a.0.tree b.0.tree room b.0.scopes b.0.rest x b.2)
 
-  absent_read : (mode : Mode) (room : ℕ) (s : HeldScopes) (ts : List Lexeme) (x : Found Declared) → absent mode s ts ≡ done x → Read room ts x.tree x.rest
+  absent_read : (mode : Mode) (room : ℕ) (s : HeldScopes) (ts : List Lexeme) (x : Found Declared)
+      → absent mode s ts ≡ done x → Read room ts x.tree x.rest
   absent_read Named room s ts x e = absurd cc
   absent_read Abstract room s ts x e = subst (λ (x : Found Declared). Read room ts x.tree x.rest) (ok_is e) (inl (refl, refl))
   absent_read Either room s ts x e = subst (λ (x : Found Declared). Read room ts x.tree x.rest) (ok_is e) (inl (refl, refl))
 
-  held_read : (name room : ℕ) (held : Option HeldScopes) (s : HeldScopes) (ts : List Lexeme) (x : Found Declared) → name_held name room held s ts ≡ done x → Read room ts x.tree x.rest
+  held_read : (name room : ℕ) (held : Option HeldScopes) (s : HeldScopes) (ts : List Lexeme) (x : Found Declared)
+      → name_held name room held s ts ≡ done x → Read room ts x.tree x.rest
   held_read name room None s ts x e = absurd cc
   held_read name room (Some held) s ts x e =
       let r = fits_ok 1 room ts e in
       let a = bind_ok r.1 in
       inr (r.0, subst (λ (x : Found Declared). There x.tree.declr) (ok_is a.2) (_, refl))
 
-  name_read : (mode : Mode) (wanted : Option Kind) (o : Option ℕ) (room : ℕ) (s : HeldScopes) (ts : List Lexeme) (x : Found Declared) → name_or_none inner mode wanted o room s ts ≡ done x → Read room ts x.tree x.rest
+  name_read : (mode : Mode) (wanted : Option Kind) (o : Option ℕ) (room : ℕ) (s : HeldScopes) (ts : List Lexeme) (x : Found Declared)
+      → name_or_none inner mode wanted o room s ts ≡ done x → Read room ts x.tree x.rest
   name_read mode wanted None room s ts x e = absent_read mode room s ts x e
   name_read mode wanted (Some name) room s ts x e =
       if_ok (takes_name mode) e (λ is e. held_read name room (at_name wanted name s) s ts x e) (λ is e. absent_read mode room s ts x e)
 
-  base_read : (room : ℕ) (s : HeldScopes) (ts : List Lexeme) (x : Found Declared) → base_named room s ts ≡ done x → Read room ts x.tree x.rest
+  base_read : (room : ℕ) (s : HeldScopes) (ts : List Lexeme) (x : Found Declared) → base_named room s ts ≡ done x
+      → Read room ts x.tree x.rest
   base_read room s ts x e =
       let r = fits_ok 1 room ts e in
       let a = bind_ok r.1 in
       inr (r.0, subst (λ (x : Found Declared). There x.tree.declr) (ok_is a.2) (_, refl))
 
-  core_read : (mode : Mode) (wanted : Option Kind) (flag : Bool) (room : ℕ) (s : HeldScopes) (ts : List Lexeme) (x : Found Declared) → core_with inner mode wanted flag room s ts ≡ done x → Read room ts x.tree x.rest
+  core_read : (mode : Mode) (wanted : Option Kind) (flag : Bool) (room : ℕ) (s : HeldScopes) (ts : List Lexeme) (x : Found Declared)
+      → core_with inner mode wanted flag room s ts ≡ done x → Read room ts x.tree x.rest
   unfolding core_with
   core_read mode wanted flag room s ts x e =
       if_ok (is_open_paren (kind_at ts)) e (λ is e. inr (paren_read mode wanted flag room s ts x e)) (λ is e.
       if_ok (names_base s mode wanted (kind_at ts)) e (λ base e. base_read room s ts x e) (λ plain e. name_read mode wanted (spelled_name (kind_at ts)) room s ts x e))
 
-  room_behind : (flag : Bool) (room : ℕ) (d : Declared) (kind : TokenKind) → d ≡ nothing_yet → room_at flag room d kind ≡ room
+  room_behind : (flag : Bool) (room : ℕ) (d : Declared) (kind : TokenKind) → d ≡ nothing_yet
+      → room_at flag room d kind ≡ room
   room_behind flag room d kind e = ap (λ (d : Declared). room_at flag room d kind) e ∙ by_flag flag (is_open_paren kind)
     where
       by_flag : (flag paren : Bool) → (if flag && (false || (paren && false)) then suc room else room) ≡ room
@@ -156,7 +169,8 @@ module _ (n : ℕ) (inner : Inner) (places : InnerLaws n inner) (laws : Laws [] 
       by_flag true false = refl
       by_flag false paren = refl
 
-  suffix_keeps : (flag : Bool) (room : ℕ) (ts : List Lexeme) (d : Declared) (s : HeldScopes) (k : List Lexeme) (x : Found Declared) → Read room ts d k → suffix_turn inner flag room d s k ≡ Some (done x) → Read room ts x.tree x.rest
+  suffix_keeps : (flag : Bool) (room : ℕ) (ts : List Lexeme) (d : Declared) (s : HeldScopes) (k : List Lexeme) (x : Found Declared)
+      → Read room ts d k → suffix_turn inner flag room d s k ≡ Some (done x) → Read room ts x.tree x.rest
   suffix_keeps flag room ts d s k x h e = inr (by_bracket (is_open_bracket (kind_at k)) e)
     where
       one : (least : ℕ) → suc least ≤ room_at flag room d (kind_at k) → 1 ≤ room
@@ -166,14 +180,17 @@ module _ (n : ℕ) (inner : Inner) (places : InnerLaws n inner) (laws : Laws [] 
           by_read (inl none) = let same = room_behind flag room d (kind_at k) none.1 in omega (arith, fit, same)
           by_read (inr some) = some.0
 
-      by_paren : (b : Bool) → (if b then Some (fits (suc (some_declr_height d.declr)) (room_at flag room d (kind_at k)) k (params_behind inner flag d (room_at flag room d (kind_at k)) s k)) else None) ≡ Some (done x) → (1 ≤ room) × There x.tree.declr
+      by_paren : (b : Bool)
+          → (if b then Some (fits (suc (some_declr_height d.declr)) (room_at flag room d (kind_at k)) k (params_behind inner flag d (room_at flag room d (kind_at k)) s k)) else None) ≡ Some (done x)
+          → (1 ≤ room) × There x.tree.declr
       by_paren false e = absurd cc
       by_paren true e =
           let r = fits_ok (suc (some_declr_height d.declr)) (room_at flag room d (kind_at k)) k (some_is e) in
           let a = bind_ok r.1 in
           (one (some_declr_height d.declr) r.0, list_there (flag && is_bare d.declr && begins_identifiers a.0.scopes (kind_at a.0.rest)) d a.0.tree (room_at flag room d (kind_at k)) a.0.scopes a.0.rest x a.2)
 
-      by_bracket : (b : Bool) → (if b then Some (fits (suc (some_declr_height d.declr)) (room_at flag room d (kind_at k)) k (array_with inner d (room_at flag room d (kind_at k)) s k))
+      by_bracket : (b : Bool)
+          → (if b then Some (fits (suc (some_declr_height d.declr)) (room_at flag room d (kind_at k)) k (array_with inner d (room_at flag room d (kind_at k)) s k))
           else if is_open_paren (kind_at k) then Some (fits (suc (some_declr_height d.declr)) (room_at flag room d (kind_at k)) k (params_behind inner flag d (room_at flag room d (kind_at k)) s k)) else None) ≡ Some (done x) →
           (1 ≤ room) × There x.tree.declr
       by_bracket true e =
@@ -186,7 +203,8 @@ module _ (n : ℕ) (inner : Inner) (places : InnerLaws n inner) (laws : Laws [] 
   least_high Abstract = omega arith
   least_high Either = omega arith
 
-  declr_read : (mode : Mode) (wanted : Option Kind) (flag : Bool) (room : ℕ) (s : HeldScopes) (ts : List Lexeme) (x : Found Declared) → declr_with inner mode wanted flag room s ts ≡ done x → Read room ts x.tree x.rest
+  declr_read : (mode : Mode) (wanted : Option Kind) (flag : Bool) (room : ℕ) (s : HeldScopes) (ts : List Lexeme) (x : Found Declared)
+      → declr_with inner mode wanted flag room s ts ≡ done x → Read room ts x.tree x.rest
   unfolding declr_with direct_with pointer_with
   declr_read mode wanted flag room s ts x e =
       if_ok (is_star (kind_at ts)) e
@@ -198,7 +216,8 @@ module _ (n : ℕ) (inner : Inner) (places : InnerLaws n inner) (laws : Laws [] 
       (λ is e. let a = bind_ok e in
       run-keep (suffix_turn inner flag room) (λ d s k. Read room ts d k) (λ d s k x h e. suffix_keeps flag room ts d s k x h e) a.0.tree a.0.scopes a.0.rest x (core_read mode wanted flag room s ts a.0 a.1) a.2)
 
-  declr_taken : (mode : Mode) (wanted : Option Kind) (flag : Bool) (room : ℕ) (s : HeldScopes) (ts : List Lexeme) (x : Found Declared) → declr_with inner mode wanted flag room s ts ≡ done x → length x.rest < length ts →
+  declr_taken : (mode : Mode) (wanted : Option Kind) (flag : Bool) (room : ℕ) (s : HeldScopes) (ts : List Lexeme) (x : Found Declared)
+      → declr_with inner mode wanted flag room s ts ≡ done x → length x.rest < length ts →
       (1 ≤ room) × There x.tree.declr
   declr_taken mode wanted flag room s ts x e less = by_read (declr_read mode wanted flag room s ts x e)
     where
@@ -222,7 +241,8 @@ module _ (n : ℕ) (inner : Inner) (places : InnerLaws n inner) (laws : Laws [] 
   abbrev named_of : SpecWords → Declared → TypeName
   named_of words d = record { words = words; declr = d.declr }
 
-  absent_law : (room : ℕ) → room < suc n → 1 ≤ room → (words : SpecWords) → Law true (behind (inner.declr Abstract None false (room - 1)) (λ d. ends (named_of words d))) stops_specs stops_type
+  absent_law : (room : ℕ) → room < suc n → 1 ≤ room → (words : SpecWords)
+      → Law true (behind (inner.declr Abstract None false (room - 1)) (λ d. ends (named_of words d))) stops_specs stops_type
   absent_law room less one words =
       mapped_law true (inner.declr Abstract None false (room - 1)) (named_of words) stops_specs stops_type
       (record {

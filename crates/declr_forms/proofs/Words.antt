@@ -32,7 +32,8 @@ item_pushed [] p = refl
 item_pushed (q ∷ ps) p = ap (λ rest. item_of q ∷ rest) (item_pushed ps p)
 
 -- words that were read already are those that the specifiers begin with
-pub words_behind : (inner : Inner) (words : List SpecWord) (room : ℕ) (s : HeldScopes) (ts : List Lexeme) → 1 ≤ length words →
+pub words_behind : (inner : Inner) (words : List SpecWord) (room : ℕ) (s : HeldScopes) (ts : List Lexeme)
+    → 1 ≤ length words →
     param_words inner (spec_words_from words) room s ts ≡ inner.specs Typed (spec_words_from words) (room - 1) s ts
 words_behind inner [] room s ts some = absurd (omega (arith, some))
 words_behind inner (word ∷ words) room s ts some = refl

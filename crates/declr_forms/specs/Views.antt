@@ -22,43 +22,52 @@ use Rattle.reader_base.specs.declared.fault.ReadError.{ReadError}
 use Rattle.reader_base.specs.declared.place.Place.{Place}
 use Rattle.reader_base.specs.Gives.{Reads}
 
+-- the size of an array, if any, is read as the reader of lists gives it
 abbrev pub ReadsSize : Place → Place → Result SizedSize ReadError → Reader trees.SomeSize → Type 0
 ReadsSize before after result reader = Reads (λ x. some_size_from x.size) before after result reader
 
--- a parameter, as it is read and in a list
+-- a parameter, as it is read
 abbrev pub param_of : SizedParam → ParamItem
 param_of p = record { words = spec_words_from p.words.items; declr = some_declr_from p.declr; attrs = p.attrs.items }
 
+-- a parameter, as it stands in a list
 abbrev pub item_of : Param → ParamItem
 item_of p = record { words = spec_words_from p.specs.words.items; declr = some_declr_from p.declr; attrs = p.attrs.items }
 
+-- what stands behind a comma in a list of parameters: one more, or `...`
 abbrev pub next_of : NextParam → Next ParamItem trees.Dots
 next_of (nexts.Param p) = one_more (param_of p)
 next_of (nexts.Dots dots) = list_end (dots_of dots)
 
+-- parameters so far, and the `...` that ended their list
 abbrev pub list_of : ParamList → CommaList ParamItem trees.Dots
 list_of l = record { items = map item_of l.items.items.items; ending = option_map dots_of l.dots }
 
+-- a parameter is read so
 abbrev pub ReadsParam : Place → Place → Result SizedParam ReadError → Reader ParamItem → Type 0
 ReadsParam before after result reader = Reads param_of before after result reader
 
+-- what stands behind a comma is read so
 abbrev pub ReadsNext : Place → Place → Result NextParam ReadError → Reader (Next ParamItem trees.Dots) → Type 0
 ReadsNext before after result reader = Reads next_of before after result reader
 
+-- a list of parameters is read so
 abbrev pub ReadsParams : Place → Place → Result ParamList ReadError → Reader (CommaList ParamItem trees.Dots) → Type 0
 ReadsParams before after result reader = Reads list_of before after result reader
 
--- the loops of the readers of a number, with a room
+-- what stands behind a further comma in a list of parameters
 abbrev pub params_turn : ℕ → ℕ → Turn (CommaList ParamItem trees.Dots)
 params_turn depth room = comma_turn (declaring.next_param (knot depth) room)
 
+-- one more pair of brackets or list of parameters behind a declarator
 abbrev pub suffixes_turn : ℕ → Bool → ℕ → Turn Declared
 suffixes_turn depth flag room = declaring.suffix_turn (knot depth) flag room
 
--- the same of all turns, from a state
+-- parameters behind others, as many as stand
 abbrev pub more_params : ℕ → ℕ → CommaList ParamItem trees.Dots → Reader (CommaList ParamItem trees.Dots)
 more_params depth room state s ts = run (params_turn depth room) state s ts
 
+-- brackets and lists of parameters behind a declarator, as many as stand
 abbrev pub more_suffixes : ℕ → Bool → ℕ → Declared → Reader Declared
 more_suffixes depth flag room state s ts = run (suffixes_turn depth flag room) state s ts
 
@@ -71,9 +80,11 @@ abbrev pub fitting : Bool → ℕ → Declared → (ℕ → Reader Declared) →
 fitting flag room d form s ts =
     fits (suc (some_declr_height d.declr)) (declaring.room_at flag room d (kind_at ts)) ts (form (declaring.room_at flag room d (kind_at ts)) s ts)
 
+-- brackets behind a declarator
 abbrev pub brackets_at : ℕ → Bool → ℕ → Declared → Reader Declared
 brackets_at depth flag room d s ts = fitting flag room d (declaring.array_with (knot depth) d) s ts
 
+-- parameters, or a list of identifiers, behind a declarator
 abbrev pub params_at : ℕ → Bool → ℕ → Declared → Reader Declared
 params_at depth flag room d s ts = fitting flag room d (declaring.params_behind (knot depth) flag d) s ts
 

@@ -23,12 +23,14 @@ length_both [] c = omega arith
 length_both (t ∷ b) c = let rest = length_both b c in omega arith
 
 -- nothing is taken
-pub bound_ends : {A : Type 0} (height : A → ℕ) (c room d : ℕ) (a : A) (s : HeldScopes) (ts : List Lexeme) → height a ≤ c → BoundAt
+pub bound_ends : {A : Type 0} (height : A → ℕ) (c room d : ℕ) (a : A) (s : HeldScopes) (ts : List Lexeme) → height a ≤ c
+    → BoundAt
     height c room d ts (ends a s ts)
 bound_ends height c room d a s ts low = record { held = record { before = []; parts = refl; low = omega arith } }
 
 -- bounds that are no better
-pub bound_weaker : {A : Type 0} (height : A → ℕ) (c room d c2 room2 d2 : ℕ) (ts : List Lexeme) (r : Read A) → c ≤ c2 → room2 + d ≤
+pub bound_weaker : {A : Type 0} (height : A → ℕ) (c room d c2 room2 d2 : ℕ) (ts : List Lexeme) (r : Read A) → c ≤ c2
+    → room2 + d ≤
     room + d2 → BoundAt height c room d ts r → BoundAt height c2 room2 d2 ts r
 bound_weaker height c room d c2 room2 d2 ts (Ok x) more wide b =
     record { held = record { before = b.held.before; parts = b.held.parts; low = let l = b.held.low in omega arith } }
@@ -47,7 +49,8 @@ unfolding and_then
 bound_bind ha height ca c room d ts (Err e) f b next = record { held = b.held }
 bound_bind {A} {B} ha height ca c room d ts (Ok x) f b next = by_next (f x) (next x b.held.before refl b.held.low)
   where
-    by_next : (q : Read B) → BoundAt height (8 * length b.held.before + c) room (8 * length b.held.before + d) x.rest q → BoundAt
+    by_next : (q : Read B) → BoundAt height (8 * length b.held.before + c) room (8 * length b.held.before + d) x.rest q
+        → BoundAt
         height c room d ts q
     by_next (Ok y) h = record {
       held = record {
@@ -72,7 +75,8 @@ bound_bind {A} {B} ha height ca c room d ts (Ok x) f b next = by_next (f x) (nex
     }
 
 -- a question for room, at a token
-pub bound_fits : {A : Type 0} (height : A → ℕ) (c room d least have : ℕ) (ts : List Lexeme) (r : Read A) → is_end (kind_at ts) ≡
+pub bound_fits : {A : Type 0} (height : A → ℕ) (c room d least have : ℕ) (ts : List Lexeme) (r : Read A)
+    → is_end (kind_at ts) ≡
     false → (have < least → room ≤ d) → (least ≤ have → BoundAt height c room d ts r) →
     BoundAt height c room d ts (fits least have ts r)
 unfolding fits
@@ -94,7 +98,8 @@ bound_fits {A} height c room d least have ts r known deep g = by_room (nat_le le
     by_room true is = g (leb-true least have is)
     by_room false is = record { held = λ e. refused ts known (leb-false least have is) }
 
-pub bound_if : {A : Type 0} (height : A → ℕ) (c room d : ℕ) (ts : List Lexeme) (b : Bool) (one two : Read A) → (b ≡ true → BoundAt
+pub bound_if : {A : Type 0} (height : A → ℕ) (c room d : ℕ) (ts : List Lexeme) (b : Bool) (one two : Read A)
+    → (b ≡ true → BoundAt
     height c room d ts one) → (b ≡ false → BoundAt height c room d ts two) →
     BoundAt height c room d ts (if b then one else two)
 bound_if height c room d ts true one two g h = g refl
@@ -112,7 +117,8 @@ pub bound_take : (room d : ℕ) (s : HeldScopes) (ts : List Lexeme) → BoundAt 
 bound_take room d s [] = record { held = λ e. absurd cc }
 bound_take room d s (t ∷ ts) = record { held = record { before = t ∷ []; parts = refl; low = omega arith } }
 
-pub bound_token : (test : TokenKind → Bool) (room d : ℕ) (s : HeldScopes) (ts : List Lexeme) → BoundAt token_levels 0 room d ts
+pub bound_token : (test : TokenKind → Bool) (room d : ℕ) (s : HeldScopes) (ts : List Lexeme)
+    → BoundAt token_levels 0 room d ts
     (token_at test s ts)
 bound_token test room d s [] = record { held = λ e. absurd cc }
 bound_token test room d s (t ∷ ts) =
@@ -141,7 +147,8 @@ bound_tag room d s (t ∷ ts) = by_name (spelled_name t.kind)
 module _ {S : Type 0} (turn : Turn S) (shrinks : TurnShrinks turn) (height : S → ℕ) (room more floor : ℕ)
     (step : (a : S) (s : HeldScopes) (ts : List Lexeme) (c : ℕ) → floor ≤ c → height a ≤ c → StepAt height c room (c + more) ts
     (turn a s ts)) where
-  run_on : (n : ℕ) (a : S) (s : HeldScopes) (ts : List Lexeme) (c : ℕ) → length ts < n → floor ≤ c → height a ≤ c → BoundAt height c
+  run_on : (n : ℕ) (a : S) (s : HeldScopes) (ts : List Lexeme) (c : ℕ) → length ts < n → floor ≤ c → height a ≤ c
+      → BoundAt height c
       room (c + more) ts (run turn a s ts)
   run_on zero a s ts c less high low = absurd (omega (arith, less))
   run_on (suc n) a s ts c less high low =
@@ -160,19 +167,23 @@ module _ {S : Type 0} (turn : Turn S) (shrinks : TurnShrinks turn) (height : S �
           before + (c + more)) x.rest (run turn x.tree x.scopes x.rest) (omega arith) (omega arith)
           (again x.tree x.scopes x.rest (8 * length before + c) (omega (arith, fewer, less)) (omega arith) l))
 
-  pub bound_run : (a : S) (s : HeldScopes) (ts : List Lexeme) (c : ℕ) → floor ≤ c → height a ≤ c → BoundAt height c room (c + more)
+  pub bound_run : (a : S) (s : HeldScopes) (ts : List Lexeme) (c : ℕ) → floor ≤ c → height a ≤ c
+      → BoundAt height c room (c + more)
       ts (run turn a s ts)
   bound_run a s ts c high low = run_on (suc (length ts)) a s ts c (omega arith) high low
 
 -- Items one behind another.
 
-most_push : {T : Type 0} (height : T → ℕ) (xs : List T) (x : T) (c : ℕ) → most_of height xs ≤ c → height x ≤ c → most_of height (xs
+most_push : {T : Type 0} (height : T → ℕ) (xs : List T) (x : T) (c : ℕ) → most_of height xs ≤ c → height x ≤ c
+    → most_of height (xs
     ++ x ∷ []) ≤ c
 most_push height [] x c h l = omega arith
 most_push height (y ∷ xs) x c h l = let rest = most_push height xs x c (omega arith) l in omega arith
 
-pub bound_repeated : {T : Type 0} (begins : TokenKind → Bool) (read : Reader T) (height : T → ℕ) (c room d : ℕ) → Shrinks read → c ≤ d →
-    ((s : HeldScopes) (ts : List Lexeme) → begins (kind_at ts) ≡ true → BoundAt height c room d ts (read s ts)) → (s : HeldScopes)
+pub bound_repeated : {T : Type 0} (begins : TokenKind → Bool) (read : Reader T) (height : T → ℕ) (c room d : ℕ)
+    → Shrinks read → c ≤ d →
+    ((s : HeldScopes) (ts : List Lexeme) → begins (kind_at ts) ≡ true → BoundAt height c room d ts (read s ts))
+    → (s : HeldScopes)
     (ts : List Lexeme) → BoundAt (most_of height) c room d ts (repeated begins read s ts)
 unfolding repeated
 bound_repeated {T} begins read height c room d shrinks less item s ts =
@@ -180,11 +191,13 @@ bound_repeated {T} begins read height c room d shrinks less item s ts =
     (bound_run (repeated_turn begins read) (row_turn_shrinks begins read shrinks) (most_of height) room (d - c) c step [] s ts c
     (omega arith) (omega arith))
   where
-    step : (xs : List T) (s : HeldScopes) (ts : List Lexeme) (e : ℕ) → c ≤ e → most_of height xs ≤ e → StepAt (most_of height) e
+    step : (xs : List T) (s : HeldScopes) (ts : List Lexeme) (e : ℕ) → c ≤ e → most_of height xs ≤ e
+        → StepAt (most_of height) e
         room (e + (d - c)) ts (repeated_turn begins read xs s ts)
     step xs s ts e high low = by_test (begins (kind_at ts)) refl
       where
-        by_test : (b : Bool) → begins (kind_at ts) ≡ b → StepAt (most_of height) e room (e + (d - c)) ts (if b then Some (and_then
+        by_test : (b : Bool) → begins (kind_at ts) ≡ b
+            → StepAt (most_of height) e room (e + (d - c)) ts (if b then Some (and_then
             (read s ts) (λ x. ends (xs ++ x.tree ∷ []) x.scopes x.rest)) else None)
         by_test false is = tt
         by_test true is =
@@ -197,7 +210,8 @@ bound_repeated {T} begins read height c room d shrinks less item s ts =
 -- Lists with commas.
 
 -- with one token more before it
-pub bound_front : {A : Type 0} (height : A → ℕ) (c room d : ℕ) (t : Lexeme) (ts : List Lexeme) (r : Read A) → BoundAt height c room
+pub bound_front : {A : Type 0} (height : A → ℕ) (c room d : ℕ) (t : Lexeme) (ts : List Lexeme) (r : Read A)
+    → BoundAt height c room
     d ts r → BoundAt height c room d (t ∷ ts) r
 bound_front height c room d t ts (Ok x) b =
     record {
@@ -229,12 +243,14 @@ next_height height (list_end e) = 0
 abbrev pub list_height : {T E : Type 0} → (T → ℕ) → CommaList T E → ℕ
 list_height height l = most_of height l.items
 
-with_next_low : {T E : Type 0} (height : T → ℕ) (xs : List T) (y : Next T E) (c : ℕ) → most_of height xs ≤ c → next_height height y
+with_next_low : {T E : Type 0} (height : T → ℕ) (xs : List T) (y : Next T E) (c : ℕ) → most_of height xs ≤ c
+    → next_height height y
     ≤ c → most_of height (with_next xs y).items ≤ c
 with_next_low height xs (one_more x) c h l = most_push height xs x c h l
 with_next_low height xs (list_end e) c h l = h
 
-pub bound_commas : {T E : Type 0} (next : ℕ → Reader (Next T E)) (height : T → ℕ) (c room d : ℕ) → ((comma : ℕ) → Falls (next
+pub bound_commas : {T E : Type 0} (next : ℕ → Reader (Next T E)) (height : T → ℕ) (c room d : ℕ)
+    → ((comma : ℕ) → Falls (next
     comma)) → c ≤ d →
     ((comma : ℕ) (s : HeldScopes) (ts : List Lexeme) → BoundAt (next_height height) c room d ts (next comma s ts)) → (l : CommaList
     T E) (s : HeldScopes) (ts : List Lexeme) (e : ℕ) → c ≤ e → most_of height l.items ≤ e →
@@ -243,7 +259,8 @@ bound_commas {T} {E} next height c room d falls less item l s ts e high low =
     bound_run (comma_turn next) (comma_turn_shrinks (λ s ts. refuses Unexpected ts) next falls) (list_height height) room (d - c) c
     step l s ts e high low
   where
-    one : (xs : List T) (comma : ℕ) (s : HeldScopes) (t : Lexeme) (ts : List Lexeme) (e : ℕ) → c ≤ e → most_of height xs ≤ e →
+    one : (xs : List T) (comma : ℕ) (s : HeldScopes) (t : Lexeme) (ts : List Lexeme) (e : ℕ) → c ≤ e
+        → most_of height xs ≤ e →
         BoundAt (list_height height) e room (e + (d - c)) (t ∷ ts) (and_then (next comma s ts) (λ x. ends (with_next xs x.tree)
         x.scopes x.rest))
     one xs comma s t ts e high low =
@@ -260,18 +277,21 @@ bound_commas {T} {E} next height c room d falls less item l s ts e high low =
         (list_height height) e room (e + (d - c)) ts (comma_turn next l s ts)
     step l s ts e high low = by_ending l.ending ts
       where
-        by_ending : (o : Option E) (ts : List Lexeme) → StepAt (list_height height) e room (e + (d - c)) ts (comma_turn_by next o
+        by_ending : (o : Option E) (ts : List Lexeme)
+            → StepAt (list_height height) e room (e + (d - c)) ts (comma_turn_by next o
             l.items s ts)
         by_ending (Some x) ts = tt
         by_ending None [] = tt
         by_ending None (t ∷ ts) = by_comma (is_comma t.kind)
           where
-            by_comma : (b : Bool) → StepAt (list_height height) e room (e + (d - c)) (t ∷ ts) (if b then Some (and_then (next t.at s
+            by_comma : (b : Bool)
+                → StepAt (list_height height) e room (e + (d - c)) (t ∷ ts) (if b then Some (and_then (next t.at s
                 ts) (λ x. ends (with_next l.items x.tree) x.scopes x.rest)) else None)
             by_comma false = tt
             by_comma true = one l.items t.at s t ts e high low
 
-pub bound_listed : {T E : Type 0} (first : Reader T) (next : ℕ → Reader (Next T E)) (height : T → ℕ) (c room d : ℕ) → ((comma : ℕ) →
+pub bound_listed : {T E : Type 0} (first : Reader T) (next : ℕ → Reader (Next T E)) (height : T → ℕ) (c room d : ℕ)
+    → ((comma : ℕ) →
     Falls (next comma)) → c ≤ d → (s : HeldScopes) (ts : List Lexeme) → BoundAt height c room d ts (first s ts) →
     ((comma : ℕ) (s : HeldScopes) (ts : List Lexeme) → BoundAt (next_height height) c room d ts (next comma s ts)) → BoundAt
     (list_height height) c room d ts (listed first next s ts)
@@ -289,16 +309,19 @@ bound_listed first next height c room d falls less s ts b item =
 
 -- A test that the end does not pass.
 
-pub known_of : {A : Type 0} (f : TokenKind → A) (x : A) → f End ≡ x → (kind : TokenKind) → (f kind ≡ x → ⊥) → is_end kind ≡ false
+pub known_of : {A : Type 0} (f : TokenKind → A) (x : A) → f End ≡ x → (kind : TokenKind) → (f kind ≡ x → ⊥)
+    → is_end kind ≡ false
 known_of f x off End some = absurd (some off)
 known_of f x off kind some = refl
 
-pub known_by : (test : TokenKind → Bool) → test End ≡ false → (kind : TokenKind) → test kind ≡ true → is_end kind ≡ false
+pub known_by : (test : TokenKind → Bool) → test End ≡ false → (kind : TokenKind) → test kind ≡ true
+    → is_end kind ≡ false
 known_by test off kind is = known_of test false off kind (λ no. absurd cc)
 
 -- items that take a token each
 pub bound_count : {T : Type 0} (begins : TokenKind → Bool) (read : Reader T) (room d : ℕ) → Shrinks read →
-    ((s : HeldScopes) (ts : List Lexeme) → begins (kind_at ts) ≡ true → BoundAt token_levels 0 room d ts (read s ts)) → (s :
+    ((s : HeldScopes) (ts : List Lexeme) → begins (kind_at ts) ≡ true → BoundAt token_levels 0 room d ts (read s ts))
+    → (s :
     HeldScopes) (ts : List Lexeme) → BoundAt (λ (xs : List T). length xs) 0 room d ts (repeated begins read s ts)
 unfolding repeated
 bound_count {T} begins read room d shrinks item s ts =
@@ -311,11 +334,13 @@ bound_count {T} begins read room d shrinks item s ts =
     longer_by [] x = refl
     longer_by (y ∷ xs) x = ap suc (longer_by xs x)
 
-    step : (xs : List T) (s : HeldScopes) (ts : List Lexeme) (e : ℕ) → 0 ≤ e → length xs ≤ e → StepAt (λ (xs : List T). length xs) e
+    step : (xs : List T) (s : HeldScopes) (ts : List Lexeme) (e : ℕ) → 0 ≤ e → length xs ≤ e
+        → StepAt (λ (xs : List T). length xs) e
         room (e + d) ts (repeated_turn begins read xs s ts)
     step xs s ts e high low = by_test (begins (kind_at ts)) refl
       where
-        by_test : (b : Bool) → begins (kind_at ts) ≡ b → StepAt (λ (xs : List T). length xs) e room (e + d) ts (if b then Some
+        by_test : (b : Bool) → begins (kind_at ts) ≡ b
+            → StepAt (λ (xs : List T). length xs) e room (e + d) ts (if b then Some
             (and_then (read s ts) (λ x. ends (xs ++ x.tree ∷ []) x.scopes x.rest)) else None)
         by_test false is = tt
         by_test true is =
@@ -331,13 +356,15 @@ pub bound_without : {A : Type 0} (height : A → ℕ) (c room d : ℕ) (tag : Op
 bound_without height c room d None a s ts low = record { held = λ e. absurd cc }
 bound_without height c room d (Some tag) a s ts low = bound_ends height c room d a s ts low
 
-pub bound_declared : {A : Type 0} (height : A → ℕ) (c room d : ℕ) (a : A) (o : Option HeldScopes) (ts : List Lexeme) → height a ≤ c
+pub bound_declared : {A : Type 0} (height : A → ℕ) (c room d : ℕ) (a : A) (o : Option HeldScopes) (ts : List Lexeme)
+    → height a ≤ c
     → BoundAt height c room d ts (declared a o ts)
 bound_declared height c room d a None ts low = record { held = λ e. absurd cc }
 bound_declared height c room d a (Some s) ts low = bound_ends height c room d a s ts low
 
 -- rows of one token each are never too deep
-pub bound_made : {A : Type 0} (of : TokenKind → Option (ℕ → A)) (room : ℕ) (s : HeldScopes) (ts : List Lexeme) → BoundAt no_levels 0
+pub bound_made : {A : Type 0} (of : TokenKind → Option (ℕ → A)) (room : ℕ) (s : HeldScopes) (ts : List Lexeme)
+    → BoundAt no_levels 0
     room 0 ts (made_at of s ts)
 bound_made of room s [] = record { held = λ e. absurd cc }
 bound_made {A} of room s (t ∷ ts) = by_made (of t.kind)

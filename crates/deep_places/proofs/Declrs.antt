@@ -51,7 +51,8 @@ base_end s Either wanted = refl
 
 module _ (all : List Lexeme) (numbered : IsNumbered all) (tokens : TokenLaws all) (n : ℕ) (inner : Inner) (laws : Laws all n inner)
     (good : InnerBounds inner) where
-  pub b_absent : (room : ℕ) (a0 : Mode) (s : HeldScopes) (ts : List Lexeme) → BoundAt declared_height (0) room (0) ts (absent a0 s ts)
+  pub b_absent : (room : ℕ) (a0 : Mode) (s : HeldScopes) (ts : List Lexeme)
+      → BoundAt declared_height (0) room (0) ts (absent a0 s ts)
   b_absent room Named s ts =
       record { held = λ e. absurd cc }
   b_absent room Abstract s ts =
@@ -59,7 +60,8 @@ module _ (all : List Lexeme) (numbered : IsNumbered all) (tokens : TokenLaws all
   b_absent room Either s ts =
       bound_ends _ _ _ _ _ _ _ (omega arith)
 
-  pub b_name_held : (name : ℕ) (room : ℕ) (a2 : Option HeldScopes) (s : HeldScopes) (ts : List Lexeme) → is_end (kind_at ts) ≡ false
+  pub b_name_held : (name : ℕ) (room : ℕ) (a2 : Option HeldScopes) (s : HeldScopes) (ts : List Lexeme)
+      → is_end (kind_at ts) ≡ false
       → BoundAt declared_height (0) room (0) ts (name_held name room a2 s ts)
   b_name_held name room None s ts known =
       record { held = λ e. absurd cc }
@@ -67,7 +69,8 @@ module _ (all : List Lexeme) (numbered : IsNumbered all) (tokens : TokenLaws all
       bound_fits _ _ _ _ _ _ _ _ (known) (λ less459. omega arith) (λ less459. bound_bind token_levels _ (0) _ _ _ _ _ _ (bound_take
       _ _ _ _) (λ token b460 e461 l462. bound_ends _ _ _ _ _ _ _ (omega arith)))
 
-  pub b_star_size : (room : ℕ) (s : HeldScopes) (ts : List Lexeme) → BoundAt some_size_height (2) room (12) ts (star_size inner room s ts)
+  pub b_star_size : (room : ℕ) (s : HeldScopes) (ts : List Lexeme)
+      → BoundAt some_size_height (2) room (12) ts (star_size inner room s ts)
   unfolding star_size
   b_star_size room s ts =
       bound_bind token_levels _ (0) _ _ _ _ _ _ (bound_take _ _ _ _) (λ token b463 e464 l465. bound_if _ _ _ _ _ (is_close_bracket
@@ -78,7 +81,8 @@ module _ (all : List Lexeme) (numbered : IsNumbered all) (tokens : TokenLaws all
       (omega arith) (omega arith) (good.expr Assigned (star token.tree) (room - 1) _ _)) (λ e b467 e468 l469. bound_ends _ _ _ _
       _ _ _ (omega arith))))
 
-  pub b_size_with : (room : ℕ) (s : HeldScopes) (ts : List Lexeme) → BoundAt some_size_height (2) room (12) ts (size_with inner room s ts)
+  pub b_size_with : (room : ℕ) (s : HeldScopes) (ts : List Lexeme)
+      → BoundAt some_size_height (2) room (12) ts (size_with inner room s ts)
   unfolding size_with
   b_size_with room s ts =
       bound_if _ _ _ _ _ (is_close_bracket (kind_at ts)) (ends no_size s ts) (if is_star (kind_at ts) then (star_size inner room s
@@ -90,7 +94,8 @@ module _ (all : List Lexeme) (numbered : IsNumbered all) (tokens : TokenLaws all
       (room - 1) (10 + begun_levels nothing) _ _ _ _ _ (omega arith) (omega arith) (good.expr Assigned nothing (room - 1) _ _))
       (λ e b472 e473 l474. bound_ends _ _ _ _ _ _ _ (omega arith))))
 
-  pub b_array_with : (d : Declared) (room : ℕ) (s : HeldScopes) (ts : List Lexeme) → BoundAt declared_height (declared_height d)
+  pub b_array_with : (d : Declared) (room : ℕ) (s : HeldScopes) (ts : List Lexeme)
+      → BoundAt declared_height (declared_height d)
       room (declared_height d + 10) ts (array_with inner d room s ts)
   unfolding array_with
   b_array_with d room s ts =
@@ -101,7 +106,8 @@ module _ (all : List Lexeme) (numbered : IsNumbered all) (tokens : TokenLaws all
       _ _ _) (λ closing b484 e485 l486. bound_ends _ _ _ _ _ _ _ (let f487 = low_array d.declr opening.tree words.tree size.tree
       closing.tree in omega arith)))))
 
-  pub b_param_words : (a0 : SpecWords) (room : ℕ) (s : HeldScopes) (ts : List Lexeme) → BoundAt specs_height (specs_height a0) room
+  pub b_param_words : (a0 : SpecWords) (room : ℕ) (s : HeldScopes) (ts : List Lexeme)
+      → BoundAt specs_height (specs_height a0) room
       (specs_height a0 + 12) ts (param_words inner a0 room s ts)
   b_param_words no_words room s ts =
       bound_weaker _ (1) room (12) _ _ _ _ _ (omega arith) (omega arith) (b_specs_here all numbered tokens n inner laws good Typed room _ _)
@@ -109,13 +115,15 @@ module _ (all : List Lexeme) (numbered : IsNumbered all) (tokens : TokenLaws all
       bound_weaker _ (specs_height (more_words w ws)) (room - 1) (specs_height (more_words w ws) + 10) _ _ _ _ _ (omega arith)
       (omega arith) (good.specs Typed (more_words w ws) (room - 1) _ _)
 
-  pub b_param_attrs : (d : SomeDeclr) (room : ℕ) (s : HeldScopes) (ts : List Lexeme) → BoundAt attrs_height (1) room (1) ts
+  pub b_param_attrs : (d : SomeDeclr) (room : ℕ) (s : HeldScopes) (ts : List Lexeme)
+      → BoundAt attrs_height (1) room (1) ts
       (param_attrs inner d room s ts)
   b_param_attrs d room s ts =
       bound_if _ _ _ _ _ (takes_attrs d) (attrs_at room s ts) (ends [] s ts) (λ is488. bound_weaker _ (1) room (1) _ _ _ _ _ (omega
       arith) (omega arith) (b_attrs_at room _ _)) (λ is488. bound_ends _ _ _ _ _ _ _ (omega arith))
 
-  pub b_param_with : (known : SpecWords) (room : ℕ) (s : HeldScopes) (ts : List Lexeme) → BoundAt param_item_height (specs_height
+  pub b_param_with : (known : SpecWords) (room : ℕ) (s : HeldScopes) (ts : List Lexeme)
+      → BoundAt param_item_height (specs_height
       known + 2) room (specs_height known + 12) ts (param_with inner known room s ts)
   unfolding param_with
   b_param_with known room s ts =
@@ -126,7 +134,8 @@ module _ (all : List Lexeme) (numbered : IsNumbered all) (tokens : TokenLaws all
       _ _ _ _ _ (omega arith) (omega arith) (b_param_attrs d.tree.declr room (release Value d.scopes) d.rest)) (λ attrs b495
       e496 l497. bound_ends _ _ _ _ _ _ _ (omega arith))))
 
-  pub b_next_param : (room : ℕ) (comma : ℕ) (s : HeldScopes) (ts : List Lexeme) → BoundAt (next_height {E = Dots} param_item_height)
+  pub b_next_param : (room : ℕ) (comma : ℕ) (s : HeldScopes) (ts : List Lexeme)
+      → BoundAt (next_height {E = Dots} param_item_height)
       (4) room (14) ts (next_param inner room comma s ts)
   unfolding next_param
   b_next_param room comma s ts =
@@ -153,7 +162,8 @@ module _ (all : List Lexeme) (numbered : IsNumbered all) (tokens : TokenLaws all
       (b_param_with (words_of_attrs lead) room _ _)) (λ comma s9 ts9. bound_weaker _ (4) room (14) _ _ _ _ _ (omega arith)
       (omega arith) (b_next_param room comma _ _))))
 
-  pub b_prototype_with : (d : Declared) (opening : ℕ) (lead : List Attr) (room : ℕ) (s : HeldScopes) (ts : List Lexeme) → BoundAt
+  pub b_prototype_with : (d : Declared) (opening : ℕ) (lead : List Attr) (room : ℕ) (s : HeldScopes) (ts : List Lexeme)
+      → BoundAt
       declared_height (declared_height d) room (declared_height d + 15) ts (prototype_with inner d opening lead room s ts)
   unfolding prototype_with
   b_prototype_with d opening lead room s ts =
@@ -163,7 +173,8 @@ module _ (all : List Lexeme) (numbered : IsNumbered all) (tokens : TokenLaws all
       ps.tree.items in let f518 = low_params_of d.declr opening (params_from ps.tree.items) ps.tree.ending closing.tree in omega
       arith)))
 
-  pub b_identifiers_with : (d : Declr) (opening : ℕ) (room : ℕ) (s : HeldScopes) (ts : List Lexeme) → BoundAt declared_height
+  pub b_identifiers_with : (d : Declr) (opening : ℕ) (room : ℕ) (s : HeldScopes) (ts : List Lexeme)
+      → BoundAt declared_height
       (declr_height d) room (declr_height d + 15) ts (identifiers_with inner d opening s ts)
   unfolding identifiers_with
   b_identifiers_with d opening room s ts =
@@ -184,18 +195,21 @@ module _ (all : List Lexeme) (numbered : IsNumbered all) (tokens : TokenLaws all
   b_list_behind true d opening room s ts = b_identifiers_of d.declr opening room s ts (prototype_with inner d opening [] room s ts) (b_prototype_with d opening [] room s ts)
   b_list_behind false d opening room s ts = b_prototype_with d opening [] room s ts
 
-  pub b_params_behind : (flag : Bool) (d : Declared) (room : ℕ) (s : HeldScopes) (ts : List Lexeme) → BoundAt declared_height (declared_height d)
+  pub b_params_behind : (flag : Bool) (d : Declared) (room : ℕ) (s : HeldScopes) (ts : List Lexeme)
+      → BoundAt declared_height (declared_height d)
       room (declared_height d + 10) ts (params_behind inner flag d room s ts)
   b_params_behind flag d room s ts =
       bound_bind token_levels _ (0) _ _ _ _ _ _ (bound_take _ _ _ _) (λ opening b519 e520 l521. bound_weaker _ (declared_height d)
       room (declared_height d + 15) _ _ _ _ _ (omega arith) (omega arith)
       (b_list_behind (flag && is_bare d.declr && begins_identifiers opening.scopes (kind_at opening.rest)) d opening.tree room _ _))
 
-  suffix_step : (flag : Bool) (room : ℕ) (d : Declared) (s : HeldScopes) (ts : List Lexeme) (c : ℕ) → 0 ≤ c → declared_height d ≤ c
+  suffix_step : (flag : Bool) (room : ℕ) (d : Declared) (s : HeldScopes) (ts : List Lexeme) (c : ℕ) → 0 ≤ c
+      → declared_height d ≤ c
       → StepAt declared_height c room (c + 10) ts (suffix_turn inner flag room d s ts)
   suffix_step flag room d s ts c high low = by_bracket (is_open_bracket (kind_at ts)) refl
     where
-      fitted : (read : Read Declared) → is_end (kind_at ts) ≡ false → BoundAt declared_height (declared_height d) (room_at flag room
+      fitted : (read : Read Declared) → is_end (kind_at ts) ≡ false
+          → BoundAt declared_height (declared_height d) (room_at flag room
           d (kind_at ts)) (declared_height d + 10) ts read →
           BoundAt declared_height c room (c + 10) ts (fits (suc (some_declr_height d.declr)) (room_at flag room d (kind_at ts)) ts read)
       fitted read known b =
@@ -233,7 +247,8 @@ module _ (all : List Lexeme) (numbered : IsNumbered all) (tokens : TokenLaws all
       token_levels _ (0) _ _ _ _ _ _ (bound_token is_close_paren _ _ _ _) (λ closing b528 e529 l530. bound_ends _ _ _ _ _ _ _
       (let f531 = low_paren opening attrs known.tree closing.tree in omega arith))))
 
-  pub b_named_paren : (wanted : Option Kind) (flag : Bool) (room : ℕ) (s : HeldScopes) (ts : List Lexeme) → is_end (kind_at ts) ≡
+  pub b_named_paren : (wanted : Option Kind) (flag : Bool) (room : ℕ) (s : HeldScopes) (ts : List Lexeme)
+      → is_end (kind_at ts) ≡
       false → BoundAt declared_height (0) room (10) ts (named_paren inner wanted flag room s ts)
   unfolding named_paren
   b_named_paren wanted flag room s ts known =
@@ -243,7 +258,8 @@ module _ (all : List Lexeme) (numbered : IsNumbered all) (tokens : TokenLaws all
       (11) _ _ _ _ _ (omega arith) (omega arith) (b_paren_with Named wanted flag opening.tree attrs.tree room _ _))))
 
   pub b_opened_by : (mode : Mode) (wanted : Option Kind) (flag : Bool) (opening : ℕ) (attrs : List Attr) (room : ℕ) (s : HeldScopes)
-      (ts : List Lexeme) → BoundAt declared_height (attrs_height attrs) room (15) ts (opened_by inner mode wanted flag opening attrs
+      (ts : List Lexeme)
+      → BoundAt declared_height (attrs_height attrs) room (15) ts (opened_by inner mode wanted flag opening attrs
       room s ts)
   unfolding opened_by
   b_opened_by mode wanted flag opening attrs room s ts =
@@ -256,7 +272,8 @@ module _ (all : List Lexeme) (numbered : IsNumbered all) (tokens : TokenLaws all
       is540. bound_weaker _ (attrs_height attrs) room (11) _ _ _ _ _ (omega arith) (omega arith) (b_paren_with mode wanted flag
       opening attrs room _ _)) (λ is540. record { held = λ e. absurd cc }))
 
-  pub b_opened_with : (mode : Mode) (wanted : Option Kind) (flag : Bool) (room : ℕ) (s : HeldScopes) (ts : List Lexeme) → is_end
+  pub b_opened_with : (mode : Mode) (wanted : Option Kind) (flag : Bool) (room : ℕ) (s : HeldScopes) (ts : List Lexeme)
+      → is_end
       (kind_at ts) ≡ false → BoundAt declared_height (0) room (10) ts (opened_with inner mode wanted flag room s ts)
   unfolding opened_with
   b_opened_with mode wanted flag room s ts known =
@@ -265,7 +282,8 @@ module _ (all : List Lexeme) (numbered : IsNumbered all) (tokens : TokenLaws all
       (omega arith) (omega arith) (b_attrs_at room _ _)) (λ attrs b545 e546 l547. bound_weaker _ (attrs_height attrs.tree) room
       (15) _ _ _ _ _ (omega arith) (omega arith) (b_opened_by mode wanted flag opening.tree attrs.tree room _ _))))
 
-  pub b_some_paren : (a0 : Mode) (wanted : Option Kind) (flag : Bool) (room : ℕ) (s : HeldScopes) (ts : List Lexeme) → is_end
+  pub b_some_paren : (a0 : Mode) (wanted : Option Kind) (flag : Bool) (room : ℕ) (s : HeldScopes) (ts : List Lexeme)
+      → is_end
       (kind_at ts) ≡ false → BoundAt declared_height (0) room (10) ts (some_paren inner a0 wanted flag room s ts)
   b_some_paren Named wanted flag room s ts known =
       bound_weaker _ (0) room (10) _ _ _ _ _ (omega arith) (omega arith) (b_named_paren wanted flag room _ _ (known))
@@ -274,7 +292,8 @@ module _ (all : List Lexeme) (numbered : IsNumbered all) (tokens : TokenLaws all
   b_some_paren Either wanted flag room s ts known =
       bound_weaker _ (0) room (10) _ _ _ _ _ (omega arith) (omega arith) (b_opened_with Either wanted flag room _ _ (known))
 
-  pub b_name_or_none : (mode : Mode) (wanted : Option Kind) (a2 : Option ℕ) (room : ℕ) (s : HeldScopes) (ts : List Lexeme) → ((a2 ≡
+  pub b_name_or_none : (mode : Mode) (wanted : Option Kind) (a2 : Option ℕ) (room : ℕ) (s : HeldScopes) (ts : List Lexeme)
+      → ((a2 ≡
       None → ⊥) → is_end (kind_at ts) ≡ false) → BoundAt declared_height (0) room (10) ts (name_or_none inner mode wanted a2 room s
       ts)
   b_name_or_none mode wanted None room s ts known =
@@ -285,12 +304,14 @@ module _ (all : List Lexeme) (numbered : IsNumbered all) (tokens : TokenLaws all
       (known (λ e9. absurd cc)))) (λ is548. bound_weaker _ (0) room (0) _ _ _ _ _ (omega arith) (omega arith) (b_absent room
       mode s ts))
 
-  pub b_base_named : (room : ℕ) (s : HeldScopes) (ts : List Lexeme) → is_end (kind_at ts) ≡ false → BoundAt declared_height (0) room (0) ts (base_named room s ts)
+  pub b_base_named : (room : ℕ) (s : HeldScopes) (ts : List Lexeme) → is_end (kind_at ts) ≡ false
+      → BoundAt declared_height (0) room (0) ts (base_named room s ts)
   b_base_named room s ts known =
       bound_fits _ _ _ _ _ _ _ _ (known) (λ less. omega arith) (λ less. bound_bind token_levels _ (0) _ _ _ _ _ _ (bound_take _ _ _ _)
       (λ token b1 e1 l1. bound_ends _ _ _ _ _ _ _ (omega arith)))
 
-  pub b_core_with : (mode : Mode) (wanted : Option Kind) (flag : Bool) (room : ℕ) (s : HeldScopes) (ts : List Lexeme) → BoundAt
+  pub b_core_with : (mode : Mode) (wanted : Option Kind) (flag : Bool) (room : ℕ) (s : HeldScopes) (ts : List Lexeme)
+      → BoundAt
       declared_height (0) room (10) ts (core_with inner mode wanted flag room s ts)
   unfolding core_with
   b_core_with mode wanted flag room s ts =
@@ -302,7 +323,8 @@ module _ (all : List Lexeme) (numbered : IsNumbered all) (tokens : TokenLaws all
       (λ is550. bound_weaker _ (0) room (10) _ _ _ _ _ (omega arith) (omega arith) (b_name_or_none mode wanted (spelled_name (kind_at ts))
       room s ts (known_of spelled_name None refl (kind_at ts)))))
 
-  pub b_direct_with : (mode : Mode) (wanted : Option Kind) (flag : Bool) (room : ℕ) (s : HeldScopes) (ts : List Lexeme) → BoundAt
+  pub b_direct_with : (mode : Mode) (wanted : Option Kind) (flag : Bool) (room : ℕ) (s : HeldScopes) (ts : List Lexeme)
+      → BoundAt
       declared_height 0 room 10 ts (direct_with inner mode wanted flag room s ts)
   unfolding direct_with
   b_direct_with mode wanted flag room s ts =
@@ -313,7 +335,8 @@ module _ (all : List Lexeme) (numbered : IsNumbered all) (tokens : TokenLaws all
       (bound_run (suffix_turn inner flag room) (suffix_shrinks all tokens n inner laws flag room) declared_height room 10 0
       (suffix_step flag room) core.tree core.scopes core.rest (8 * length b1 + 0) (omega arith) l1))
 
-  pub b_pointer_with : (mode : Mode) (wanted : Option Kind) (flag : Bool) (room : ℕ) (s : HeldScopes) (ts : List Lexeme) → is_end
+  pub b_pointer_with : (mode : Mode) (wanted : Option Kind) (flag : Bool) (room : ℕ) (s : HeldScopes) (ts : List Lexeme)
+      → is_end
       (kind_at ts) ≡ false → BoundAt declared_height (0) room (10) ts (pointer_with inner mode wanted flag room s ts)
   unfolding pointer_with
   b_pointer_with mode wanted flag room s ts known =
@@ -324,7 +347,8 @@ module _ (all : List Lexeme) (numbered : IsNumbered all) (tokens : TokenLaws all
       arith) (good.declr mode wanted flag (room - 1) _ _)) (λ d b558 e559 l560. bound_ends _ _ _ _ _ _ _ (let f561 = low_pointer
       token.tree words.tree d.tree.declr in omega arith)))))
 
-  pub b_declr_with : (mode : Mode) (wanted : Option Kind) (flag : Bool) (room : ℕ) (s : HeldScopes) (ts : List Lexeme) → BoundAt
+  pub b_declr_with : (mode : Mode) (wanted : Option Kind) (flag : Bool) (room : ℕ) (s : HeldScopes) (ts : List Lexeme)
+      → BoundAt
       declared_height (0) room (10) ts (declr_with inner mode wanted flag room s ts)
   unfolding declr_with
   b_declr_with mode wanted flag room s ts =
@@ -333,7 +357,8 @@ module _ (all : List Lexeme) (numbered : IsNumbered all) (tokens : TokenLaws all
       room _ _ (known_by (λ kind9. is_star kind9) refl (kind_at ts) is562))) (λ is562. bound_weaker _ (0) room (10) _ _ _ _ _
       (omega arith) (omega arith) (b_direct_with mode wanted flag room _ _))
 
-  pub b_type_name_with : (room : ℕ) (s : HeldScopes) (ts : List Lexeme) → BoundAt type_name_height (2) room (12) ts (type_name_with
+  pub b_type_name_with : (room : ℕ) (s : HeldScopes) (ts : List Lexeme)
+      → BoundAt type_name_height (2) room (12) ts (type_name_with
       inner room s ts)
   unfolding type_name_with
   b_type_name_with room s ts =

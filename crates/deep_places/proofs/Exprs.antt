@@ -52,7 +52,8 @@ settled_pot level bottom e = refl
 settled_pot level (above s l) e = by_level (nat_le (right_level l.operator) level) (settled_pot level s (operation l.tree l.operator
     l.token e))
   where
-    by_level : (b : Bool) → pot_of (settle_of level s (operation l.tree l.operator l.token e)) ≡ pot (above s l) (expr_height e) →
+    by_level : (b : Bool)
+        → pot_of (settle_of level s (operation l.tree l.operator l.token e)) ≡ pot (above s l) (expr_height e) →
         pot_of (if b then record { below = above s l; last = e } else settle_of level s (operation l.tree l.operator l.token e)) ≡
         pot (above s l) (expr_height e)
     by_level true same = refl
@@ -77,7 +78,8 @@ low_steps (x ∷ xs) = let rest = low_steps xs in omega arith
 
 module _ (all : List Lexeme) (numbered : IsNumbered all) (tokens : TokenLaws all) (n : ℕ) (inner : Inner) (laws : Laws all n inner)
     (good : InnerBounds inner) where
-  pub b_next_argument : (room : ℕ) (token : ℕ) (s : HeldScopes) (ts : List Lexeme) → BoundAt (next_height {E = ⊥} expr_height) (1)
+  pub b_next_argument : (room : ℕ) (token : ℕ) (s : HeldScopes) (ts : List Lexeme)
+      → BoundAt (next_height {E = ⊥} expr_height) (1)
       room (11) ts (next_argument inner room token s ts)
   unfolding next_argument
   b_next_argument room token s ts =
@@ -85,7 +87,8 @@ module _ (all : List Lexeme) (numbered : IsNumbered all) (tokens : TokenLaws all
       begun_levels nothing) _ _ _ _ _ (omega arith) (omega arith) (good.expr Assigned nothing (room - 1) _ _)) (λ e b16 e17 l18.
       bound_ends _ _ _ _ _ _ _ (omega arith))
 
-  pub b_arguments_with : (room : ℕ) (s : HeldScopes) (ts : List Lexeme) → BoundAt exprs_height (1) room (11) ts (arguments_with
+  pub b_arguments_with : (room : ℕ) (s : HeldScopes) (ts : List Lexeme)
+      → BoundAt exprs_height (1) room (11) ts (arguments_with
       inner room s ts)
   unfolding arguments_with
   b_arguments_with room s ts =
@@ -99,7 +102,8 @@ module _ (all : List Lexeme) (numbered : IsNumbered all) (tokens : TokenLaws all
       (omega arith) (b_next_argument room comma _ _)))) (λ es b20 e21 l22. bound_ends _ _ _ _ _ _ _ (let f23 = low_exprs
       es.tree.items in omega arith)))
 
-  pub b_index_with : (base : Expr) (room : ℕ) (s : HeldScopes) (ts : List Lexeme) → BoundAt expr_height (expr_height base) room
+  pub b_index_with : (base : Expr) (room : ℕ) (s : HeldScopes) (ts : List Lexeme)
+      → BoundAt expr_height (expr_height base) room
       (expr_height base + 10) ts (index_with inner base room s ts)
   unfolding index_with
   b_index_with base room s ts =
@@ -108,7 +112,8 @@ module _ (all : List Lexeme) (numbered : IsNumbered all) (tokens : TokenLaws all
       _ _ (omega arith) (omega arith) (good.expr Whole nothing (room - 1) _ _)) (λ e b27 e28 l29. bound_bind token_levels _ (0)
       _ _ _ _ _ _ (bound_token is_close_bracket _ _ _ _) (λ closing b30 e31 l32. bound_ends _ _ _ _ _ _ _ (omega arith))))
 
-  pub b_call_with : (callee : Expr) (room : ℕ) (s : HeldScopes) (ts : List Lexeme) → BoundAt expr_height (expr_height callee) room
+  pub b_call_with : (callee : Expr) (room : ℕ) (s : HeldScopes) (ts : List Lexeme)
+      → BoundAt expr_height (expr_height callee) room
       (expr_height callee + 10) ts (call_with inner callee room s ts)
   unfolding call_with
   b_call_with callee room s ts =
@@ -117,36 +122,42 @@ module _ (all : List Lexeme) (numbered : IsNumbered all) (tokens : TokenLaws all
       bound_bind token_levels _ (0) _ _ _ _ _ _ (bound_token is_close_paren _ _ _ _) (λ closing b39 e40 l41. bound_ends _ _ _ _
       _ _ _ (omega arith))))
 
-  pub b_dot_with : (room : ℕ) (base : Expr) (s : HeldScopes) (ts : List Lexeme) → BoundAt expr_height (expr_height base) room (0) ts
+  pub b_dot_with : (room : ℕ) (base : Expr) (s : HeldScopes) (ts : List Lexeme)
+      → BoundAt expr_height (expr_height base) room (0) ts
       (dot_with inner base s ts)
   unfolding dot_with
   b_dot_with room base s ts =
       bound_bind token_levels _ (0) _ _ _ _ _ _ (bound_take _ _ _ _) (λ token b42 e43 l44. bound_bind token_levels _ (0) _ _ _ _ _ _
       (bound_name _ _ _ _) (λ name b45 e46 l47. bound_ends _ _ _ _ _ _ _ (omega arith)))
 
-  pub b_arrow_with : (room : ℕ) (base : Expr) (s : HeldScopes) (ts : List Lexeme) → BoundAt expr_height (expr_height base) room (0)
+  pub b_arrow_with : (room : ℕ) (base : Expr) (s : HeldScopes) (ts : List Lexeme)
+      → BoundAt expr_height (expr_height base) room (0)
       ts (arrow_with inner base s ts)
   unfolding arrow_with
   b_arrow_with room base s ts =
       bound_bind token_levels _ (0) _ _ _ _ _ _ (bound_take _ _ _ _) (λ token b48 e49 l50. bound_bind token_levels _ (0) _ _ _ _ _ _
       (bound_name _ _ _ _) (λ name b51 e52 l53. bound_ends _ _ _ _ _ _ _ (omega arith)))
 
-  pub b_post_with : (room : ℕ) (base : Expr) (p : Punct) (s : HeldScopes) (ts : List Lexeme) → BoundAt expr_height (expr_height
+  pub b_post_with : (room : ℕ) (base : Expr) (p : Punct) (s : HeldScopes) (ts : List Lexeme)
+      → BoundAt expr_height (expr_height
       base) room (0) ts (post_with inner base p s ts)
   unfolding post_with
   b_post_with room base p s ts =
       bound_bind token_levels _ (0) _ _ _ _ _ _ (bound_take _ _ _ _) (λ token b54 e55 l56. bound_ends _ _ _ _ _ _ _ (omega arith))
 
-  postfix_step : (room : ℕ) (e : Expr) (s : HeldScopes) (ts : List Lexeme) (c : ℕ) → 0 ≤ c → expr_height e ≤ c → StepAt expr_height
+  postfix_step : (room : ℕ) (e : Expr) (s : HeldScopes) (ts : List Lexeme) (c : ℕ) → 0 ≤ c → expr_height e ≤ c
+      → StepAt expr_height
       c room (c + 10) ts (postfix_turn inner room e s ts)
   postfix_step room e s ts c high low = by_form (form_of (kind_at ts)) (known_of form_of forms.Nothing refl (kind_at ts))
     where
-      fitted : (read : Read Expr) → is_end (kind_at ts) ≡ false → BoundAt expr_height (expr_height e) room (expr_height e + 10) ts
+      fitted : (read : Read Expr) → is_end (kind_at ts) ≡ false
+          → BoundAt expr_height (expr_height e) room (expr_height e + 10) ts
           read → BoundAt expr_height c room (c + 10) ts (fits (suc (expr_height e)) room ts read)
       fitted read known b = bound_fits expr_height c room (c + 10) (suc (expr_height e)) room ts read known (λ less. omega arith) (λ enough.
           bound_weaker expr_height (expr_height e) room (expr_height e + 10) c room (c + 10) ts read (omega arith) (omega arith) b)
 
-      by_form : (f : PostfixForm) → ((f ≡ forms.Nothing → ⊥) → is_end (kind_at ts) ≡ false) → StepAt expr_height c room (c + 10) ts
+      by_form : (f : PostfixForm) → ((f ≡ forms.Nothing → ⊥) → is_end (kind_at ts) ≡ false)
+          → StepAt expr_height c room (c + 10) ts
           (lowered inner (expr_height e) room ts (postfix_by inner f room e s ts))
       by_form forms.Index known = fitted (index_with inner e room s ts) (known (λ e9. absurd cc)) (b_index_with e room s ts)
       by_form forms.Call known = fitted (call_with inner e room s ts) (known (λ e9. absurd cc)) (b_call_with e room s ts)
@@ -167,14 +178,16 @@ module _ (all : List Lexeme) (numbered : IsNumbered all) (tokens : TokenLaws all
   b_postfixed room e s ts = bound_run (postfix_turn inner room) (postfix_turn_shrinks all tokens n inner laws room) expr_height room
       10 0 (postfix_step room) e s ts (expr_height e) (omega arith) (omega arith)
 
-  pub b_primary_with : (make : (ℕ → Expr)) (room : ℕ) (s : HeldScopes) (ts : List Lexeme) → is_end (kind_at ts) ≡ false → ((token :
+  pub b_primary_with : (make : (ℕ → Expr)) (room : ℕ) (s : HeldScopes) (ts : List Lexeme) → is_end (kind_at ts) ≡ false
+      → ((token :
       ℕ) → expr_height (make token) ≤ 1) → BoundAt expr_height (1) room (10) ts (primary_with inner make room s ts)
   b_primary_with make room s ts known low =
       bound_fits _ _ _ _ _ _ _ _ (known) (λ less57. omega arith) (λ less57. bound_bind token_levels _ (0) _ _ _ _ _ _ (bound_take _
       _ _ _) (λ token b58 e59 l60. let f61 = low token.tree in bound_weaker _ (expr_height (make token.tree)) room (expr_height
       (make token.tree) + 10) _ _ _ _ _ (omega arith) (omega arith) (b_postfixed room (make token.tree) _ _)))
 
-  pub b_text_with : (room : ℕ) (s : HeldScopes) (ts : List Lexeme) → is_end (kind_at ts) ≡ false → BoundAt expr_height (1) room (10)
+  pub b_text_with : (room : ℕ) (s : HeldScopes) (ts : List Lexeme) → is_end (kind_at ts) ≡ false
+      → BoundAt expr_height (1) room (10)
       ts (text_with inner room s ts)
   unfolding text_with
   b_text_with room s ts known =
@@ -184,7 +197,8 @@ module _ (all : List Lexeme) (numbered : IsNumbered all) (tokens : TokenLaws all
       texts.tree))) room (expr_height (text_use (token.tree ∷ texts.tree)) + 10) _ _ _ _ _ (omega arith) (omega arith)
       (b_postfixed room (text_use (token.tree ∷ texts.tree)) _ _))))
 
-  pub b_compound_with : (opening : ℕ) (t : TypeName) (closing : ℕ) (room : ℕ) (s : HeldScopes) (ts : List Lexeme) → BoundAt
+  pub b_compound_with : (opening : ℕ) (t : TypeName) (closing : ℕ) (room : ℕ) (s : HeldScopes) (ts : List Lexeme)
+      → BoundAt
       expr_height (type_name_height t + 2) room (type_name_height t + 12) ts (compound_with inner opening t closing room s ts)
   unfolding compound_with
   b_compound_with opening t closing room s ts =
@@ -193,7 +207,8 @@ module _ (all : List Lexeme) (numbered : IsNumbered all) (tokens : TokenLaws all
       closing list.tree)) room (expr_height (compound opening t.words t.declr closing list.tree) + 10) _ _ _ _ _ (omega arith)
       (omega arith) (b_postfixed room (compound opening t.words t.declr closing list.tree) _ _))
 
-  pub b_cast_behind : (opening : ℕ) (t : TypeName) (closing : ℕ) (room : ℕ) (s : HeldScopes) (ts : List Lexeme) → BoundAt
+  pub b_cast_behind : (opening : ℕ) (t : TypeName) (closing : ℕ) (room : ℕ) (s : HeldScopes) (ts : List Lexeme)
+      → BoundAt
       expr_height (type_name_height t + 2) room (type_name_height t + 12) ts (cast_behind inner opening t closing room s ts)
   unfolding cast_behind
   b_cast_behind opening t closing room s ts =
@@ -213,7 +228,8 @@ module _ (all : List Lexeme) (numbered : IsNumbered all) (tokens : TokenLaws all
       (type_name_height t + 2) room (type_name_height t + 12) _ _ _ _ _ (omega arith) (omega arith) (b_cast_behind opening t
       closing room _ _)) (λ is76. record { held = λ e. absurd cc }))
 
-  pub b_typed_with : (casts : Bool) (opening : ℕ) (room : ℕ) (s : HeldScopes) (ts : List Lexeme) → BoundAt expr_height (2) room (14)
+  pub b_typed_with : (casts : Bool) (opening : ℕ) (room : ℕ) (s : HeldScopes) (ts : List Lexeme)
+      → BoundAt expr_height (2) room (14)
       ts (typed_with inner casts opening room s ts)
   unfolding typed_with
   b_typed_with casts opening room s ts =
@@ -222,7 +238,8 @@ module _ (all : List Lexeme) (numbered : IsNumbered all) (tokens : TokenLaws all
       _ _ _) (λ closing b80 e81 l82. bound_weaker _ (type_name_height t.tree + 2) room (type_name_height t.tree + 12) _ _ _ _ _
       (omega arith) (omega arith) (b_typed_behind casts opening t.tree closing.tree room _ _)))
 
-  pub b_statement_with : (opening : ℕ) (room : ℕ) (s : HeldScopes) (ts : List Lexeme) → BoundAt expr_height (2) room (14) ts
+  pub b_statement_with : (opening : ℕ) (room : ℕ) (s : HeldScopes) (ts : List Lexeme)
+      → BoundAt expr_height (2) room (14) ts
       (statement_with inner opening room s ts)
   unfolding statement_with
   b_statement_with opening room s ts =
@@ -233,7 +250,8 @@ module _ (all : List Lexeme) (numbered : IsNumbered all) (tokens : TokenLaws all
       block.tree.closing closing.tree) + 10) _ _ _ _ _ (omega arith) (omega arith) (b_postfixed room (statement_expr opening
       block.tree.opening block.tree.items block.tree.closing closing.tree) _ _)))
 
-  pub b_paren_with : (opening : ℕ) (room : ℕ) (s : HeldScopes) (ts : List Lexeme) → BoundAt expr_height (2) room (14) ts (paren_with
+  pub b_paren_with : (opening : ℕ) (room : ℕ) (s : HeldScopes) (ts : List Lexeme)
+      → BoundAt expr_height (2) room (14) ts (paren_with
       inner opening room s ts)
   unfolding paren_with
   b_paren_with opening room s ts =
@@ -243,7 +261,8 @@ module _ (all : List Lexeme) (numbered : IsNumbered all) (tokens : TokenLaws all
       (expr_height (paren opening e.tree closing.tree)) room (expr_height (paren opening e.tree closing.tree) + 10) _ _ _ _ _
       (omega arith) (omega arith) (b_postfixed room (paren opening e.tree closing.tree) _ _)))
 
-  pub b_opened_by : (casts : Bool) (opening : ℕ) (room : ℕ) (s : HeldScopes) (ts : List Lexeme) → BoundAt expr_height (2) room (14)
+  pub b_opened_by : (casts : Bool) (opening : ℕ) (room : ℕ) (s : HeldScopes) (ts : List Lexeme)
+      → BoundAt expr_height (2) room (14)
       ts (opened_by inner casts opening room s ts)
   unfolding opened_by
   b_opened_by casts opening room s ts =
@@ -254,7 +273,8 @@ module _ (all : List Lexeme) (numbered : IsNumbered all) (tokens : TokenLaws all
       bound_weaker _ (2) room (14) _ _ _ _ _ (omega arith) (omega arith) (b_statement_with opening room _ _)) (λ is96.
       bound_weaker _ (2) room (14) _ _ _ _ _ (omega arith) (omega arith) (b_paren_with opening room _ _)))
 
-  pub b_opened_with : (casts : Bool) (room : ℕ) (s : HeldScopes) (ts : List Lexeme) → is_end (kind_at ts) ≡ false → BoundAt
+  pub b_opened_with : (casts : Bool) (room : ℕ) (s : HeldScopes) (ts : List Lexeme) → is_end (kind_at ts) ≡ false
+      → BoundAt
       expr_height (1) room (10) ts (opened_with inner casts room s ts)
   unfolding opened_with
   b_opened_with casts room s ts known =
@@ -262,7 +282,8 @@ module _ (all : List Lexeme) (numbered : IsNumbered all) (tokens : TokenLaws all
       _ _ _) (λ opening b98 e99 l100. bound_weaker _ (2) room (14) _ _ _ _ _ (omega arith) (omega arith) (b_opened_by casts
       opening.tree room _ _)))
 
-  pub b_prefix_with : (p : Punct) (reach : Reach) (room : ℕ) (s : HeldScopes) (ts : List Lexeme) → is_end (kind_at ts) ≡ false →
+  pub b_prefix_with : (p : Punct) (reach : Reach) (room : ℕ) (s : HeldScopes) (ts : List Lexeme)
+      → is_end (kind_at ts) ≡ false →
       BoundAt expr_height (1) room (10) ts (prefix_with inner p reach room s ts)
   unfolding prefix_with
   b_prefix_with p reach room s ts known =
@@ -271,7 +292,8 @@ module _ (all : List Lexeme) (numbered : IsNumbered all) (tokens : TokenLaws all
       begun_levels nothing) (room - 1) (10 + begun_levels nothing) _ _ _ _ _ (omega arith) (omega arith) (good.expr reach
       nothing (room - 1) _ _)) (λ e b105 e106 l107. bound_ends _ _ _ _ _ _ _ (omega arith))))
 
-  pub b_extension_with : (room : ℕ) (s : HeldScopes) (ts : List Lexeme) → is_end (kind_at ts) ≡ false → BoundAt expr_height (1) room
+  pub b_extension_with : (room : ℕ) (s : HeldScopes) (ts : List Lexeme) → is_end (kind_at ts) ≡ false
+      → BoundAt expr_height (1) room
       (10) ts (extension_with inner room s ts)
   unfolding extension_with
   b_extension_with room s ts known =
@@ -280,7 +302,8 @@ module _ (all : List Lexeme) (numbered : IsNumbered all) (tokens : TokenLaws all
       begun_levels nothing) (room - 1) (10 + begun_levels nothing) _ _ _ _ _ (omega arith) (omega arith) (good.expr Castable
       nothing (room - 1) _ _)) (λ e b112 e113 l114. bound_ends _ _ _ _ _ _ _ (omega arith))))
 
-  pub b_sizeof_value_with : (word : Word) (room : ℕ) (s : HeldScopes) (ts : List Lexeme) → BoundAt expr_height (2) room (11) ts
+  pub b_sizeof_value_with : (word : Word) (room : ℕ) (s : HeldScopes) (ts : List Lexeme)
+      → BoundAt expr_height (2) room (11) ts
       (sizeof_value_with inner word room s ts)
   unfolding sizeof_value_with
   b_sizeof_value_with word room s ts =
@@ -301,7 +324,8 @@ module _ (all : List Lexeme) (numbered : IsNumbered all) (tokens : TokenLaws all
       (b_compound_with opening t closing (room - 1) _ _)) (λ e b120 e121 l122. bound_ends _ _ _ _ _ _ _ (omega arith)))) (λ
       is118. bound_ends _ _ _ _ _ _ _ (omega arith))
 
-  pub b_sizeof_type_with : (word : Word) (room : ℕ) (s : HeldScopes) (ts : List Lexeme) → BoundAt expr_height (2) room (11) ts
+  pub b_sizeof_type_with : (word : Word) (room : ℕ) (s : HeldScopes) (ts : List Lexeme)
+      → BoundAt expr_height (2) room (11) ts
       (sizeof_type_with inner word room s ts)
   unfolding sizeof_type_with
   b_sizeof_type_with word room s ts =
@@ -311,7 +335,8 @@ module _ (all : List Lexeme) (numbered : IsNumbered all) (tokens : TokenLaws all
       bound_weaker _ (type_name_height t.tree + 3) room (type_name_height t.tree + 13) _ _ _ _ _ (omega arith) (omega arith)
       (b_sizeof_typed word opening.tree t.tree closing.tree room _ _))))
 
-  pub b_sizeof_behind : (word : Word) (room : ℕ) (s : HeldScopes) (ts : List Lexeme) → BoundAt expr_height (2) room (11) ts
+  pub b_sizeof_behind : (word : Word) (room : ℕ) (s : HeldScopes) (ts : List Lexeme)
+      → BoundAt expr_height (2) room (11) ts
       (sizeof_behind inner word room s ts)
   unfolding sizeof_behind
   b_sizeof_behind word room s ts =
@@ -324,7 +349,8 @@ module _ (all : List Lexeme) (numbered : IsNumbered all) (tokens : TokenLaws all
       (b_sizeof_value_with word room _ _)))) (λ is132. bound_weaker _ (2) room (11) _ _ _ _ _ (omega arith) (omega arith)
       (b_sizeof_value_with word room _ _))
 
-  pub b_sizeof_with : (keyword : Keyword) (room : ℕ) (s : HeldScopes) (ts : List Lexeme) → is_end (kind_at ts) ≡ false → BoundAt
+  pub b_sizeof_with : (keyword : Keyword) (room : ℕ) (s : HeldScopes) (ts : List Lexeme) → is_end (kind_at ts) ≡ false
+      → BoundAt
       expr_height (1) room (10) ts (sizeof_with inner keyword room s ts)
   unfolding sizeof_with
   b_sizeof_with keyword room s ts known =
@@ -332,7 +358,8 @@ module _ (all : List Lexeme) (numbered : IsNumbered all) (tokens : TokenLaws all
       _ _ _ _) (λ token b136 e137 l138. bound_weaker _ (2) room (11) _ _ _ _ _ (omega arith) (omega arith) (b_sizeof_behind
       (word_of keyword token.tree) room _ _)))
 
-  pub b_va_arg_with : (room : ℕ) (s : HeldScopes) (ts : List Lexeme) → is_end (kind_at ts) ≡ false → BoundAt expr_height (1) room
+  pub b_va_arg_with : (room : ℕ) (s : HeldScopes) (ts : List Lexeme) → is_end (kind_at ts) ≡ false
+      → BoundAt expr_height (1) room
       (10) ts (va_arg_with inner room s ts)
   unfolding va_arg_with
   b_va_arg_with room s ts known =
@@ -348,7 +375,8 @@ module _ (all : List Lexeme) (numbered : IsNumbered all) (tokens : TokenLaws all
       separator.tree t.tree.words t.tree.declr closing.tree) + 10) _ _ _ _ _ (omega arith) (omega arith) (b_postfixed room
       (va_arg keyword.tree opening.tree e.tree separator.tree t.tree.words t.tree.declr closing.tree) _ _))))))))
 
-  pub b_va_two_with : (make : (ℕ → ℕ → Expr → ℕ → Expr → ℕ → Expr)) (room : ℕ) (s : HeldScopes) (ts : List Lexeme) → is_end (kind_at
+  pub b_va_two_with : (make : (ℕ → ℕ → Expr → ℕ → Expr → ℕ → Expr)) (room : ℕ) (s : HeldScopes) (ts : List Lexeme)
+      → is_end (kind_at
       ts) ≡ false → ((a b : ℕ) (e : Expr) (x : ℕ) (e2 : Expr) (y : ℕ) → expr_height (make a b e x e2 y) ≤ max (expr_height e)
       (expr_height e2) + 1) → BoundAt expr_height (1) room (10) ts (va_two_with inner make room s ts)
   unfolding va_two_with
@@ -366,7 +394,8 @@ module _ (all : List Lexeme) (numbered : IsNumbered all) (tokens : TokenLaws all
       opening.tree e.tree separator.tree e2.tree closing.tree) + 10) _ _ _ _ _ (omega arith) (omega arith) (b_postfixed room
       (make keyword.tree opening.tree e.tree separator.tree e2.tree closing.tree) _ _))))))))
 
-  pub b_step_with : (room : ℕ) (s : HeldScopes) (ts : List Lexeme) → BoundAt step_height (1) room (11) ts (step_with inner room s ts)
+  pub b_step_with : (room : ℕ) (s : HeldScopes) (ts : List Lexeme)
+      → BoundAt step_height (1) room (11) ts (step_with inner room s ts)
   unfolding step_with
   b_step_with room s ts =
       bound_if _ _ _ _ _ (is_dot (kind_at ts)) (and_then (take_one s ts) (λ token. (and_then (name_at token.scopes token.rest) (λ
@@ -380,7 +409,8 @@ module _ (all : List Lexeme) (numbered : IsNumbered all) (tokens : TokenLaws all
       arith) (omega arith) (good.expr Whole nothing (room - 1) _ _)) (λ e b188 e189 l190. bound_bind token_levels _ (0) _ _ _ _
       _ _ (bound_token is_close_bracket _ _ _ _) (λ closing b191 e192 l193. bound_ends _ _ _ _ _ _ _ (omega arith)))))
 
-  pub b_offset_with : (room : ℕ) (s : HeldScopes) (ts : List Lexeme) → is_end (kind_at ts) ≡ false → BoundAt expr_height (1) room
+  pub b_offset_with : (room : ℕ) (s : HeldScopes) (ts : List Lexeme) → is_end (kind_at ts) ≡ false
+      → BoundAt expr_height (1) room
       (10) ts (offset_with inner room s ts)
   unfolding offset_with
   b_offset_with room s ts known =
@@ -399,14 +429,16 @@ module _ (all : List Lexeme) (numbered : IsNumbered all) (tokens : TokenLaws all
       (omega arith) (b_postfixed room (offset keyword.tree opening.tree t.tree.words t.tree.declr separator.tree name.tree
       (desigs_from steps.tree) closing.tree) _ _)))))))))
 
-  pub b_name_with : (name : ℕ) (room : ℕ) (s : HeldScopes) (ts : List Lexeme) → is_end (kind_at ts) ≡ false → BoundAt expr_height
+  pub b_name_with : (name : ℕ) (room : ℕ) (s : HeldScopes) (ts : List Lexeme) → is_end (kind_at ts) ≡ false
+      → BoundAt expr_height
       (1) room (10) ts (name_with inner name room s ts)
   b_name_with name room s ts known =
       bound_if _ _ _ _ _ (names_type s name) (refuses Unexpected ts) (primary_with inner (λ token. name_use token name) room s ts)
       (λ is217. record { held = λ e. absurd cc }) (λ is217. bound_weaker _ (1) room (10) _ _ _ _ _ (omega arith) (omega arith)
       (b_primary_with (λ token. name_use token name) room _ _ (known) (λ token9. omega arith)))
 
-  pub b_part_with : (room : ℕ) (s : HeldScopes) (ts : List Lexeme) → is_end (kind_at ts) ≡ false → BoundAt expr_height (1) room
+  pub b_part_with : (room : ℕ) (s : HeldScopes) (ts : List Lexeme) → is_end (kind_at ts) ≡ false
+      → BoundAt expr_height (1) room
       (10) ts (part_with inner room s ts)
   unfolding part_with
   b_part_with room s ts known =
@@ -415,7 +447,8 @@ module _ (all : List Lexeme) (numbered : IsNumbered all) (tokens : TokenLaws all
       nothing) (room - 1) (10 + begun_levels nothing) _ _ _ _ _ (omega arith) (omega arith) (good.expr Castable nothing (room - 1)
       _ _)) (λ e p1 q1 r1. bound_ends _ _ _ _ _ _ _ (omega arith))))
 
-  pub b_label_use_with : (room : ℕ) (s : HeldScopes) (ts : List Lexeme) → is_end (kind_at ts) ≡ false → BoundAt expr_height (1)
+  pub b_label_use_with : (room : ℕ) (s : HeldScopes) (ts : List Lexeme) → is_end (kind_at ts) ≡ false
+      → BoundAt expr_height (1)
       room (10) ts (label_use_with inner room s ts)
   unfolding label_use_with
   b_label_use_with room s ts known =
@@ -425,7 +458,8 @@ module _ (all : List Lexeme) (numbered : IsNumbered all) (tokens : TokenLaws all
       _ _ _) (λ token p5 q5 r5. bound_bind token_levels _ (0) _ _ _ _ _ _ (bound_name _ _ _ _) (λ name p4 q4 r4. bound_ends _ _ _
       _ _ _ _ (omega arith))))) (λ off. record { held = λ e. absurd cc })
 
-  pub b_compat_with : (room : ℕ) (s : HeldScopes) (ts : List Lexeme) → is_end (kind_at ts) ≡ false → BoundAt expr_height (1) room
+  pub b_compat_with : (room : ℕ) (s : HeldScopes) (ts : List Lexeme) → is_end (kind_at ts) ≡ false
+      → BoundAt expr_height (1) room
       (10) ts (compat_with inner room s ts)
   unfolding compat_with
   b_compat_with room s ts known =
@@ -441,7 +475,8 @@ module _ (all : List Lexeme) (numbered : IsNumbered all) (tokens : TokenLaws all
       arith) (omega arith) (b_postfixed room (compat keyword.tree opening.tree t.tree.words t.tree.declr separator.tree
       t2.tree.words t2.tree.declr closing.tree) _ _))))))))
 
-  pub b_choose_with : (room : ℕ) (s : HeldScopes) (ts : List Lexeme) → is_end (kind_at ts) ≡ false → BoundAt expr_height (1) room
+  pub b_choose_with : (room : ℕ) (s : HeldScopes) (ts : List Lexeme) → is_end (kind_at ts) ≡ false
+      → BoundAt expr_height (1) room
       (10) ts (choose_with inner room s ts)
   unfolding choose_with
   b_choose_with room s ts known =
@@ -461,7 +496,8 @@ module _ (all : List Lexeme) (numbered : IsNumbered all) (tokens : TokenLaws all
       (omega arith) (b_postfixed room (choose keyword.tree opening.tree e.tree separator.tree e2.tree separator2.tree e3.tree
       closing.tree) _ _))))))))))
 
-  pub b_default_assoc_with : (room : ℕ) (s : HeldScopes) (ts : List Lexeme) → is_end (kind_at ts) ≡ false → BoundAt assoc_height
+  pub b_default_assoc_with : (room : ℕ) (s : HeldScopes) (ts : List Lexeme) → is_end (kind_at ts) ≡ false
+      → BoundAt assoc_height
       (3) room (13) ts (default_assoc_with inner room s ts)
   unfolding default_assoc_with
   b_default_assoc_with room s ts known =
@@ -471,7 +507,8 @@ module _ (all : List Lexeme) (numbered : IsNumbered all) (tokens : TokenLaws all
       (10 + begun_levels nothing) _ _ _ _ _ (omega arith) (omega arith) (good.expr Assigned nothing (room - 1) _ _)) (λ e p23 q23
       r23. bound_ends _ _ _ _ _ _ _ (omega arith)))))
 
-  pub b_typed_assoc_with : (room : ℕ) (s : HeldScopes) (ts : List Lexeme) → is_end (kind_at ts) ≡ false → BoundAt assoc_height (3)
+  pub b_typed_assoc_with : (room : ℕ) (s : HeldScopes) (ts : List Lexeme) → is_end (kind_at ts) ≡ false
+      → BoundAt assoc_height (3)
       room (13) ts (typed_assoc_with inner room s ts)
   unfolding typed_assoc_with
   b_typed_assoc_with room s ts known =
@@ -485,7 +522,8 @@ module _ (all : List Lexeme) (numbered : IsNumbered all) (tokens : TokenLaws all
   role_known : (role : Role) (s : HeldScopes) (kind : TokenKind) → begins_role role s kind ≡ true → is_end kind ≡ false
   role_known role s kind is = known_by (λ kind. begins_role role s kind) refl kind is
 
-  pub b_assoc_with : (room : ℕ) (s : HeldScopes) (ts : List Lexeme) → BoundAt assoc_height (3) room (13) ts (assoc_with inner room
+  pub b_assoc_with : (room : ℕ) (s : HeldScopes) (ts : List Lexeme)
+      → BoundAt assoc_height (3) room (13) ts (assoc_with inner room
       s ts)
   unfolding assoc_with
   b_assoc_with room s ts =
@@ -495,13 +533,15 @@ module _ (all : List Lexeme) (numbered : IsNumbered all) (tokens : TokenLaws all
       inner room s ts) (refuses Unexpected ts) (λ is. b_typed_assoc_with room s ts (role_known Naming s (kind_at ts) is)) (λ off2.
       record { held = λ e. absurd cc }))
 
-  pub b_next_assoc : (room : ℕ) (token : ℕ) (s : HeldScopes) (ts : List Lexeme) → BoundAt (next_height {E = ⊥} assoc_height) (3)
+  pub b_next_assoc : (room : ℕ) (token : ℕ) (s : HeldScopes) (ts : List Lexeme)
+      → BoundAt (next_height {E = ⊥} assoc_height) (3)
       room (13) ts (next_assoc inner room token s ts)
   unfolding next_assoc
   b_next_assoc room token s ts =
       bound_bind assoc_height _ (3) _ _ _ _ _ _ (b_assoc_with room _ _) (λ x p31 q31 r31. bound_ends _ _ _ _ _ _ _ (omega arith))
 
-  pub b_generic_with : (room : ℕ) (s : HeldScopes) (ts : List Lexeme) → is_end (kind_at ts) ≡ false → BoundAt expr_height (1) room
+  pub b_generic_with : (room : ℕ) (s : HeldScopes) (ts : List Lexeme) → is_end (kind_at ts) ≡ false
+      → BoundAt expr_height (1) room
       (10) ts (generic_with inner room s ts)
   unfolding generic_with
   b_generic_with room s ts known =
@@ -519,7 +559,8 @@ module _ (all : List Lexeme) (numbered : IsNumbered all) (tokens : TokenLaws all
       opening.tree e.tree (assocs_from xs.tree.items) closing.tree) + 10) _ _ _ _ _ (omega arith) (omega arith) (b_postfixed room
       (generic keyword.tree opening.tree e.tree (assocs_from xs.tree.items) closing.tree) _ _))))))))
 
-  pub b_unary_by : (a0 : Opening) (room : ℕ) (s : HeldScopes) (ts : List Lexeme) → ((a0 ≡ openings.Nothing → ⊥) → is_end (kind_at
+  pub b_unary_by : (a0 : Opening) (room : ℕ) (s : HeldScopes) (ts : List Lexeme)
+      → ((a0 ≡ openings.Nothing → ⊥) → is_end (kind_at
       ts) ≡ false) → BoundAt expr_height (1) room (10) ts (unary_by inner a0 room s ts)
   unfolding unary_by
   b_unary_by (openings.Prefix p reach) room s ts known =
@@ -563,13 +604,15 @@ module _ (all : List Lexeme) (numbered : IsNumbered all) (tokens : TokenLaws all
   b_unary_by openings.Nothing room s ts known =
       record { held = λ e. absurd cc }
 
-  pub b_unary_with : (room : ℕ) (s : HeldScopes) (ts : List Lexeme) → BoundAt expr_height (1) room (10) ts (unary_with inner room s ts)
+  pub b_unary_with : (room : ℕ) (s : HeldScopes) (ts : List Lexeme)
+      → BoundAt expr_height (1) room (10) ts (unary_with inner room s ts)
   unfolding unary_with
   b_unary_with room s ts =
       bound_weaker _ (1) room (10) _ _ _ _ _ (omega arith) (omega arith) (b_unary_by (opening_of (kind_at ts)) room _ _ (known_of
       opening_of openings.Nothing refl (kind_at ts)))
 
-  pub b_cast_with : (room : ℕ) (s : HeldScopes) (ts : List Lexeme) → BoundAt expr_height (1) room (10) ts (cast_with inner room s ts)
+  pub b_cast_with : (room : ℕ) (s : HeldScopes) (ts : List Lexeme)
+      → BoundAt expr_height (1) room (10) ts (cast_with inner room s ts)
   unfolding cast_with
   b_cast_with room s ts =
       bound_if _ _ _ _ _ (is_open_paren (kind_at ts)) (opened_with inner true room s ts) (unary_with inner room s ts) (λ is218.
@@ -577,7 +620,8 @@ module _ (all : List Lexeme) (numbered : IsNumbered all) (tokens : TokenLaws all
       is_open_paren kind9) refl (kind_at ts) is218))) (λ is218. bound_weaker _ (1) room (10) _ _ _ _ _ (omega arith) (omega
       arith) (b_unary_with room _ _))
 
-  pub b_operand_with : (a0 : Begun) (room : ℕ) (s : HeldScopes) (ts : List Lexeme) → BoundAt expr_height (1 + begun_levels a0) room
+  pub b_operand_with : (a0 : Begun) (room : ℕ) (s : HeldScopes) (ts : List Lexeme)
+      → BoundAt expr_height (1 + begun_levels a0) room
       (10 + begun_levels a0) ts (operand_with inner a0 room s ts)
   unfolding operand_with
   b_operand_with nothing room s ts =
@@ -591,7 +635,8 @@ module _ (all : List Lexeme) (numbered : IsNumbered all) (tokens : TokenLaws all
       (b_cast_with (room - 1) _ _)) (λ e b223 e224 l225. bound_ends _ _ _ _ _ _ _ (omega arith))
 
   -- an operator and the operand behind it
-  operation_bound : (op : Operator) → operator_height op ≤ 0 → (left : Settled) (room : ℕ) (s : HeldScopes) (ts : List Lexeme) (c :
+  operation_bound : (op : Operator) → operator_height op ≤ 0
+      → (left : Settled) (room : ℕ) (s : HeldScopes) (ts : List Lexeme) (c :
       ℕ) → 1 ≤ c → pot left.below (expr_height left.last) ≤ c → is_end (kind_at ts) ≡ false →
       BoundAt row_height c room (c + 9) ts (operation_with inner op left room s ts)
   operation_bound op none left room s ts c high low known =
@@ -613,7 +658,8 @@ module _ (all : List Lexeme) (numbered : IsNumbered all) (tokens : TokenLaws all
       (max (expr_height left.last) (max (operator_height op) (expr_height e.tree)) + 1) c (8 * length b2 + (8 * length b1 + c))
       low (omega arith) (omega arith) (omega arith)))))
 
-  pub b_middle_with : (room : ℕ) (s : HeldScopes) (ts : List Lexeme) → BoundAt some_expr_height (1) room (10) ts (middle_with inner
+  pub b_middle_with : (room : ℕ) (s : HeldScopes) (ts : List Lexeme)
+      → BoundAt some_expr_height (1) room (10) ts (middle_with inner
       room s ts)
   unfolding middle_with
   b_middle_with room s ts =
@@ -623,7 +669,8 @@ module _ (all : List Lexeme) (numbered : IsNumbered all) (tokens : TokenLaws all
       _ (omega arith) (omega arith) (good.expr Whole nothing room _ _)) (λ e b227 e228 l229. bound_ends _ _ _ _ _ _ _ (omega
       arith)))
 
-  question_bound : (left : Settled) (room : ℕ) (s : HeldScopes) (ts : List Lexeme) (c : ℕ) → 1 ≤ c → pot left.below (expr_height
+  question_bound : (left : Settled) (room : ℕ) (s : HeldScopes) (ts : List Lexeme) (c : ℕ) → 1 ≤ c
+      → pot left.below (expr_height
       left.last) ≤ c → is_end (kind_at ts) ≡ false →
       BoundAt row_height c room (c + 9) ts (question_with inner left room s ts)
   question_bound left room s ts c high low known =
@@ -661,19 +708,22 @@ module _ (all : List Lexeme) (numbered : IsNumbered all) (tokens : TokenLaws all
       e.tree)) + 1) (max (expr_height left.last) (max (some_expr_height middle.tree) (expr_height e.tree)) + 1) c (8 * length b4
       + (8 * length b3 + (8 * length b2 + (8 * length b1 + c)))) low (omega arith) (omega arith) (omega arith)))))))
 
-  operation_step : (reach : Reach) (room : ℕ) (row : Row) (s : HeldScopes) (ts : List Lexeme) (c : ℕ) → 1 ≤ c → row_height row ≤ c →
+  operation_step : (reach : Reach) (room : ℕ) (row : Row) (s : HeldScopes) (ts : List Lexeme) (c : ℕ) → 1 ≤ c
+      → row_height row ≤ c →
       StepAt row_height c room (c + 9) ts (operation_turn inner reach room row s ts)
   operation_step reach room row s ts c high low = by_infix (infix_of (kind_at ts)) (known_of infix_of infixes.Nothing refl (kind_at ts))
     where
       at_level : (level : ℕ) → pot (settled row level).below (expr_height (settled row level).last) ≤ c
       at_level level = let same = settled_pot level row.waiting row.last in omega arith
 
-      by_comma : (b : Bool) → is_end (kind_at ts) ≡ false → StepAt row_height c room (c + 9) ts (if b then Some (operation_with
+      by_comma : (b : Bool) → is_end (kind_at ts) ≡ false
+          → StepAt row_height c room (c + 9) ts (if b then Some (operation_with
           inner comma (settled row 0) room s ts) else None)
       by_comma true known = operation_bound comma (omega arith) (settled row 0) room s ts c high (at_level 0) known
       by_comma false known = tt
 
-      by_assign : (p : Punct) (b : Bool) → is_end (kind_at ts) ≡ false → StepAt row_height c room (c + 9) ts (if b then Some
+      by_assign : (p : Punct) (b : Bool) → is_end (kind_at ts) ≡ false
+          → StepAt row_height c room (c + 9) ts (if b then Some
           (operation_with inner (assign p) (settled row 1) room s ts) else None)
       by_assign p true known = operation_bound (assign p) (omega arith) (settled row 1) room s ts c high (at_level 1) known
       by_assign p false known = tt
@@ -684,7 +734,8 @@ module _ (all : List Lexeme) (numbered : IsNumbered all) (tokens : TokenLaws all
       by_target p true known = by_assign p (takes_assign reach) known
       by_target p false known = record { held = λ e. absurd cc }
 
-      by_infix : (i : Infix) → ((i ≡ infixes.Nothing → ⊥) → is_end (kind_at ts) ≡ false) → StepAt row_height c room (c + 9) ts
+      by_infix : (i : Infix) → ((i ≡ infixes.Nothing → ⊥) → is_end (kind_at ts) ≡ false)
+          → StepAt row_height c room (c + 9) ts
           (operation_by inner reach room i row s ts)
       by_infix infixes.Comma known = by_comma (takes_comma reach) (known (λ e9. absurd cc))
       by_infix (infixes.Assign p) known = by_target p (nat_le 14 (expr_level (settled row 1).last)) (known (λ e9. absurd cc))
@@ -693,7 +744,8 @@ module _ (all : List Lexeme) (numbered : IsNumbered all) (tokens : TokenLaws all
           high (at_level (binary_level p + 2)) (known (λ e9. absurd cc))
       by_infix infixes.Nothing known = tt
 
-  pub b_row_with : (reach : Reach) (begun : Begun) (room : ℕ) (s : HeldScopes) (ts : List Lexeme) → BoundAt expr_height (1 +
+  pub b_row_with : (reach : Reach) (begun : Begun) (room : ℕ) (s : HeldScopes) (ts : List Lexeme)
+      → BoundAt expr_height (1 +
       begun_levels begun) room (10 + begun_levels begun) ts (row_with inner reach begun room s ts)
   unfolding row_with
   b_row_with reach begun room s ts =
@@ -716,7 +768,8 @@ module _ (all : List Lexeme) (numbered : IsNumbered all) (tokens : TokenLaws all
       * length b1 + (10 + begun_levels begun))) (finished row.tree.waiting row.tree.last) row.scopes row.rest
       (let same = finished_pot row.tree.waiting row.tree.last in omega arith)))
 
-  pub b_expr_with : (a0 : Reach) (begun : Begun) (room : ℕ) (s : HeldScopes) (ts : List Lexeme) → BoundAt expr_height (1 +
+  pub b_expr_with : (a0 : Reach) (begun : Begun) (room : ℕ) (s : HeldScopes) (ts : List Lexeme)
+      → BoundAt expr_height (1 +
       begun_levels begun) room (10 + begun_levels begun) ts (expr_with inner a0 begun room s ts)
   unfolding expr_with
   b_expr_with Whole begun room s ts =

@@ -28,7 +28,8 @@ pub low_assocs : (xs : List Assoc) → assocs_height (assocs_from xs) ≤ most_o
 low_assocs [] = omega arith
 low_assocs (x ∷ xs) = let rest = low_assocs xs in omega arith
 
-pub low_struct_items : (xs : List StructItem) → struct_items_height (struct_items_from xs) ≤ most_of struct_item_height xs
+pub low_struct_items : (xs : List StructItem)
+    → struct_items_height (struct_items_from xs) ≤ most_of struct_item_height xs
 low_struct_items [] = omega arith
 low_struct_items (x ∷ xs) = let rest = low_struct_items xs in omega arith
 
@@ -87,7 +88,8 @@ low_least_pointer Named = omega arith
 low_least_pointer Abstract = omega arith
 low_least_pointer Either = omega arith
 
-pub low_pushed : (ws : SpecWords) (w : SpecWord) → specs_height (pushed ws w) ≤ max (specs_height ws) (spec_word_height w + 1)
+pub low_pushed : (ws : SpecWords) (w : SpecWord)
+    → specs_height (pushed ws w) ≤ max (specs_height ws) (spec_word_height w + 1)
 low_pushed no_words w = omega arith
 low_pushed (more_words v ws) w = let rest = low_pushed ws w in omega arith
 
@@ -96,34 +98,40 @@ low_specs no_words = omega arith
 low_specs (more_words w ws) = omega arith
 
 -- by whether a name is there
-either : (b : Bool) (one two : Declr) (h : ℕ) → declr_height one ≤ h → declr_height two ≤ h → declr_height (if b then one else two) ≤ h
+either : (b : Bool) (one two : Declr) (h : ℕ) → declr_height one ≤ h → declr_height two ≤ h
+    → declr_height (if b then one else two) ≤ h
 either true one two h x y = x
 either false one two h x y = y
 
-pub low_pointer : (token : ℕ) (words : List PointerWord) (d : SomeDeclr) → declr_height (with_pointer token words d) ≤ max
+pub low_pointer : (token : ℕ) (words : List PointerWord) (d : SomeDeclr)
+    → declr_height (with_pointer token words d) ≤ max
     (pointer_words_height words) (some_declr_height d) + 1
 low_pointer token words no_declr = omega arith
 low_pointer token words (some_declr d) = either (is_named d) (pointer token words d) (abs_pointer token words (some_declr d)) (max
     (pointer_words_height words) (declr_height d) + 1) (omega arith) (omega arith)
 
-pub low_array : (d : SomeDeclr) (opening : ℕ) (words : List ArrayWord) (size : SomeSize) (closing : ℕ) → declr_height (with_array d
+pub low_array : (d : SomeDeclr) (opening : ℕ) (words : List ArrayWord) (size : SomeSize) (closing : ℕ)
+    → declr_height (with_array d
     opening words size closing) ≤ max (some_declr_height d) (some_size_height size) + 1
 low_array no_declr opening words size closing = omega arith
 low_array (some_declr d) opening words size closing = either (is_named d) (array d opening words size closing) (abs_array
     (some_declr d) opening words size closing) (max (declr_height d) (some_size_height size) + 1) (omega arith) (omega arith)
 
-pub low_params_of : (d : SomeDeclr) (opening : ℕ) (ps : Params) (dots : Option Dots) (closing : ℕ) → declr_height (with_params d
+pub low_params_of : (d : SomeDeclr) (opening : ℕ) (ps : Params) (dots : Option Dots) (closing : ℕ)
+    → declr_height (with_params d
     opening ps dots closing) ≤ max (some_declr_height d) (params_height ps) + 1
 low_params_of no_declr opening ps dots closing = omega arith
 low_params_of (some_declr d) opening ps dots closing = either (is_named d) (params d opening ps dots closing) (abs_params
     (some_declr d) opening ps dots closing) (max (declr_height d) (params_height ps) + 1) (omega arith) (omega arith)
 
-pub low_paren : (opening : ℕ) (attrs : List Attr) (d : Declr) (closing : ℕ) → declr_height (with_paren opening attrs d closing) ≤
+pub low_paren : (opening : ℕ) (attrs : List Attr) (d : Declr) (closing : ℕ)
+    → declr_height (with_paren opening attrs d closing) ≤
     max (attrs_height attrs) (declr_height d) + 1
 low_paren opening attrs d closing = either (is_named d) (declr_paren opening attrs d closing) (abs_paren opening attrs d closing)
     (max (attrs_height attrs) (declr_height d) + 1) (omega arith) (omega arith)
 
-pub most_append : {T : Type 0} (height : T → ℕ) (xs ys : List T) → most_of height (xs ++ ys) ≤ max (most_of height xs) (most_of height ys)
+pub most_append : {T : Type 0} (height : T → ℕ) (xs ys : List T)
+    → most_of height (xs ++ ys) ≤ max (most_of height xs) (most_of height ys)
 most_append height [] ys = omega arith
 most_append height (x ∷ xs) ys = let rest = most_append height xs ys in omega arith
 

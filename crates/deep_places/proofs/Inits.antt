@@ -20,7 +20,8 @@ use Rattle.deep_places.proofs.Bounding.{bound_ends, bound_weaker, bound_bind, bo
 
 module _ (all : List Lexeme) (numbered : IsNumbered all) (tokens : TokenLaws all) (n : ℕ) (inner : Inner) (laws : Laws all n inner)
     (good : InnerBounds inner) where
-  pub b_equal_behind : (room : ℕ) (a0 : Desigs) (s : HeldScopes) (ts : List Lexeme) → BoundAt (no_levels {A = Option ℕ}) (0) room
+  pub b_equal_behind : (room : ℕ) (a0 : Desigs) (s : HeldScopes) (ts : List Lexeme)
+      → BoundAt (no_levels {A = Option ℕ}) (0) room
       (0) ts (equal_behind a0 s ts)
   b_equal_behind room no_desigs s ts =
       bound_ends _ _ _ _ _ _ _ (omega arith)
@@ -28,7 +29,8 @@ module _ (all : List Lexeme) (numbered : IsNumbered all) (tokens : TokenLaws all
       bound_bind token_levels _ (0) _ _ _ _ _ _ (bound_token is_equal _ _ _ _) (λ equal b230 e231 l232. bound_ends _ _ _ _ _ _ _
       (omega arith))
 
-  pub b_init_with : (room : ℕ) (s : HeldScopes) (ts : List Lexeme) → BoundAt init_height (1) room (10) ts (init_with inner room s ts)
+  pub b_init_with : (room : ℕ) (s : HeldScopes) (ts : List Lexeme)
+      → BoundAt init_height (1) room (10) ts (init_with inner room s ts)
   unfolding init_with
   b_init_with room s ts =
       bound_if _ _ _ _ _ (is_open_brace (kind_at ts)) (and_then (inner.init_list room s ts) (λ list. (ends (init_braced list.tree)
@@ -39,7 +41,8 @@ module _ (all : List Lexeme) (numbered : IsNumbered all) (tokens : TokenLaws all
       begun_levels nothing) _ _ _ _ _ (omega arith) (omega arith) (good.expr Assigned nothing room _ _)) (λ e b237 e238 l239.
       bound_ends _ _ _ _ _ _ _ (omega arith)))
 
-  pub b_member_desig_with : (room : ℕ) (s : HeldScopes) (ts : List Lexeme) → is_end (kind_at ts) ≡ false → BoundAt desig_height (2)
+  pub b_member_desig_with : (room : ℕ) (s : HeldScopes) (ts : List Lexeme) → is_end (kind_at ts) ≡ false
+      → BoundAt desig_height (2)
       room (12) ts (member_desig_with inner room s ts)
   unfolding member_desig_with
   b_member_desig_with room s ts known =
@@ -47,7 +50,8 @@ module _ (all : List Lexeme) (numbered : IsNumbered all) (tokens : TokenLaws all
       _ _ _ _) (λ token b241 e242 l243. bound_bind token_levels _ (0) _ _ _ _ _ _ (bound_name _ _ _ _) (λ name b244 e245 l246.
       bound_ends _ _ _ _ _ _ _ (omega arith))))
 
-  pub b_range_behind : (opening : ℕ) (first : Expr) (room : ℕ) (s : HeldScopes) (ts : List Lexeme) → BoundAt desig_height (max
+  pub b_range_behind : (opening : ℕ) (first : Expr) (room : ℕ) (s : HeldScopes) (ts : List Lexeme)
+      → BoundAt desig_height (max
       (expr_height first + 2) 3) room (12) ts (range_behind inner opening first room s ts)
   unfolding range_behind
   b_range_behind opening first room s ts =
@@ -56,7 +60,8 @@ module _ (all : List Lexeme) (numbered : IsNumbered all) (tokens : TokenLaws all
       _ (omega arith) (omega arith) (good.expr Conditional nothing (room - 2) _ _)) (λ e p402 q402 r402. bound_bind token_levels _
       (0) _ _ _ _ _ _ (bound_token is_close_bracket _ _ _ _) (λ closing p401 q401 r401. bound_ends _ _ _ _ _ _ _ (omega arith))))
 
-  pub b_index_behind : (opening : ℕ) (first : Expr) (room : ℕ) (s : HeldScopes) (ts : List Lexeme) → BoundAt desig_height (max
+  pub b_index_behind : (opening : ℕ) (first : Expr) (room : ℕ) (s : HeldScopes) (ts : List Lexeme)
+      → BoundAt desig_height (max
       (expr_height first + 2) 3) room (12) ts (index_behind inner opening first room s ts)
   unfolding index_behind
   b_index_behind opening first room s ts =
@@ -65,7 +70,8 @@ module _ (all : List Lexeme) (numbered : IsNumbered all) (tokens : TokenLaws all
       b_range_behind opening first room s ts) (λ off. bound_bind token_levels _ (0) _ _ _ _ _ _ (bound_token is_close_bracket _ _
       _ _) (λ closing p404 q404 r404. bound_ends _ _ _ _ _ _ _ (omega arith)))
 
-  pub b_index_desig_with : (room : ℕ) (s : HeldScopes) (ts : List Lexeme) → is_end (kind_at ts) ≡ false → BoundAt desig_height (2)
+  pub b_index_desig_with : (room : ℕ) (s : HeldScopes) (ts : List Lexeme) → is_end (kind_at ts) ≡ false
+      → BoundAt desig_height (2)
       room (12) ts (index_desig_with inner room s ts)
   unfolding index_desig_with
   b_index_desig_with room s ts known =
@@ -75,7 +81,8 @@ module _ (all : List Lexeme) (numbered : IsNumbered all) (tokens : TokenLaws all
       nothing (room - 2) _ _)) (λ e b251 e252 l253. bound_weaker _ (max (expr_height e.tree + 2) 3) room (12) _ _ _ _ _ (omega arith) (omega arith)
       (b_index_behind opening.tree e.tree room e.scopes e.rest))))
 
-  pub b_desig_with : (room : ℕ) (s : HeldScopes) (ts : List Lexeme) → is_end (kind_at ts) ≡ false → BoundAt desig_height (2) room
+  pub b_desig_with : (room : ℕ) (s : HeldScopes) (ts : List Lexeme) → is_end (kind_at ts) ≡ false
+      → BoundAt desig_height (2) room
       (12) ts (desig_with inner room s ts)
   unfolding desig_with
   b_desig_with room s ts known =
@@ -84,7 +91,8 @@ module _ (all : List Lexeme) (numbered : IsNumbered all) (tokens : TokenLaws all
       is_dot kind9) refl (kind_at ts) is257))) (λ is257. bound_weaker _ (2) room (12) _ _ _ _ _ (omega arith) (omega arith)
       (b_index_desig_with room _ _ (known)))
 
-  pub b_init_here : (room : ℕ) (s : HeldScopes) (ts : List Lexeme) → BoundAt init_height (1) room (11) ts (init_here inner room s ts)
+  pub b_init_here : (room : ℕ) (s : HeldScopes) (ts : List Lexeme)
+      → BoundAt init_height (1) room (11) ts (init_here inner room s ts)
   unfolding init_here
   b_init_here room s ts =
       bound_if _ _ _ _ _ (begins_init s (kind_at ts)) (fits 2 room ts (init_with inner (room - 1) s ts)) (refuses Unexpected ts) (λ
@@ -92,7 +100,8 @@ module _ (all : List Lexeme) (numbered : IsNumbered all) (tokens : TokenLaws all
       arith) (λ less259. bound_weaker _ (1) (room - 1) (10) _ _ _ _ _ (omega arith) (omega arith) (b_init_with (room - 1) _ _)))
       (λ is258. record { held = λ e. absurd cc })
 
-  pub b_plain_item : (room : ℕ) (s : HeldScopes) (ts : List Lexeme) → BoundAt list_item_height (3) room (12) ts (plain_item
+  pub b_plain_item : (room : ℕ) (s : HeldScopes) (ts : List Lexeme)
+      → BoundAt list_item_height (3) room (12) ts (plain_item
       inner room s ts)
   unfolding plain_item
   b_plain_item room s ts =
@@ -105,7 +114,8 @@ module _ (all : List Lexeme) (numbered : IsNumbered all) (tokens : TokenLaws all
       (11) _ _ _ _ _ (omega arith) (omega arith) (b_init_here room _ _)) (λ init b267 e268 l269. bound_ends _ _ _ _ _ _ _ (let
       f270 = low_desigs desigs.tree in omega arith))))
 
-  pub b_old_item : (room : ℕ) (s : HeldScopes) (ts : List Lexeme) → BoundAt list_item_height (3) room (12) ts (old_item inner room
+  pub b_old_item : (room : ℕ) (s : HeldScopes) (ts : List Lexeme)
+      → BoundAt list_item_height (3) room (12) ts (old_item inner room
       s ts)
   unfolding old_item
   b_old_item room s ts =
@@ -114,7 +124,8 @@ module _ (all : List Lexeme) (numbered : IsNumbered all) (tokens : TokenLaws all
       room (11) _ _ _ _ _ (omega arith) (omega arith) (b_init_here room _ _)) (λ init p405 q405 r405. bound_ends _ _ _ _ _ _ _
       (omega arith))))
 
-  pub b_named_init_item : (name : ℕ) (room : ℕ) (s : HeldScopes) (ts : List Lexeme) → is_end (kind_at ts) ≡ false → BoundAt
+  pub b_named_init_item : (name : ℕ) (room : ℕ) (s : HeldScopes) (ts : List Lexeme) → is_end (kind_at ts) ≡ false
+      → BoundAt
       list_item_height (3) room (12) ts (named_init_item inner name room s ts)
   unfolding named_init_item
   b_named_init_item name room s ts known =
@@ -123,17 +134,20 @@ module _ (all : List Lexeme) (numbered : IsNumbered all) (tokens : TokenLaws all
       (λ on. b_old_item room s ts) (λ off. bound_if _ _ _ _ _ (names_type s name) (refuses Unexpected (behind_first ts))
       (plain_item inner room s ts) (λ on. record { held = λ e. absurd cc }) (λ off2. b_plain_item room s ts)))
 
-  b_init_item_by : (o : Option ℕ) (room : ℕ) (s : HeldScopes) (ts : List Lexeme) → ((o ≡ None → ⊥) → is_end (kind_at ts) ≡ false) →
+  b_init_item_by : (o : Option ℕ) (room : ℕ) (s : HeldScopes) (ts : List Lexeme)
+      → ((o ≡ None → ⊥) → is_end (kind_at ts) ≡ false) →
       BoundAt list_item_height (3) room (12) ts (init_item_by inner o room s ts)
   b_init_item_by None room s ts known = b_plain_item room s ts
   b_init_item_by (Some name) room s ts known =
       bound_if _ _ _ _ _ (is_wide s) (named_init_item inner name room s ts) (plain_item inner room s ts) (λ on. b_named_init_item name room s ts (known (λ e9. absurd cc))) (λ off. b_plain_item room s ts)
 
-  pub b_init_item_with : (room : ℕ) (s : HeldScopes) (ts : List Lexeme) → BoundAt list_item_height (3) room (12) ts (init_item_with inner room s ts)
+  pub b_init_item_with : (room : ℕ) (s : HeldScopes) (ts : List Lexeme)
+      → BoundAt list_item_height (3) room (12) ts (init_item_with inner room s ts)
   unfolding init_item_with
   b_init_item_with room s ts = b_init_item_by (spelled_name (kind_at ts)) room s ts (known_of spelled_name None refl (kind_at ts))
 
-  pub b_next_init_item : (room : ℕ) (token : ℕ) (s : HeldScopes) (ts : List Lexeme) → BoundAt (next_height {E = ℕ} list_item_height)
+  pub b_next_init_item : (room : ℕ) (token : ℕ) (s : HeldScopes) (ts : List Lexeme)
+      → BoundAt (next_height {E = ℕ} list_item_height)
       (3) room (12) ts (next_init_item inner room token s ts)
   unfolding next_init_item
   b_next_init_item room token s ts =
@@ -142,7 +156,8 @@ module _ (all : List Lexeme) (numbered : IsNumbered all) (tokens : TokenLaws all
       list_item_height _ (3) _ _ _ _ _ _ (bound_weaker _ (3) room (12) _ _ _ _ _ (omega arith) (omega arith) (b_init_item_with
       room _ _)) (λ x b272 e273 l274. bound_ends _ _ _ _ _ _ _ (omega arith)))
 
-  pub b_init_items_with : (room : ℕ) (s : HeldScopes) (ts : List Lexeme) → BoundAt (list_height {E = ℕ} list_item_height) (3) room
+  pub b_init_items_with : (room : ℕ) (s : HeldScopes) (ts : List Lexeme)
+      → BoundAt (list_height {E = ℕ} list_item_height) (3) room
       (12) ts (init_items_with inner room s ts)
   unfolding init_items_with
   b_init_items_with room s ts =
@@ -153,7 +168,8 @@ module _ (all : List Lexeme) (numbered : IsNumbered all) (tokens : TokenLaws all
       ts (bound_weaker _ (3) room (12) _ _ _ _ _ (omega arith) (omega arith) (b_init_item_with room _ _)) (λ comma s9 ts9.
       bound_weaker _ (3) room (12) _ _ _ _ _ (omega arith) (omega arith) (b_next_init_item room comma _ _))))
 
-  pub b_braced_with : (room : ℕ) (s : HeldScopes) (ts : List Lexeme) → is_end (kind_at ts) ≡ false → BoundAt init_list_height (1)
+  pub b_braced_with : (room : ℕ) (s : HeldScopes) (ts : List Lexeme) → is_end (kind_at ts) ≡ false
+      → BoundAt init_list_height (1)
       room (10) ts (braced_with inner room s ts)
   unfolding braced_with
   b_braced_with room s ts known =
@@ -163,7 +179,8 @@ module _ (all : List Lexeme) (numbered : IsNumbered all) (tokens : TokenLaws all
       bound_bind token_levels _ (0) _ _ _ _ _ _ (bound_token is_close_brace _ _ _ _) (λ closing b283 e284 l285. bound_ends _ _ _
       _ _ _ _ (let f286 = low_init_items items.tree.items in omega arith)))))
 
-  pub b_init_list_with : (room : ℕ) (s : HeldScopes) (ts : List Lexeme) → BoundAt init_list_height (1) room (10) ts (init_list_with
+  pub b_init_list_with : (room : ℕ) (s : HeldScopes) (ts : List Lexeme)
+      → BoundAt init_list_height (1) room (10) ts (init_list_with
       inner room s ts)
   unfolding init_list_with
   b_init_list_with room s ts =

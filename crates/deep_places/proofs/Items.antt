@@ -41,7 +41,8 @@ module _ (all : List Lexeme) (numbered : IsNumbered all) (tokens : TokenLaws all
       (omega arith) (omega arith) (b_block_body all numbered tokens n inner laws good (room - 1) _ _)) (λ body b972 e973 l974.
       bound_ends _ _ _ _ _ _ _ (omega arith))
 
-  pub b_attrs_behind : (d : Declr) (attrs : List Attr) (room : ℕ) (s : HeldScopes) (ts : List Lexeme) → BoundAt declr_item_height
+  pub b_attrs_behind : (d : Declr) (attrs : List Attr) (room : ℕ) (s : HeldScopes) (ts : List Lexeme)
+      → BoundAt declr_item_height
       (declr_height d + 2) room (declr_height d + 10) ts (attrs_behind inner d attrs room s ts)
   unfolding attrs_behind
   b_attrs_behind d attrs room s ts =
@@ -141,7 +142,8 @@ module _ (all : List Lexeme) (numbered : IsNumbered all) (tokens : TokenLaws all
       (omega arith) (omega arith) (b_block_body all numbered tokens n inner laws good (room - 1) _ _)) (λ body p703 q703 r703.
       bound_ends _ _ _ _ _ _ _ (omega arith))))
 
-  pub b_first_declr : (exts : List ℕ) (words : SpecWords) (room : ℕ) (s : HeldScopes) (ts : List Lexeme) → BoundAt item_height
+  pub b_first_declr : (exts : List ℕ) (words : SpecWords) (room : ℕ) (s : HeldScopes) (ts : List Lexeme)
+      → BoundAt item_height
       (specs_height words + 4) room (17) ts (first_declr inner exts words room s ts)
   unfolding first_declr
   b_first_declr exts words room s ts =
@@ -154,7 +156,8 @@ module _ (all : List Lexeme) (numbered : IsNumbered all) (tokens : TokenLaws all
       (λ off. bound_weaker _ (specs_height words + declr_height known.tree + 4) room (declr_height known.tree + 17) _ _ _ _ _ (omega arith) (omega
       arith) (b_behind_declr exts words known.tree d.tree.closed room (release Value known.scopes) known.rest))))
 
-  pub b_declared_item : (room : ℕ) (s : HeldScopes) (ts : List Lexeme) → BoundAt item_height (8) room (20) ts (declared_item inner
+  pub b_declared_item : (room : ℕ) (s : HeldScopes) (ts : List Lexeme)
+      → BoundAt item_height (8) room (20) ts (declared_item inner
       room s ts)
   unfolding declared_item
   b_declared_item room s ts =
@@ -183,7 +186,8 @@ module _ (all : List Lexeme) (numbered : IsNumbered all) (tokens : TokenLaws all
       is998. bound_weaker _ (specs_height words.tree + 4) room (17) _ _ _ _ _ (omega arith) (omega arith) (b_first_declr
       exts.tree words.tree room _ _))))))
 
-  pub b_asm_item_with : (room : ℕ) (s : HeldScopes) (ts : List Lexeme) → BoundAt item_height (8) room (0) ts (asm_item_with inner s ts)
+  pub b_asm_item_with : (room : ℕ) (s : HeldScopes) (ts : List Lexeme)
+      → BoundAt item_height (8) room (0) ts (asm_item_with inner s ts)
   unfolding asm_item_with
   b_asm_item_with room s ts =
       bound_bind token_levels _ (0) _ _ _ _ _ _ (bound_take _ _ _ _) (λ keyword b1004 e1005 l1006. bound_bind (no_levels {A =
@@ -191,7 +195,8 @@ module _ (all : List Lexeme) (numbered : IsNumbered all) (tokens : TokenLaws all
       group b1007 e1008 l1009. bound_bind token_levels _ (0) _ _ _ _ _ _ (bound_token is_semicolon _ _ _ _) (λ semi b1010 e1011
       l1012. bound_ends _ _ _ _ _ _ _ (omega arith))))
 
-  pub b_item_with : (room : ℕ) (s : HeldScopes) (ts : List Lexeme) → BoundAt item_height (8) room (20) ts (item_with inner room s ts)
+  pub b_item_with : (room : ℕ) (s : HeldScopes) (ts : List Lexeme)
+      → BoundAt item_height (8) room (20) ts (item_with inner room s ts)
   unfolding item_with
   b_item_with room s ts =
       bound_if _ _ _ _ _ (is_semicolon (kind_at ts)) (fits 1 room ts (and_then (take_one s ts) (λ semi. (ends (semi_item (record {
@@ -212,7 +217,8 @@ module _ (all : List Lexeme) (numbered : IsNumbered all) (tokens : TokenLaws all
       _ _ _ (omega arith) (omega arith) (b_assert_at room _ _)) (λ it b1022 e1023 l1024. bound_ends _ _ _ _ _ _ _ (omega
       arith)))) (λ is1020. bound_weaker _ (8) room (20) _ _ _ _ _ (omega arith) (omega arith) (b_declared_item room _ _))))
 
-  pub b_items_with : (room : ℕ) (s : HeldScopes) (ts : List Lexeme) → BoundAt (most_of item_height) 8 room 20 ts (items_with inner
+  pub b_items_with : (room : ℕ) (s : HeldScopes) (ts : List Lexeme)
+      → BoundAt (most_of item_height) 8 room 20 ts (items_with inner
       room s ts)
   unfolding items_with
   b_items_with room s ts = bound_repeated (λ kind. not (is_end kind)) (item_with inner room) item_height 8 room 20 (item_shrinks all

@@ -1,5 +1,5 @@
 -- Where a unit is refused for its height, many tokens stand before: over the readers of every number.
-use Rattle.std.proofs.Common.{◌≡◌, ℕ, zero, suc, ◌+◌, ◌<◌, ◌≤◌, Bool, List, [], ◌∷◌, ◌++◌, length, slice_get, Some, Ok, Err, refl, ◌∙◌, ap, subst, arith}
+use Rattle.std.proofs.Common.{◌≡◌, ℕ, zero, suc, ◌+◌, ◌≤◌, Bool, List, [], ◌∷◌, ◌++◌, length, slice_get, Some, Ok, Err, refl, ◌∙◌, ap, subst, arith}
 use Rattle.std.specs.Prelude.{◌*◌, ◌-◌}
 use Rattle.c_tree.specs.declared.lexeme.Lexeme.{Lexeme}
 use Rattle.c_tree.specs.Unit.{Item, item_height}
@@ -11,7 +11,8 @@ use Rattle.c_reading.specs.Reading.{IsNumbered, Refusal, Read, and_then, token_a
 use Rattle.c_reading.specs.Tokens.{is_end}
 use Rattle.c_reading.specs.Items.{items_with}
 use Rattle.c_reading.specs.Knot.{tied, knot, alone}
-use Rattle.c_reading.proofs.Aims.{Laws, declr_number}
+use Rattle.c_reading.proofs.Aims.{Laws}
+use Rattle.c_reading.proofs.Never.{never_laws}
 use Rattle.c_reading.proofs.KnotLaws.{knot_laws, none_numbered, none_tokens}
 use Rattle.room_laws.specs.Rooms.{unit_of}
 use Rattle.deep_places.specs.Bounds.{BoundAt, DeepAt, most_of, InnerBounds}
@@ -22,54 +23,6 @@ use Rattle.deep_places.proofs.Specs.{b_specs_with}
 use Rattle.deep_places.proofs.Declrs.{b_declr_with, b_type_name_with}
 use Rattle.deep_places.proofs.Stmts.{b_block_with, b_stmt_with}
 use Rattle.deep_places.proofs.Items.{b_items_with}
-
-lower : (room : ℕ) → room < 0 → ⊥
-lower room h = absurd (omega (arith, h))
-
--- readers that are never called
-never_laws : Laws [] 0 never
-never_laws = record {
-  exprs = record {
-    shrinks = λ reach begun room s ts x e. absurd cc;
-    sound = λ reach room s ts x tail e. absurd cc;
-    complete = λ reach room less. absurd (lower room less);
-    begun_sound = λ reach begun room row s ts x tail e. absurd cc;
-    begun_complete = λ reach begun room row less. absurd (lower room less);
-  };
-  types = record {
-    shrinks = λ room s ts x e. absurd cc;
-    sound = λ room s ts x tail e. absurd cc;
-    complete = λ room less. absurd (lower room less);
-  };
-  words = record {
-    falls = λ role words room s ts x e. absurd cc;
-    shrinks = λ role room s ts x e. absurd cc;
-    sound = λ role words room s ts x tail e. absurd cc;
-    complete = λ role words rest room less. absurd (lower room less);
-  };
-  declrs = record {
-    falls = λ mode wanted flag room s ts x e. absurd cc;
-    shrinks = λ wanted flag room s ts x e. absurd cc;
-    sound = λ mode wanted flag room s ts x tail e. absurd cc;
-    complete = λ mode wanted flag room less. absurd (lower (declr_number flag room) less);
-  };
-  lists = record {
-    shrinks = λ room s ts x e. absurd cc;
-    sound = λ room s ts x tail e. absurd cc;
-    complete = λ room less. absurd (lower room less);
-  };
-  blocks = record {
-    shrinks = λ room s ts x e. absurd cc;
-    sound = λ room s ts x tail e. absurd cc;
-    complete = λ room less. absurd (lower room less);
-  };
-  stmts = record {
-    shrinks = λ room s ts x e. absurd cc;
-    sound = λ room s ts x tail e. absurd cc;
-    ended = λ room s ts x e. absurd cc;
-    complete = λ room less. absurd (lower room less);
-  };
-}
 
 never_bounds : InnerBounds never
 never_bounds = record {
@@ -98,7 +51,8 @@ get_behind : (b : List Lexeme) (t : Lexeme) (r : List Lexeme) → slice_get (b +
 get_behind [] t r = refl
 get_behind (x ∷ b) t r = get_behind b t r
 
-alone_bound : (wide : Bool) (room d : ℕ) (items : List Item) (ts : List Lexeme) → BoundAt (λ (xs : List Item). 0) 0 room d ts (alone wide items ts)
+alone_bound : (wide : Bool) (room d : ℕ) (items : List Item) (ts : List Lexeme)
+    → BoundAt (λ (xs : List Item). 0) 0 room d ts (alone wide items ts)
 alone_bound wide room d items [] = record { held = record { before = []; parts = refl; low = omega arith } }
 alone_bound wide room d items (t ∷ ts) = record { held = λ e. absurd cc }
 
@@ -111,10 +65,11 @@ refusal_is d e is = cc
 module _ (whole_are : WholeAreMixes) (goes : MixesGoOn) where
   pub knot_bounds : (n : ℕ) → InnerBounds (knot n)
   unfolding knot
-  knot_bounds zero = tied_bounds 0 never never_laws never_bounds
+  knot_bounds zero = tied_bounds 0 never (never_laws []) never_bounds
   knot_bounds (suc n) = tied_bounds (suc n) (knot n) (knot_laws whole_are goes n) (knot_bounds n)
 
-  unit_bound : (wide : Bool) (room : ℕ) (all : List Lexeme) → BoundAt (λ (xs : List Item). 0) 8 room 21 all (unit_of room wide all)
+  unit_bound : (wide : Bool) (room : ℕ) (all : List Lexeme)
+      → BoundAt (λ (xs : List Item). 0) 8 room 21 all (unit_of room wide all)
   unit_bound wide room all =
       bound_bind (most_of item_height) (λ (xs : List Item). 0) 8 8 room 21 all (items_with (knot room) (room - 1) (file_scope wide) all) (λ
       items. and_then (token_at is_end items.scopes items.rest) (λ last. alone wide items.tree last.rest))
@@ -131,7 +86,8 @@ module _ (whole_are : WholeAreMixes) (goes : MixesGoOn) where
       (alone_bound wide room (8 * length b2 + (8 * length b1 + 21)) items.tree last.rest)))
 
   -- Where a unit is refused for its height, the room is few levels for the tokens before that one.
-  pub few : (wide : Bool) (room : ℕ) (all : List Lexeme) → IsNumbered all → (at : ℕ) → unit_of room wide all ≡ Err (TooDeep, at) → room ≤ 8 * at + 21
+  pub few : (wide : Bool) (room : ℕ) (all : List Lexeme) → IsNumbered all → (at : ℕ)
+      → unit_of room wide all ≡ Err (TooDeep, at) → room ≤ 8 * at + 21
   few wide room all numbered at e = by_result (unit_of room wide all) e (unit_bound wide room all)
     where
       by_deep : DeepAt all at room 21 → room ≤ 8 * at + 21
@@ -143,7 +99,8 @@ module _ (whole_are : WholeAreMixes) (goes : MixesGoOn) where
           let deep = h.deep in
           omega arith
 
-      by_result : (r : Read (List Item)) → r ≡ Err (TooDeep, at) → BoundAt (λ (xs : List Item). 0) 8 room 21 all r → room ≤ 8 * at + 21
+      by_result : (r : Read (List Item)) → r ≡ Err (TooDeep, at) → BoundAt (λ (xs : List Item). 0) 8 room 21 all r
+          → room ≤ 8 * at + 21
       by_result (Ok x) is b = absurd cc
       by_result (Err d) is b =
           let same = refusal_is d (TooDeep, at) is in

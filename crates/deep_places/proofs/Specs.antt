@@ -36,7 +36,8 @@ use Rattle.deep_places.proofs.Bounding.{bound_ends, bound_weaker, bound_bind, bo
 
 module _ (all : List Lexeme) (numbered : IsNumbered all) (tokens : TokenLaws all) (n : ℕ) (inner : Inner) (laws : Laws all n inner)
     (good : InnerBounds inner) where
-  pub b_specs_here : (role : Role) (room : ℕ) (s : HeldScopes) (ts : List Lexeme) → BoundAt specs_height (1) room (12) ts (specs_here inner role room s ts)
+  pub b_specs_here : (role : Role) (room : ℕ) (s : HeldScopes) (ts : List Lexeme)
+      → BoundAt specs_height (1) room (12) ts (specs_here inner role room s ts)
   unfolding specs_here
   b_specs_here role room s ts =
       bound_if _ _ _ _ _ (begins_role role s (kind_at ts)) (fits 2 room ts (inner.specs role no_words (room - 1) s ts)) (refuses
@@ -44,7 +45,8 @@ module _ (all : List Lexeme) (numbered : IsNumbered all) (tokens : TokenLaws all
       less289. omega arith) (λ less289. bound_weaker _ (specs_height no_words) (room - 1) (specs_height no_words + 10) _ _ _ _ _
       (omega arith) (omega arith) (good.specs role no_words (room - 1) _ _))) (λ is288. record { held = λ e. absurd cc })
 
-  pub b_value_with : (test : (TokenKind → Bool)) (room : ℕ) (s : HeldScopes) (ts : List Lexeme) → (test kinds.End ≡ false) → BoundAt
+  pub b_value_with : (test : (TokenKind → Bool)) (room : ℕ) (s : HeldScopes) (ts : List Lexeme)
+      → (test kinds.End ≡ false) → BoundAt
       some_value_height (1) room (10) ts (value_with inner test room s ts)
   unfolding value_with
   b_value_with test room s ts off =
@@ -56,14 +58,16 @@ module _ (all : List Lexeme) (numbered : IsNumbered all) (tokens : TokenLaws all
       + begun_levels nothing) _ _ _ _ _ (omega arith) (omega arith) (good.expr Conditional nothing (room - 1) _ _)) (λ e b295
       e296 l297. bound_ends _ _ _ _ _ _ _ (omega arith))))) (λ is290. bound_ends _ _ _ _ _ _ _ (omega arith))
 
-  pub b_present : (room : ℕ) (a0 : SomeDeclr) (s : HeldScopes) (ts : List Lexeme) → BoundAt declr_height (some_declr_height a0) room
+  pub b_present : (room : ℕ) (a0 : SomeDeclr) (s : HeldScopes) (ts : List Lexeme)
+      → BoundAt declr_height (some_declr_height a0) room
       (0) ts (present a0 s ts)
   b_present room no_declr s ts =
       record { held = λ e. absurd cc }
   b_present room (some_declr d) s ts =
       bound_ends _ _ _ _ _ _ _ (omega arith)
 
-  pub b_named_declr : (wanted : Option Kind) (room : ℕ) (s : HeldScopes) (ts : List Lexeme) → BoundAt declr_height (0) room (10) ts
+  pub b_named_declr : (wanted : Option Kind) (room : ℕ) (s : HeldScopes) (ts : List Lexeme)
+      → BoundAt declr_height (0) room (10) ts
       (named_declr inner wanted room s ts)
   unfolding named_declr
   b_named_declr wanted room s ts =
@@ -71,7 +75,8 @@ module _ (all : List Lexeme) (numbered : IsNumbered all) (tokens : TokenLaws all
       Named wanted false room _ _)) (λ d b298 e299 l300. bound_weaker _ (some_declr_height d.tree.declr) room (0) _ _ _ _ _
       (omega arith) (omega arith) (b_present room d.tree.declr d.scopes d.rest))
 
-  pub b_width_with : (room : ℕ) (s : HeldScopes) (ts : List Lexeme) → is_end (kind_at ts) ≡ false → BoundAt mem_declr_height (2)
+  pub b_width_with : (room : ℕ) (s : HeldScopes) (ts : List Lexeme) → is_end (kind_at ts) ≡ false
+      → BoundAt mem_declr_height (2)
       room (12) ts (width_with inner room s ts)
   unfolding width_with
   b_width_with room s ts known =
@@ -81,7 +86,8 @@ module _ (all : List Lexeme) (numbered : IsNumbered all) (tokens : TokenLaws all
       nothing (room - 1) _ _)) (λ e b305 e306 l307. bound_bind attrs_height _ (1) _ _ _ _ _ _ (bound_weaker _ (1) room (1) _ _ _
       _ _ (omega arith) (omega arith) (b_attrs_at room _ _)) (λ attrs b308 e309 l310. bound_ends _ _ _ _ _ _ _ (omega arith)))))
 
-  pub b_field_with : (room : ℕ) (s : HeldScopes) (ts : List Lexeme) → BoundAt mem_declr_height (2) room (12) ts (field_with inner room s ts)
+  pub b_field_with : (room : ℕ) (s : HeldScopes) (ts : List Lexeme)
+      → BoundAt mem_declr_height (2) room (12) ts (field_with inner room s ts)
   unfolding field_with
   b_field_with room s ts =
       bound_bind declr_height _ (0) _ _ _ _ _ _ (bound_weaker _ (0) (room - 1) (10) _ _ _ _ _ (omega arith) (omega arith)
@@ -90,7 +96,8 @@ module _ (all : List Lexeme) (numbered : IsNumbered all) (tokens : TokenLaws all
       bound_bind attrs_height _ (1) _ _ _ _ _ _ (bound_weaker _ (1) room (1) _ _ _ _ _ (omega arith) (omega arith) (b_attrs_at
       room _ _)) (λ attrs b317 e318 l319. bound_ends _ _ _ _ _ _ _ (omega arith))))
 
-  pub b_mem_declr_with : (room : ℕ) (s : HeldScopes) (ts : List Lexeme) → BoundAt mem_declr_height (2) room (12) ts (mem_declr_with
+  pub b_mem_declr_with : (room : ℕ) (s : HeldScopes) (ts : List Lexeme)
+      → BoundAt mem_declr_height (2) room (12) ts (mem_declr_with
       inner room s ts)
   unfolding mem_declr_with
   b_mem_declr_with room s ts =
@@ -99,14 +106,16 @@ module _ (all : List Lexeme) (numbered : IsNumbered all) (tokens : TokenLaws all
       (kind_at ts) is320))) (λ is320. bound_weaker _ (2) room (12) _ _ _ _ _ (omega arith) (omega arith) (b_field_with room _
       _))
 
-  pub b_first_member : (room : ℕ) (s : HeldScopes) (ts : List Lexeme) → BoundAt member_height (2) room (12) ts (first_member inner
+  pub b_first_member : (room : ℕ) (s : HeldScopes) (ts : List Lexeme)
+      → BoundAt member_height (2) room (12) ts (first_member inner
       room s ts)
   unfolding first_member
   b_first_member room s ts =
       bound_bind mem_declr_height _ (2) _ _ _ _ _ _ (bound_weaker _ (2) room (12) _ _ _ _ _ (omega arith) (omega arith)
       (b_mem_declr_with room _ _)) (λ d b321 e322 l323. bound_ends _ _ _ _ _ _ _ (omega arith))
 
-  pub b_next_member : (room : ℕ) (comma : ℕ) (s : HeldScopes) (ts : List Lexeme) → BoundAt (next_height {E = ⊥} member_height) (2)
+  pub b_next_member : (room : ℕ) (comma : ℕ) (s : HeldScopes) (ts : List Lexeme)
+      → BoundAt (next_height {E = ⊥} member_height) (2)
       room (12) ts (next_member inner room comma s ts)
   unfolding next_member
   b_next_member room comma s ts =
@@ -114,7 +123,8 @@ module _ (all : List Lexeme) (numbered : IsNumbered all) (tokens : TokenLaws all
       _ _)) (λ attrs b324 e325 l326. bound_bind mem_declr_height _ (2) _ _ _ _ _ _ (bound_weaker _ (2) room (12) _ _ _ _ _
       (omega arith) (omega arith) (b_mem_declr_with room _ _)) (λ d b327 e328 l329. bound_ends _ _ _ _ _ _ _ (omega arith)))
 
-  pub b_mem_declrs_with : (room : ℕ) (s : HeldScopes) (ts : List Lexeme) → BoundAt (most_of member_height) (2) room (12) ts
+  pub b_mem_declrs_with : (room : ℕ) (s : HeldScopes) (ts : List Lexeme)
+      → BoundAt (most_of member_height) (2) room (12) ts
       (mem_declrs_with inner room s ts)
   unfolding mem_declrs_with
   b_mem_declrs_with room s ts =
@@ -126,7 +136,8 @@ module _ (all : List Lexeme) (numbered : IsNumbered all) (tokens : TokenLaws all
       arith) (omega arith) (b_first_member room _ _)) (λ comma s9 ts9. bound_weaker _ (2) room (12) _ _ _ _ _ (omega arith)
       (omega arith) (b_next_member room comma _ _)))) (λ ds b331 e332 l333. bound_ends _ _ _ _ _ _ _ (omega arith)))
 
-  pub b_member_with : (room : ℕ) (s : HeldScopes) (ts : List Lexeme) → BoundAt struct_item_height (3) room (13) ts (member_with
+  pub b_member_with : (room : ℕ) (s : HeldScopes) (ts : List Lexeme)
+      → BoundAt struct_item_height (3) room (13) ts (member_with
       inner room s ts)
   unfolding member_with
   b_member_with room s ts =
@@ -155,7 +166,8 @@ module _ (all : List Lexeme) (numbered : IsNumbered all) (tokens : TokenLaws all
       room _ _)) (λ it b354 e355 l356. bound_ends _ _ _ _ _ _ _ (omega arith)))) (λ is352. bound_weaker _ (3) room (13) _ _ _ _
       _ (omega arith) (omega arith) (b_member_with room _ _)))
 
-  pub b_members_with : (room : ℕ) (s : HeldScopes) (ts : List Lexeme) → BoundAt some_body_height (0) room (10) ts (members_with
+  pub b_members_with : (room : ℕ) (s : HeldScopes) (ts : List Lexeme)
+      → BoundAt some_body_height (0) room (10) ts (members_with
       inner room s ts)
   unfolding members_with
   b_members_with room s ts =
@@ -167,7 +179,8 @@ module _ (all : List Lexeme) (numbered : IsNumbered all) (tokens : TokenLaws all
       is_close_brace _ _ _ _) (λ closing b363 e364 l365. bound_ends _ _ _ _ _ _ _ (let f366 = low_struct_items items.tree in
       omega arith))))
 
-  pub b_body_with : (tag : Option Identifier) (room : ℕ) (s : HeldScopes) (ts : List Lexeme) → BoundAt some_body_height (0) room
+  pub b_body_with : (tag : Option Identifier) (room : ℕ) (s : HeldScopes) (ts : List Lexeme)
+      → BoundAt some_body_height (0) room
       (10) ts (body_with inner tag room s ts)
   unfolding body_with
   b_body_with tag room s ts =
@@ -175,7 +188,8 @@ module _ (all : List Lexeme) (numbered : IsNumbered all) (tokens : TokenLaws all
       bound_weaker _ (0) room (10) _ _ _ _ _ (omega arith) (omega arith) (b_members_with room _ _)) (λ is367. bound_without _ _
       _ _ _ _ _ _ (omega arith))
 
-  pub b_struct_with : (keyword : Keyword) (room : ℕ) (s : HeldScopes) (ts : List Lexeme) → BoundAt spec_word_height (0) room (10) ts
+  pub b_struct_with : (keyword : Keyword) (room : ℕ) (s : HeldScopes) (ts : List Lexeme)
+      → BoundAt spec_word_height (0) room (10) ts
       (struct_with inner keyword room s ts)
   unfolding struct_with
   b_struct_with keyword room s ts =
@@ -185,7 +199,8 @@ module _ (all : List Lexeme) (numbered : IsNumbered all) (tokens : TokenLaws all
       _ _ _ (bound_weaker _ (0) room (10) _ _ _ _ _ (omega arith) (omega arith) (b_body_with tag.tree room _ _)) (λ body b377
       e378 l379. bound_ends _ _ _ _ _ _ _ (omega arith)))))
 
-  pub b_enumerator_behind : (name : Identifier) (room : ℕ) (s : HeldScopes) (ts : List Lexeme) → BoundAt enum_item_height (2) room
+  pub b_enumerator_behind : (name : Identifier) (room : ℕ) (s : HeldScopes) (ts : List Lexeme)
+      → BoundAt enum_item_height (2) room
       (10) ts (enumerator_behind inner name room s ts)
   unfolding enumerator_behind
   b_enumerator_behind name room s ts =
@@ -194,7 +209,8 @@ module _ (all : List Lexeme) (numbered : IsNumbered all) (tokens : TokenLaws all
       (omega arith) (omega arith) (b_value_with is_equal room _ _ refl)) (λ value b383 e384 l385. bound_declared _ _ _ _ _ _ _
       (omega arith)))
 
-  enumerator_named_bound : (name : Identifier) (room : ℕ) (t : Lexeme) (s : HeldScopes) (ts : List Lexeme) → is_end t.kind ≡ false →
+  enumerator_named_bound : (name : Identifier) (room : ℕ) (t : Lexeme) (s : HeldScopes) (ts : List Lexeme)
+      → is_end t.kind ≡ false →
       BoundAt enum_item_height 2 room 10 (t ∷ ts) (enumerator_named inner name room (t ∷ ts) s ts)
   unfolding enumerator_named
   enumerator_named_bound name room t s ts known =
@@ -208,13 +224,15 @@ module _ (all : List Lexeme) (numbered : IsNumbered all) (tokens : TokenLaws all
       bound_front enum_item_height 2 room 10 t ts (enumerator_behind inner name room s ts) (b_enumerator_behind name room s ts))))
       (λ may. record { held = λ e. absurd cc })
 
-  pub b_enumerator_with : (room : ℕ) (s : HeldScopes) (ts : List Lexeme) → BoundAt enum_item_height 2 room 10 ts (enumerator_with
+  pub b_enumerator_with : (room : ℕ) (s : HeldScopes) (ts : List Lexeme)
+      → BoundAt enum_item_height 2 room 10 ts (enumerator_with
       inner room s ts)
   unfolding enumerator_with and_then
   b_enumerator_with room s [] = record { held = λ e. absurd cc }
   b_enumerator_with room s (t ∷ ts) = by_name (spelled_name t.kind) (known_of spelled_name None refl t.kind)
     where
-      by_name : (o : Option ℕ) → ((o ≡ None → ⊥) → is_end t.kind ≡ false) → BoundAt enum_item_height 2 room 10 (t ∷ ts) (and_then
+      by_name : (o : Option ℕ) → ((o ≡ None → ⊥) → is_end t.kind ≡ false)
+          → BoundAt enum_item_height 2 room 10 (t ∷ ts) (and_then
           (name_by o t s ts) (λ name. enumerator_named inner name.tree room (t ∷ ts) name.scopes name.rest))
       by_name None known = record { held = λ e. absurd cc }
       by_name (Some name) known = enumerator_named_bound (identifier_of t.at name) room t s ts (known (λ e9. absurd cc))
@@ -242,7 +260,8 @@ module _ (all : List Lexeme) (numbered : IsNumbered all) (tokens : TokenLaws all
       _ (0) _ _ _ _ _ _ (bound_token is_close_brace _ _ _ _) (λ closing b397 e398 l399. bound_ends _ _ _ _ _ _ _ (let f400 =
       low_enumerators es.tree.items in omega arith)))))
 
-  pub b_enum_body_with : (tag : Option Identifier) (room : ℕ) (s : HeldScopes) (ts : List Lexeme) → BoundAt some_enum_body_height
+  pub b_enum_body_with : (tag : Option Identifier) (room : ℕ) (s : HeldScopes) (ts : List Lexeme)
+      → BoundAt some_enum_body_height
       (0) room (10) ts (enum_body_with inner tag room s ts)
   unfolding enum_body_with
   b_enum_body_with tag room s ts =
@@ -250,7 +269,8 @@ module _ (all : List Lexeme) (numbered : IsNumbered all) (tokens : TokenLaws all
       is401. bound_weaker _ (0) room (10) _ _ _ _ _ (omega arith) (omega arith) (b_enumerators_with room _ _ (known_by (λ kind9.
       is_open_brace kind9) refl (kind_at ts) is401))) (λ is401. bound_without _ _ _ _ _ _ _ _ (omega arith))
 
-  pub b_enum_with : (room : ℕ) (s : HeldScopes) (ts : List Lexeme) → BoundAt spec_word_height (0) room (10) ts (enum_with inner room s ts)
+  pub b_enum_with : (room : ℕ) (s : HeldScopes) (ts : List Lexeme)
+      → BoundAt spec_word_height (0) room (10) ts (enum_with inner room s ts)
   unfolding enum_with
   b_enum_with room s ts =
       bound_bind token_levels _ (0) _ _ _ _ _ _ (bound_take _ _ _ _) (λ token b402 e403 l404. bound_bind attrs_height _ (1) _ _ _ _
@@ -259,7 +279,8 @@ module _ (all : List Lexeme) (numbered : IsNumbered all) (tokens : TokenLaws all
       _ _ _ _ _ (bound_weaker _ (0) room (10) _ _ _ _ _ (omega arith) (omega arith) (b_enum_body_with tag.tree room _ _)) (λ
       body b411 e412 l413. bound_ends _ _ _ _ _ _ _ (omega arith)))))
 
-  pub b_typed_word_with : (keyword : Keyword) (token opening : ℕ) (room : ℕ) (s : HeldScopes) (ts : List Lexeme) → BoundAt
+  pub b_typed_word_with : (keyword : Keyword) (token opening : ℕ) (room : ℕ) (s : HeldScopes) (ts : List Lexeme)
+      → BoundAt
       spec_word_height (3) room (13) ts (typed_word_with inner keyword token opening room s ts)
   unfolding typed_word_with
   b_typed_word_with keyword token opening room s ts =
@@ -267,7 +288,8 @@ module _ (all : List Lexeme) (numbered : IsNumbered all) (tokens : TokenLaws all
       (good.type_name (room - 1) _ _)) (λ t p202 q202 r202. bound_bind token_levels _ (0) _ _ _ _ _ _ (bound_token is_close_paren
       _ _ _ _) (λ closing p201 q201 r201. bound_ends _ _ _ _ _ _ _ (omega arith)))
 
-  pub b_typeof_value_with : (token opening : ℕ) (room : ℕ) (s : HeldScopes) (ts : List Lexeme) → BoundAt spec_word_height (3) room
+  pub b_typeof_value_with : (token opening : ℕ) (room : ℕ) (s : HeldScopes) (ts : List Lexeme)
+      → BoundAt spec_word_height (3) room
       (13) ts (typeof_value_with inner token opening room s ts)
   unfolding typeof_value_with
   b_typeof_value_with token opening room s ts =
@@ -276,7 +298,8 @@ module _ (all : List Lexeme) (numbered : IsNumbered all) (tokens : TokenLaws all
       bound_bind token_levels _ (0) _ _ _ _ _ _ (bound_token is_close_paren _ _ _ _) (λ closing p203 q203 r203. bound_ends _ _ _ _
       _ _ _ (omega arith)))
 
-  pub b_typeof_with : (room : ℕ) (s : HeldScopes) (ts : List Lexeme) → BoundAt spec_word_height (0) room (10) ts (typeof_with
+  pub b_typeof_with : (room : ℕ) (s : HeldScopes) (ts : List Lexeme)
+      → BoundAt spec_word_height (0) room (10) ts (typeof_with
       inner room s ts)
   unfolding typeof_with
   b_typeof_with room s ts =
@@ -288,7 +311,8 @@ module _ (all : List Lexeme) (numbered : IsNumbered all) (tokens : TokenLaws all
       bound_weaker _ (3) room (13) _ _ _ _ _ (omega arith) (omega arith) (b_typeof_value_with keyword.tree opening.tree room _
       _))))
 
-  pub b_atomic_with : (room : ℕ) (s : HeldScopes) (ts : List Lexeme) → BoundAt spec_word_height (0) room (10) ts (atomic_with
+  pub b_atomic_with : (room : ℕ) (s : HeldScopes) (ts : List Lexeme)
+      → BoundAt spec_word_height (0) room (10) ts (atomic_with
       inner room s ts)
   unfolding atomic_with
   b_atomic_with room s ts =
@@ -296,7 +320,8 @@ module _ (all : List Lexeme) (numbered : IsNumbered all) (tokens : TokenLaws all
       _ _ _ _ (bound_token is_open_paren _ _ _ _) (λ opening p207 q207 r207. bound_weaker _ (3) room (13) _ _ _ _ _ (omega arith)
       (omega arith) (b_typed_word_with keywords.AtomicType keyword.tree opening.tree room _ _)))
 
-  pub b_word_by : (a0 : SpecStart) (room : ℕ) (s : HeldScopes) (ts : List Lexeme) → BoundAt spec_word_height (0) room (11) ts
+  pub b_word_by : (a0 : SpecStart) (room : ℕ) (s : HeldScopes) (ts : List Lexeme)
+      → BoundAt spec_word_height (0) room (11) ts
       (word_by inner a0 room s ts)
   unfolding word_by
   b_word_by (starts.Storage keyword) room s ts =
@@ -336,8 +361,10 @@ module _ (all : List Lexeme) (numbered : IsNumbered all) (tokens : TokenLaws all
   b_word_by starts.Nothing room s ts =
       record { held = λ e. absurd cc }
 
-  pub b_word_with : (role : Role) (words : SpecWords) (start : SpecStart) (room : ℕ) (s : HeldScopes) (ts : List Lexeme) → is_end
-      (kind_at ts) ≡ false → BoundAt spec_word_height (0) room (specs_height words + 10) ts (word_with inner role words start room s
+  pub b_word_with : (role : Role) (words : SpecWords) (start : SpecStart) (room : ℕ) (s : HeldScopes) (ts : List Lexeme)
+      → is_end
+      (kind_at ts) ≡ false
+      → BoundAt spec_word_height (0) room (specs_height words + 10) ts (word_with inner role words start room s
       ts)
   unfolding word_with
   b_word_with role words start room s ts known =
@@ -351,7 +378,8 @@ module _ (all : List Lexeme) (numbered : IsNumbered all) (tokens : TokenLaws all
             e. absurd cc;
       })
 
-  word_step : (role : Role) (room : ℕ) (words : SpecWords) (s : HeldScopes) (ts : List Lexeme) (c : ℕ) → 1 ≤ c → specs_height words
+  word_step : (role : Role) (room : ℕ) (words : SpecWords) (s : HeldScopes) (ts : List Lexeme) (c : ℕ) → 1 ≤ c
+      → specs_height words
       ≤ c → StepAt specs_height c room (c + 10) ts (word_turn inner role room words s ts)
   word_step role room words s ts c high low = by_start (start_at s (is_typed words) (kind_at ts)) (known_of (start_at s (is_typed
       words)) starts.Nothing refl (kind_at ts))
@@ -370,11 +398,13 @@ module _ (all : List Lexeme) (numbered : IsNumbered all) (tokens : TokenLaws all
           (λ word b1 e1 l1. bound_ends specs_height (8 * length b1 + c) room (8 * length b1 + (c + 10)) (pushed words word.tree)
           word.scopes word.rest (let few = low_pushed words word.tree in omega arith))
 
-      unless : (b : Bool) (r : Option (Read SpecWords)) → StepAt specs_height c room (c + 10) ts r → StepAt specs_height c room (c + 10) ts (if b then None else r)
+      unless : (b : Bool) (r : Option (Read SpecWords)) → StepAt specs_height c room (c + 10) ts r
+          → StepAt specs_height c room (c + 10) ts (if b then None else r)
       unless true r h = tt
       unless false r h = h
 
-      by_start : (start : SpecStart) → ((start ≡ starts.Nothing → ⊥) → is_end (kind_at ts) ≡ false) → StepAt specs_height c room (c
+      by_start : (start : SpecStart) → ((start ≡ starts.Nothing → ⊥) → is_end (kind_at ts) ≡ false)
+          → StepAt specs_height c room (c
           + 10) ts (word_turn_by inner role room start words s ts)
       by_start starts.Nothing known = unless (ends_before s words starts.Nothing) _ tt
       by_start (starts.Storage keyword) known = unless (ends_before s words (starts.Storage keyword)) _ (by_test (starts.Storage keyword) true (known (λ e9. absurd cc)))
@@ -394,13 +424,15 @@ module _ (all : List Lexeme) (numbered : IsNumbered all) (tokens : TokenLaws all
       by_start starts.Auto known = unless (ends_before s words starts.Auto) _ (by_test starts.Auto true (known (λ e9. absurd cc)))
       by_start (starts.Name name) known = unless (ends_before s words (starts.Name name)) _ (by_test (starts.Name name) true (known (λ e9. absurd cc)))
 
-  pub b_whole : (room : ℕ) (words : SpecWords) (s : HeldScopes) (ts : List Lexeme) → BoundAt specs_height (specs_height words) room
+  pub b_whole : (room : ℕ) (words : SpecWords) (s : HeldScopes) (ts : List Lexeme)
+      → BoundAt specs_height (specs_height words) room
       (0) ts (whole inner words s ts)
   b_whole room words s ts =
       bound_if _ _ _ _ _ (is_whole_mix words) (ends words s ts) (refuses Unexpected ts) (λ is458. bound_ends _ _ _ _ _ _ _ (omega
       arith)) (λ is458. record { held = λ e. absurd cc })
 
-  pub b_specs_with : (role : Role) (words : SpecWords) (room : ℕ) (s : HeldScopes) (ts : List Lexeme) → BoundAt specs_height
+  pub b_specs_with : (role : Role) (words : SpecWords) (room : ℕ) (s : HeldScopes) (ts : List Lexeme)
+      → BoundAt specs_height
       (specs_height words) room (specs_height words + 10) ts (specs_with inner role words room s ts)
   unfolding specs_with
   b_specs_with role words room s ts =

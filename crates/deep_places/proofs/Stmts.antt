@@ -51,7 +51,8 @@ module _ (all : List Lexeme) (numbered : IsNumbered all) (tokens : TokenLaws all
       (b_group_at room _ _)) (λ group b573 e574 l575. bound_ends _ _ _ _ _ _ _ (omega arith)))) (λ is569. bound_ends _ _ _ _ _ _
       _ (omega arith))
 
-  pub b_some_init_with : (room : ℕ) (s : HeldScopes) (ts : List Lexeme) → BoundAt some_init_height (1) room (10) ts (some_init_with
+  pub b_some_init_with : (room : ℕ) (s : HeldScopes) (ts : List Lexeme)
+      → BoundAt some_init_height (1) room (10) ts (some_init_with
       inner room s ts)
   unfolding some_init_with
   b_some_init_with room s ts =
@@ -62,7 +63,8 @@ module _ (all : List Lexeme) (numbered : IsNumbered all) (tokens : TokenLaws all
       n inner laws good (room - 1) _ _)) (λ init b580 e581 l582. bound_ends _ _ _ _ _ _ _ (omega arith)))) (λ is576. bound_ends
       _ _ _ _ _ _ _ (omega arith))
 
-  pub b_declr_behind : (before : List Attr) (d : Declr) (room : ℕ) (s : HeldScopes) (ts : List Lexeme) → BoundAt declr_item_height
+  pub b_declr_behind : (before : List Attr) (d : Declr) (room : ℕ) (s : HeldScopes) (ts : List Lexeme)
+      → BoundAt declr_item_height
       (declr_height d + 2) room (declr_height d + 10) ts (declr_behind inner before d room s ts)
   unfolding declr_behind
   b_declr_behind before d room s ts =
@@ -114,7 +116,8 @@ module _ (all : List Lexeme) (numbered : IsNumbered all) (tokens : TokenLaws all
       semi.rest
       (let few = low_init_declrs ds.tree.items in omega arith)))
 
-  pub b_bare_declaration : (exts : List ℕ) (words : SpecWords) (room : ℕ) (s : HeldScopes) (ts : List Lexeme) → is_end (kind_at ts)
+  pub b_bare_declaration : (exts : List ℕ) (words : SpecWords) (room : ℕ) (s : HeldScopes) (ts : List Lexeme)
+      → is_end (kind_at ts)
       ≡ false → BoundAt declaration_height (specs_height words + 1) room (specs_height words + 14) ts (bare_declaration inner exts
       words room s ts)
   unfolding bare_declaration
@@ -122,7 +125,8 @@ module _ (all : List Lexeme) (numbered : IsNumbered all) (tokens : TokenLaws all
       bound_fits _ _ _ _ _ _ _ _ (known) (λ less602. omega arith) (λ less602. bound_bind token_levels _ (0) _ _ _ _ _ _ (bound_take
       _ _ _ _) (λ semi b603 e604 l605. bound_ends _ _ _ _ _ _ _ (let f606 = low_init_declrs [] in omega arith)))
 
-  pub b_auto_declr : (exts : List ℕ) (words : SpecWords) (d : Declr) (room : ℕ) (s : HeldScopes) (ts : List Lexeme) → BoundAt
+  pub b_auto_declr : (exts : List ℕ) (words : SpecWords) (d : Declr) (room : ℕ) (s : HeldScopes) (ts : List Lexeme)
+      → BoundAt
       declaration_height (specs_height words + declr_height d + 4) room (14) ts (auto_declr inner exts words d room s ts)
   unfolding auto_declr
   b_auto_declr exts words d room s ts =
@@ -140,14 +144,17 @@ module _ (all : List Lexeme) (numbered : IsNumbered all) (tokens : TokenLaws all
             = some_init equal.tree (init_value e.tree);
       } ∷ []) in omega arith)))))
 
-  b_auto_name : (o : Option ℕ) (room : ℕ) (s : HeldScopes) (ts : List Lexeme) → ((o ≡ None → ⊥) → is_end (kind_at ts) ≡ false) → BoundAt declr_height (0) room (0) ts (auto_name inner o room s ts)
+  b_auto_name : (o : Option ℕ) (room : ℕ) (s : HeldScopes) (ts : List Lexeme)
+      → ((o ≡ None → ⊥) → is_end (kind_at ts) ≡ false)
+      → BoundAt declr_height (0) room (0) ts (auto_name inner o room s ts)
   b_auto_name None room s ts known = record { held = λ e. absurd cc }
   b_auto_name (Some name) room s ts known =
       bound_bind declared_height _ (0) _ _ _ _ _ _ (bound_weaker _ (0) room (0) _ _ _ _ _ (omega arith) (omega arith)
       (b_name_held all numbered tokens n inner laws good name room (at_name (Some Value) name s) s ts (known (λ e9. absurd cc))))
       (λ d b1 e1 l1. bound_weaker _ (some_declr_height d.tree.declr) room (0) _ _ _ _ _ (omega arith) (omega arith) (b_present all numbered tokens n inner laws good room d.tree.declr d.scopes d.rest))
 
-  b_auto_declarator : (typed : Bool) (room : ℕ) (s : HeldScopes) (ts : List Lexeme) → BoundAt declr_height (0) room (0) ts (auto_declarator inner typed room s ts)
+  b_auto_declarator : (typed : Bool) (room : ℕ) (s : HeldScopes) (ts : List Lexeme)
+      → BoundAt declr_height (0) room (0) ts (auto_declarator inner typed room s ts)
   b_auto_declarator false room s ts = b_auto_name (spelled_name (kind_at ts)) room s ts (known_of spelled_name None refl (kind_at ts))
   b_auto_declarator true room s ts =
       bound_if _ _ _ _ _ (is_base_word (kind_at ts)) (fits 1 room ts (and_then (take_one s ts) (λ token. ends (base_name token.tree) token.scopes token.rest))) (refuses Unexpected ts)
@@ -162,7 +169,8 @@ module _ (all : List Lexeme) (numbered : IsNumbered all) (tokens : TokenLaws all
       (b_auto_declarator (has_typedef_word (storage_words words)) (room - 2) s ts)) (λ d p505 q505 r505. bound_weaker _ (specs_height
       words + declr_height d.tree + 4) (room - 1) (14) _ _ _ _ _ (omega arith) (omega arith) (b_auto_declr exts words d.tree (room - 1) d.scopes d.rest))
 
-  pub b_declaration_behind : (exts : List ℕ) (words : SpecWords) (room : ℕ) (s : HeldScopes) (ts : List Lexeme) → BoundAt
+  pub b_declaration_behind : (exts : List ℕ) (words : SpecWords) (room : ℕ) (s : HeldScopes) (ts : List Lexeme)
+      → BoundAt
       declaration_height (specs_height words + 4) room (specs_height words + 17) ts (declaration_behind inner exts words room s ts)
   unfolding declaration_behind
   b_declaration_behind exts words room s ts =
@@ -177,7 +185,8 @@ module _ (all : List Lexeme) (numbered : IsNumbered all) (tokens : TokenLaws all
       2 (room - 1) 11 2 room (2 + 14) ts8 (init_declr_with inner [] (declared_kind words) (room - 1) s8 ts8) (omega arith)
       (omega arith) (b_init_declr_with [] (declared_kind words) (room - 1) s8 ts8)))))
 
-  pub b_declaration_with : (exts : List ℕ) (room : ℕ) (s : HeldScopes) (ts : List Lexeme) → BoundAt declaration_height (5) room (18)
+  pub b_declaration_with : (exts : List ℕ) (room : ℕ) (s : HeldScopes) (ts : List Lexeme)
+      → BoundAt declaration_height (5) room (18)
       ts (declaration_with inner exts room s ts)
   unfolding declaration_with
   b_declaration_with exts room s ts =
@@ -185,7 +194,8 @@ module _ (all : List Lexeme) (numbered : IsNumbered all) (tokens : TokenLaws all
       all numbered tokens n inner laws good Declaring room _ _)) (λ words b608 e609 l610. bound_weaker _ (specs_height words.tree + 4)
       room (specs_height words.tree + 17) _ _ _ _ _ (omega arith) (omega arith) (b_declaration_behind exts words.tree room _ _))
 
-  pub b_declaration_from : (known : SpecWords) (room : ℕ) (s : HeldScopes) (ts : List Lexeme) → BoundAt declaration_height
+  pub b_declaration_from : (known : SpecWords) (room : ℕ) (s : HeldScopes) (ts : List Lexeme)
+      → BoundAt declaration_height
       (specs_height known + 4) room (specs_height known + 17) ts (declaration_from inner known room s ts)
   unfolding declaration_from
   b_declaration_from known room s ts =
@@ -194,7 +204,8 @@ module _ (all : List Lexeme) (numbered : IsNumbered all) (tokens : TokenLaws all
       bound_weaker _ (specs_height words.tree + 4) room (specs_height words.tree + 17) _ _ _ _ _ (omega arith) (omega arith)
       (b_declaration_behind [] words.tree room _ _))
 
-  pub b_expr_stmt_with : (begun : Begun) (room : ℕ) (s : HeldScopes) (ts : List Lexeme) → BoundAt stmt_height (2 + begun_levels
+  pub b_expr_stmt_with : (begun : Begun) (room : ℕ) (s : HeldScopes) (ts : List Lexeme)
+      → BoundAt stmt_height (2 + begun_levels
       begun) room (11 + begun_levels begun) ts (expr_stmt_with inner begun room s ts)
   unfolding expr_stmt_with
   b_expr_stmt_with begun room s ts =
@@ -203,7 +214,8 @@ module _ (all : List Lexeme) (numbered : IsNumbered all) (tokens : TokenLaws all
       bound_bind token_levels _ (0) _ _ _ _ _ _ (bound_token is_semicolon _ _ _ _) (λ semi b617 e618 l619. bound_ends _ _ _ _ _
       _ _ (omega arith)))
 
-  pub b_label_with : (room : ℕ) (s : HeldScopes) (ts : List Lexeme) → BoundAt stmt_height (2) room (10) ts (label_with inner room s ts)
+  pub b_label_with : (room : ℕ) (s : HeldScopes) (ts : List Lexeme)
+      → BoundAt stmt_height (2) room (10) ts (label_with inner room s ts)
   unfolding label_with
   b_label_with room s ts =
       bound_bind token_levels _ (0) _ _ _ _ _ _ (bound_name _ _ _ _) (λ name b620 e621 l622. bound_bind token_levels _ (0) _ _ _ _ _
@@ -238,7 +250,8 @@ module _ (all : List Lexeme) (numbered : IsNumbered all) (tokens : TokenLaws all
       (bound_weaker _ (2 + begun_levels nothing) room (11 + begun_levels nothing) _ _ _ _ _ (omega arith) (omega arith)
       (b_expr_stmt_with nothing room _ _)) (λ m651 b652 e653 l654. bound_ends _ _ _ _ _ _ _ (omega arith)))))
 
-  pub b_extended_item : (room : ℕ) (s : HeldScopes) (ts : List Lexeme) → BoundAt block_item_height (6) room (20) ts (extended_item
+  pub b_extended_item : (room : ℕ) (s : HeldScopes) (ts : List Lexeme)
+      → BoundAt block_item_height (6) room (20) ts (extended_item
       inner room s ts)
   unfolding extended_item
   b_extended_item room s ts =
@@ -253,7 +266,8 @@ module _ (all : List Lexeme) (numbered : IsNumbered all) (tokens : TokenLaws all
       exts.tree)) _ _ _ _ _ (omega arith) (omega arith) (b_expr_stmt_with (extensions exts.tree) room _ _)) (λ m665 b666 e667
       l668. bound_ends _ _ _ _ _ _ _ (omega arith))))
 
-  pub b_attr_item_by : (attrs : List Attr) (room : ℕ) (s : HeldScopes) (ts : List Lexeme) → BoundAt block_item_height (6) room (20)
+  pub b_attr_item_by : (attrs : List Attr) (room : ℕ) (s : HeldScopes) (ts : List Lexeme)
+      → BoundAt block_item_height (6) room (20)
       ts (attr_item_by inner attrs room s ts)
   unfolding attr_item_by
   b_attr_item_by attrs room s ts =
@@ -269,14 +283,16 @@ module _ (all : List Lexeme) (numbered : IsNumbered all) (tokens : TokenLaws all
       arith) (b_declaration_from (words_of_attrs attrs) room _ _)) (λ m677 b679 e680 l681. bound_ends _ _ _ _ _ _ _ (omega
       arith))) (λ is675. record { held = λ e. absurd cc }))
 
-  pub b_attr_item : (room : ℕ) (s : HeldScopes) (ts : List Lexeme) → BoundAt block_item_height (6) room (20) ts (attr_item inner room s ts)
+  pub b_attr_item : (room : ℕ) (s : HeldScopes) (ts : List Lexeme)
+      → BoundAt block_item_height (6) room (20) ts (attr_item inner room s ts)
   unfolding attr_item
   b_attr_item room s ts =
       bound_bind attrs_height _ (1) _ _ _ _ _ _ (bound_weaker _ (1) room (1) _ _ _ _ _ (omega arith) (omega arith) (b_attrs_at room
       _ _)) (λ attrs b682 e683 l684. bound_weaker _ (6) room (20) _ _ _ _ _ (omega arith) (omega arith) (b_attr_item_by
       attrs.tree room _ _))
 
-  pub b_other_item : (a0 : Option ℕ) (room : ℕ) (s : HeldScopes) (ts : List Lexeme) → ((a0 ≡ None → ⊥) → is_end (kind_at ts) ≡
+  pub b_other_item : (a0 : Option ℕ) (room : ℕ) (s : HeldScopes) (ts : List Lexeme)
+      → ((a0 ≡ None → ⊥) → is_end (kind_at ts) ≡
       false) → BoundAt block_item_height (6) room (20) ts (other_item inner a0 room s ts)
   unfolding other_item
   b_other_item (Some name) room s ts known =
@@ -307,7 +323,8 @@ module _ (all : List Lexeme) (numbered : IsNumbered all) (tokens : TokenLaws all
       _ _ (omega arith) (omega arith) (b_other_item (spelled_name (kind_at ts)) room _ _ (known_of spelled_name None refl
       (kind_at ts))))))
 
-  pub b_labels_with : (room : ℕ) (s : HeldScopes) (ts : List Lexeme) → is_end (kind_at ts) ≡ false → BoundAt block_item_height (6)
+  pub b_labels_with : (room : ℕ) (s : HeldScopes) (ts : List Lexeme) → is_end (kind_at ts) ≡ false
+      → BoundAt block_item_height (6)
       room (20) ts (labels_with inner room s ts)
   unfolding labels_with
   b_labels_with room s ts known =
@@ -317,7 +334,8 @@ module _ (all : List Lexeme) (numbered : IsNumbered all) (tokens : TokenLaws all
       s2 ts2) room _ _)) (λ names p507 q507 r507. bound_bind token_levels _ (0) _ _ _ _ _ _ (bound_token is_semicolon _ _ _ _) (λ
       semi p506 q506 r506. bound_ends _ _ _ _ _ _ _ (omega arith)))))
 
-  pub b_block_body : (room : ℕ) (s : HeldScopes) (ts : List Lexeme) → BoundAt block_tree_height (1) room (13) ts (block_body inner
+  pub b_block_body : (room : ℕ) (s : HeldScopes) (ts : List Lexeme)
+      → BoundAt block_tree_height (1) room (13) ts (block_body inner
       room s ts)
   unfolding block_body
   b_block_body room s ts =
@@ -332,7 +350,8 @@ module _ (all : List Lexeme) (numbered : IsNumbered all) (tokens : TokenLaws all
       is_close_brace _ _ _ _) (λ closing b709 e710 l711. bound_ends _ _ _ _ _ _ _ (let f712 = low_block_items (labels.tree ++ items.tree) in let f713 =
       most_append block_item_height labels.tree items.tree in omega arith)))))
 
-  pub b_block_with : (room : ℕ) (s : HeldScopes) (ts : List Lexeme) → BoundAt block_tree_height (1) room (13) ts (block_with inner
+  pub b_block_with : (room : ℕ) (s : HeldScopes) (ts : List Lexeme)
+      → BoundAt block_tree_height (1) room (13) ts (block_with inner
       room s ts)
   unfolding block_with
   b_block_with room s ts =
@@ -342,7 +361,8 @@ module _ (all : List Lexeme) (numbered : IsNumbered all) (tokens : TokenLaws all
       (1) _ _ _ _ _ _ (bound_weaker _ (1) room (13) _ _ _ _ _ (omega arith) (omega arith) (b_block_body room _ _)) (λ m716 b717
       e718 l719. bound_ends _ _ _ _ _ _ _ (omega arith)))) (λ is713. record { held = λ e. absurd cc })
 
-  pub b_some_expr_with : (test : (TokenKind → Bool)) (room : ℕ) (s : HeldScopes) (ts : List Lexeme) → BoundAt some_expr_height (1)
+  pub b_some_expr_with : (test : (TokenKind → Bool)) (room : ℕ) (s : HeldScopes) (ts : List Lexeme)
+      → BoundAt some_expr_height (1)
       room (10) ts (some_expr_with inner test room s ts)
   unfolding some_expr_with
   b_some_expr_with test room s ts =
@@ -352,7 +372,8 @@ module _ (all : List Lexeme) (numbered : IsNumbered all) (tokens : TokenLaws all
       _ (omega arith) (omega arith) (good.expr Whole nothing room _ _)) (λ e b721 e722 l723. bound_ends _ _ _ _ _ _ _ (omega
       arith)))
 
-  pub b_case_range : (keyword : ℕ) (first : Expr) (room : ℕ) (s : HeldScopes) (ts : List Lexeme) → BoundAt stmt_height (max
+  pub b_case_range : (keyword : ℕ) (first : Expr) (room : ℕ) (s : HeldScopes) (ts : List Lexeme)
+      → BoundAt stmt_height (max
       (expr_height first + 1) 2) room (15) ts (stating.range_behind inner keyword first room s ts)
   unfolding stating.range_behind
   b_case_range keyword first room s ts =
@@ -363,7 +384,8 @@ module _ (all : List Lexeme) (numbered : IsNumbered all) (tokens : TokenLaws all
       (bound_weaker _ (2) (room - 1) (14) _ _ _ _ _ (omega arith) (omega arith) (good.stmt (room - 1) _ _)) (λ t p510 q510 r510.
       bound_ends _ _ _ _ _ _ _ (omega arith)))))
 
-  pub b_case_value : (keyword : ℕ) (first : Expr) (room : ℕ) (s : HeldScopes) (ts : List Lexeme) → BoundAt stmt_height (max
+  pub b_case_value : (keyword : ℕ) (first : Expr) (room : ℕ) (s : HeldScopes) (ts : List Lexeme)
+      → BoundAt stmt_height (max
       (expr_height first + 1) 2) room (15) ts (stating.value_behind inner keyword first room s ts)
   unfolding stating.value_behind
   b_case_value keyword first room s ts =
@@ -371,7 +393,8 @@ module _ (all : List Lexeme) (numbered : IsNumbered all) (tokens : TokenLaws all
       (2) _ _ _ _ _ _ (bound_weaker _ (2) (room - 1) (14) _ _ _ _ _ (omega arith) (omega arith) (good.stmt (room - 1) _ _)) (λ t
       p514 q514 r514. bound_ends _ _ _ _ _ _ _ (omega arith)))
 
-  pub b_case_with : (room : ℕ) (s : HeldScopes) (ts : List Lexeme) → is_end (kind_at ts) ≡ false → BoundAt stmt_height (2) room (14)
+  pub b_case_with : (room : ℕ) (s : HeldScopes) (ts : List Lexeme) → is_end (kind_at ts) ≡ false
+      → BoundAt stmt_height (2) room (14)
       ts (case_with inner room s ts)
   unfolding case_with
   b_case_with room s ts known =
@@ -383,7 +406,8 @@ module _ (all : List Lexeme) (numbered : IsNumbered all) (tokens : TokenLaws all
       (λ on. bound_weaker _ (max (expr_height e.tree + 1) 2) room (15) _ _ _ _ _ (omega arith) (omega arith) (b_case_range keyword.tree e.tree room _ _))
       (λ off. bound_weaker _ (max (expr_height e.tree + 1) 2) room (15) _ _ _ _ _ (omega arith) (omega arith) (b_case_value keyword.tree e.tree room _ _)))))
 
-  pub b_default_with : (room : ℕ) (s : HeldScopes) (ts : List Lexeme) → is_end (kind_at ts) ≡ false → BoundAt stmt_height (2) room
+  pub b_default_with : (room : ℕ) (s : HeldScopes) (ts : List Lexeme) → is_end (kind_at ts) ≡ false
+      → BoundAt stmt_height (2) room
       (14) ts (default_with inner room s ts)
   unfolding default_with
   b_default_with room s ts known =
@@ -392,7 +416,8 @@ module _ (all : List Lexeme) (numbered : IsNumbered all) (tokens : TokenLaws all
       e742 l743. bound_bind stmt_height _ (2) _ _ _ _ _ _ (bound_weaker _ (2) (room - 1) (14) _ _ _ _ _ (omega arith) (omega
       arith) (good.stmt (room - 1) _ _)) (λ t b744 e745 l746. bound_ends _ _ _ _ _ _ _ (omega arith)))))
 
-  pub b_some_else_with : (room : ℕ) (s : HeldScopes) (ts : List Lexeme) → BoundAt some_else_height (2) room (14) ts (some_else_with
+  pub b_some_else_with : (room : ℕ) (s : HeldScopes) (ts : List Lexeme)
+      → BoundAt some_else_height (2) room (14) ts (some_else_with
       inner room s ts)
   unfolding some_else_with
   b_some_else_with room s ts =
@@ -404,7 +429,8 @@ module _ (all : List Lexeme) (numbered : IsNumbered all) (tokens : TokenLaws all
       bound_ends _ _ _ _ _ _ _ (omega arith))) (λ t b753 e754 l755. bound_ends _ _ _ _ _ _ _ (omega arith)))) (λ is747.
       bound_ends _ _ _ _ _ _ _ (omega arith))
 
-  pub b_if_inside : (room : ℕ) (s : HeldScopes) (ts : List Lexeme) → BoundAt stmt_height (2) room (14) ts (if_inside inner room s ts)
+  pub b_if_inside : (room : ℕ) (s : HeldScopes) (ts : List Lexeme)
+      → BoundAt stmt_height (2) room (14) ts (if_inside inner room s ts)
   unfolding if_inside
   b_if_inside room s ts =
       bound_bind token_levels _ (0) _ _ _ _ _ _ (bound_take _ _ _ _) (λ keyword b760 e761 l762. bound_bind token_levels _ (0) _ _ _
@@ -417,7 +443,8 @@ module _ (all : List Lexeme) (numbered : IsNumbered all) (tokens : TokenLaws all
       _ (2) _ _ _ _ _ _ (bound_weaker _ (2) (room - 1) (14) _ _ _ _ _ (omega arith) (omega arith) (b_some_else_with (room - 1) _
       _)) (λ other b777 e778 l779. bound_ends _ _ _ _ _ _ _ (omega arith)))))))
 
-  pub b_headed_inside : (make : (ℕ → ℕ → Expr → ℕ → Stmt → Stmt)) (room : ℕ) (s : HeldScopes) (ts : List Lexeme) → ((a b : ℕ) (e :
+  pub b_headed_inside : (make : (ℕ → ℕ → Expr → ℕ → Stmt → Stmt)) (room : ℕ) (s : HeldScopes) (ts : List Lexeme)
+      → ((a b : ℕ) (e :
       Expr) (x : ℕ) (t : Stmt) → stmt_height (make a b e x t) ≤ max (expr_height e) (stmt_height t) + 1) → BoundAt stmt_height (2)
       room (14) ts (headed_inside inner make room s ts)
   unfolding headed_inside
@@ -431,7 +458,8 @@ module _ (all : List Lexeme) (numbered : IsNumbered all) (tokens : TokenLaws all
       1) _ _)) (λ m795 b801 e802 l803. bound_ends _ _ _ _ _ _ _ (omega arith))) (λ t b796 e797 l798. bound_ends _ _ _ _ _ _ _
       (let f800 = low keyword.tree opening.tree e.tree closing.tree t.tree in omega arith))))))
 
-  pub b_do_inside : (room : ℕ) (s : HeldScopes) (ts : List Lexeme) → BoundAt stmt_height (2) room (14) ts (do_inside inner room s ts)
+  pub b_do_inside : (room : ℕ) (s : HeldScopes) (ts : List Lexeme)
+      → BoundAt stmt_height (2) room (14) ts (do_inside inner room s ts)
   unfolding do_inside
   b_do_inside room s ts =
       bound_bind token_levels _ (0) _ _ _ _ _ _ (bound_take _ _ _ _) (λ keyword b804 e805 l806. bound_bind stmt_height _ (2) _ _ _ _
@@ -444,7 +472,8 @@ module _ (all : List Lexeme) (numbered : IsNumbered all) (tokens : TokenLaws all
       (0) _ _ _ _ _ _ (bound_token is_close_paren _ _ _ _) (λ closing b821 e822 l823. bound_bind token_levels _ (0) _ _ _ _ _ _
       (bound_token is_semicolon _ _ _ _) (λ semi b824 e825 l826. bound_ends _ _ _ _ _ _ _ (omega arith))))))))
 
-  pub b_start_value_with : (begun : Begun) (room : ℕ) (s : HeldScopes) (ts : List Lexeme) → BoundAt for_start_height (1 +
+  pub b_start_value_with : (begun : Begun) (room : ℕ) (s : HeldScopes) (ts : List Lexeme)
+      → BoundAt for_start_height (1 +
       begun_levels begun) room (10 + begun_levels begun) ts (start_value_with inner begun room s ts)
   unfolding start_value_with
   b_start_value_with begun room s ts =
@@ -453,7 +482,8 @@ module _ (all : List Lexeme) (numbered : IsNumbered all) (tokens : TokenLaws all
       token_levels _ (0) _ _ _ _ _ _ (bound_token is_semicolon _ _ _ _) (λ semi b833 e834 l835. bound_ends _ _ _ _ _ _ _ (omega
       arith)))
 
-  pub b_extended_start : (room : ℕ) (s : HeldScopes) (ts : List Lexeme) → BoundAt for_start_height (6) room (19) ts (extended_start
+  pub b_extended_start : (room : ℕ) (s : HeldScopes) (ts : List Lexeme)
+      → BoundAt for_start_height (6) room (19) ts (extended_start
       inner room s ts)
   unfolding extended_start
   b_extended_start room s ts =
@@ -466,7 +496,8 @@ module _ (all : List Lexeme) (numbered : IsNumbered all) (tokens : TokenLaws all
       bound_weaker _ (1 + begun_levels (extensions exts.tree)) room (10 + begun_levels (extensions exts.tree)) _ _ _ _ _ (omega
       arith) (omega arith) (b_start_value_with (extensions exts.tree) room _ _)))
 
-  pub b_for_start_with : (room : ℕ) (s : HeldScopes) (ts : List Lexeme) → BoundAt for_start_height (6) room (19) ts (for_start_with
+  pub b_for_start_with : (room : ℕ) (s : HeldScopes) (ts : List Lexeme)
+      → BoundAt for_start_height (6) room (19) ts (for_start_with
       inner room s ts)
   unfolding for_start_with
   b_for_start_with room s ts =
@@ -485,7 +516,8 @@ module _ (all : List Lexeme) (numbered : IsNumbered all) (tokens : TokenLaws all
       bound_weaker _ (1 + begun_levels nothing) room (10 + begun_levels nothing) _ _ _ _ _ (omega arith) (omega arith)
       (b_start_value_with nothing room _ _))))
 
-  pub b_for_inside : (room : ℕ) (s : HeldScopes) (ts : List Lexeme) → BoundAt stmt_height (2) room (14) ts (for_inside inner room s ts)
+  pub b_for_inside : (room : ℕ) (s : HeldScopes) (ts : List Lexeme)
+      → BoundAt stmt_height (2) room (14) ts (for_inside inner room s ts)
   unfolding for_inside
   b_for_inside room s ts =
       bound_bind token_levels _ (0) _ _ _ _ _ _ (bound_take _ _ _ _) (λ keyword b858 e859 l860. bound_bind token_levels _ (0) _ _ _
@@ -500,7 +532,8 @@ module _ (all : List Lexeme) (numbered : IsNumbered all) (tokens : TokenLaws all
       _ _ _ (omega arith) (omega arith) (good.stmt (room - 1) _ _)) (λ m879 b884 e885 l886. bound_ends _ _ _ _ _ _ _ (omega
       arith))) (λ t b880 e881 l882. bound_ends _ _ _ _ _ _ _ (omega arith)))))))))
 
-  pub b_goto_value : (keyword : ℕ) (room : ℕ) (s : HeldScopes) (ts : List Lexeme) → is_end (kind_at ts) ≡ false → BoundAt
+  pub b_goto_value : (keyword : ℕ) (room : ℕ) (s : HeldScopes) (ts : List Lexeme) → is_end (kind_at ts) ≡ false
+      → BoundAt
       stmt_height (2) room (14) ts (goto_value_with inner keyword room s ts)
   unfolding goto_value_with
   b_goto_value keyword room s ts known =
@@ -510,7 +543,8 @@ module _ (all : List Lexeme) (numbered : IsNumbered all) (tokens : TokenLaws all
       nothing (room - 1) _ _)) (λ e p517 q517 r517. bound_bind token_levels _ (0) _ _ _ _ _ _ (bound_token is_semicolon _ _ _ _)
       (λ semi p516 q516 r516. bound_ends _ _ _ _ _ _ _ (omega arith)))))
 
-  pub b_goto_name : (keyword : ℕ) (room : ℕ) (s : HeldScopes) (ts : List Lexeme) → BoundAt stmt_height (2) room (14) ts (goto_name
+  pub b_goto_name : (keyword : ℕ) (room : ℕ) (s : HeldScopes) (ts : List Lexeme)
+      → BoundAt stmt_height (2) room (14) ts (goto_name
       inner keyword s ts)
   unfolding goto_name
   b_goto_name keyword room s ts =
@@ -521,7 +555,8 @@ module _ (all : List Lexeme) (numbered : IsNumbered all) (tokens : TokenLaws all
   star_known true kind is = known_by is_star refl kind is
   star_known false kind is = absurd cc
 
-  pub b_goto_with : (room : ℕ) (s : HeldScopes) (ts : List Lexeme) → is_end (kind_at ts) ≡ false → BoundAt stmt_height (2) room (14)
+  pub b_goto_with : (room : ℕ) (s : HeldScopes) (ts : List Lexeme) → is_end (kind_at ts) ≡ false
+      → BoundAt stmt_height (2) room (14)
       ts (goto_with inner room s ts)
   unfolding goto_with
   b_goto_with room s ts known =
@@ -531,7 +566,8 @@ module _ (all : List Lexeme) (numbered : IsNumbered all) (tokens : TokenLaws all
       (λ on. bound_weaker _ (2) room (14) _ _ _ _ _ (omega arith) (omega arith) (b_goto_value keyword.tree room _ _ (star_known (is_wide keyword.scopes) (kind_at keyword.rest) on)))
       (λ off. bound_weaker _ (2) room (14) _ _ _ _ _ (omega arith) (omega arith) (b_goto_name keyword.tree room _ _))))
 
-  pub b_jump_with : (make : (ℕ → ℕ → Stmt)) (room : ℕ) (s : HeldScopes) (ts : List Lexeme) → is_end (kind_at ts) ≡ false → ((a b :
+  pub b_jump_with : (make : (ℕ → ℕ → Stmt)) (room : ℕ) (s : HeldScopes) (ts : List Lexeme) → is_end (kind_at ts) ≡ false
+      → ((a b :
       ℕ) → stmt_height (make a b) ≤ 1) → BoundAt stmt_height (2) room (14) ts (jump_with inner make room s ts)
   unfolding jump_with
   b_jump_with make room s ts known low =
@@ -539,7 +575,8 @@ module _ (all : List Lexeme) (numbered : IsNumbered all) (tokens : TokenLaws all
       _ _ _ _) (λ keyword b898 e899 l900. bound_bind token_levels _ (0) _ _ _ _ _ _ (bound_token is_semicolon _ _ _ _) (λ semi
       b901 e902 l903. bound_ends _ _ _ _ _ _ _ (let f904 = low keyword.tree semi.tree in omega arith))))
 
-  pub b_return_with : (room : ℕ) (s : HeldScopes) (ts : List Lexeme) → is_end (kind_at ts) ≡ false → BoundAt stmt_height (2) room
+  pub b_return_with : (room : ℕ) (s : HeldScopes) (ts : List Lexeme) → is_end (kind_at ts) ≡ false
+      → BoundAt stmt_height (2) room
       (14) ts (return_with inner room s ts)
   unfolding return_with
   b_return_with room s ts known =
@@ -549,7 +586,8 @@ module _ (all : List Lexeme) (numbered : IsNumbered all) (tokens : TokenLaws all
       token_levels _ (0) _ _ _ _ _ _ (bound_token is_semicolon _ _ _ _) (λ semi b912 e913 l914. bound_ends _ _ _ _ _ _ _ (omega
       arith)))))
 
-  pub b_asm_with : (room : ℕ) (s : HeldScopes) (ts : List Lexeme) → is_end (kind_at ts) ≡ false → BoundAt stmt_height (2) room (14)
+  pub b_asm_with : (room : ℕ) (s : HeldScopes) (ts : List Lexeme) → is_end (kind_at ts) ≡ false
+      → BoundAt stmt_height (2) room (14)
       ts (asm_with inner room s ts)
   unfolding asm_with
   b_asm_with room s ts known =
@@ -560,7 +598,8 @@ module _ (all : List Lexeme) (numbered : IsNumbered all) (tokens : TokenLaws all
       bound_bind token_levels _ (0) _ _ _ _ _ _ (bound_token is_semicolon _ _ _ _) (λ semi b925 e926 l927. bound_ends _ _ _ _ _
       _ _ (omega arith))))))
 
-  pub b_attr_stmt_with : (room : ℕ) (s : HeldScopes) (ts : List Lexeme) → BoundAt stmt_height (2) room (14) ts (attr_stmt_with inner
+  pub b_attr_stmt_with : (room : ℕ) (s : HeldScopes) (ts : List Lexeme)
+      → BoundAt stmt_height (2) room (14) ts (attr_stmt_with inner
       room s ts)
   unfolding attr_stmt_with
   b_attr_stmt_with room s ts =
@@ -568,7 +607,8 @@ module _ (all : List Lexeme) (numbered : IsNumbered all) (tokens : TokenLaws all
       _ _)) (λ attrs b928 e929 l930. bound_bind token_levels _ (0) _ _ _ _ _ _ (bound_token is_semicolon _ _ _ _) (λ semi b931
       e932 l933. bound_ends _ _ _ _ _ _ _ (omega arith)))
 
-  pub b_named_stmt : (name : ℕ) (room : ℕ) (s : HeldScopes) (ts : List Lexeme) → is_end (kind_at ts) ≡ false → BoundAt stmt_height
+  pub b_named_stmt : (name : ℕ) (room : ℕ) (s : HeldScopes) (ts : List Lexeme) → is_end (kind_at ts) ≡ false
+      → BoundAt stmt_height
       (2) room (14) ts (named_stmt inner name room s ts)
   unfolding named_stmt
   b_named_stmt name room s ts known =
@@ -579,7 +619,8 @@ module _ (all : List Lexeme) (numbered : IsNumbered all) (tokens : TokenLaws all
       nothing room s ts) (λ is936. record { held = λ e. absurd cc }) (λ is936. bound_weaker _ (2 + begun_levels nothing) room
       (11 + begun_levels nothing) _ _ _ _ _ (omega arith) (omega arith) (b_expr_stmt_with nothing room _ _))))
 
-  pub b_stmt_by : (a0 : StmtStart) (room : ℕ) (s : HeldScopes) (ts : List Lexeme) → ((a0 ≡ starts.Value → ⊥) → is_end (kind_at ts) ≡
+  pub b_stmt_by : (a0 : StmtStart) (room : ℕ) (s : HeldScopes) (ts : List Lexeme)
+      → ((a0 ≡ starts.Value → ⊥) → is_end (kind_at ts) ≡
       false) → BoundAt stmt_height (2) room (14) ts (stmt_by inner a0 room s ts)
   unfolding stmt_by
   b_stmt_by starts.Block room s ts known =
@@ -634,7 +675,8 @@ module _ (all : List Lexeme) (numbered : IsNumbered all) (tokens : TokenLaws all
       omega arith) (λ less970. bound_weaker _ (2 + begun_levels nothing) room (11 + begun_levels nothing) _ _ _ _ _ (omega
       arith) (omega arith) (b_expr_stmt_with nothing room _ _))) (λ is969. record { held = λ e. absurd cc })
 
-  pub b_stmt_with : (room : ℕ) (s : HeldScopes) (ts : List Lexeme) → BoundAt stmt_height (2) room (14) ts (stmt_with inner room s ts)
+  pub b_stmt_with : (room : ℕ) (s : HeldScopes) (ts : List Lexeme)
+      → BoundAt stmt_height (2) room (14) ts (stmt_with inner room s ts)
   unfolding stmt_with
   b_stmt_with room s ts =
       bound_weaker _ (2) room (14) _ _ _ _ _ (omega arith) (omega arith) (b_stmt_by (stmt_start (kind_at ts)) room _ _ (known_of

@@ -33,31 +33,37 @@ use Rattle.deep_places.proofs.Bounding.{bound_ends, bound_weaker, bound_bind, bo
 bracket_shrinks : TurnShrinks bracket_turn
 bracket_shrinks state s ts x e = by_brackets state.brackets ts e
   where
-    by_inside : (i : Inside) (b : Bracket) (bs : List Bracket) (t : Lexeme) (ts : List Lexeme) → bracket_by i b bs t s ts ≡ done x →
+    by_inside : (i : Inside) (b : Bracket) (bs : List Bracket) (t : Lexeme) (ts : List Lexeme)
+        → bracket_by i b bs t s ts ≡ done x →
         length x.rest < length (t ∷ ts)
     by_inside (Opens other) b bs t ts e = let is = ap (λ (x : Found Opened). length x.rest) (ok_is e) in omega (arith, is)
     by_inside (Closes other) b bs t ts e = by_same (is_same other b) e
       where
-        by_same : (c : Bool) → (if c then ends (record { brackets = bs; last = t.at }) s ts else refuses Unexpected (t ∷ ts)) ≡ done
+        by_same : (c : Bool)
+            → (if c then ends (record { brackets = bs; last = t.at }) s ts else refuses Unexpected (t ∷ ts)) ≡ done
             x → length x.rest < length (t ∷ ts)
         by_same true e = let is = ap (λ (x : Found Opened). length x.rest) (ok_is e) in omega (arith, is)
         by_same false e = absurd cc
     by_inside Plain b bs t ts e = let is = ap (λ (x : Found Opened). length x.rest) (ok_is e) in omega (arith, is)
     by_inside Stops b bs t ts e = absurd cc
 
-    by_step : (b : Bracket) (bs : List Bracket) (ts : List Lexeme) → bracket_step b bs s ts ≡ done x → length x.rest < length ts
+    by_step : (b : Bracket) (bs : List Bracket) (ts : List Lexeme) → bracket_step b bs s ts ≡ done x
+        → length x.rest < length ts
     by_step b bs [] e = absurd cc
     by_step b bs (t ∷ ts) e = by_inside (inside_of t.kind) b bs t ts e
 
-    by_brackets : (bs : List Bracket) (ts : List Lexeme) → bracket_turn_by bs s ts ≡ Some (done x) → length x.rest < length ts
+    by_brackets : (bs : List Bracket) (ts : List Lexeme) → bracket_turn_by bs s ts ≡ Some (done x)
+        → length x.rest < length ts
     by_brackets [] ts e = absurd cc
     by_brackets (b ∷ bs) ts e = by_step b bs ts cc
 
-bracket_step_bound : (room : ℕ) (state : Opened) (s : HeldScopes) (ts : List Lexeme) (c : ℕ) → 0 ≤ c → 0 ≤ c → StepAt (λ (o :
+bracket_step_bound : (room : ℕ) (state : Opened) (s : HeldScopes) (ts : List Lexeme) (c : ℕ) → 0 ≤ c → 0 ≤ c
+    → StepAt (λ (o :
     Opened). 0) c room (c + 0) ts (bracket_turn state s ts)
 bracket_step_bound room state s ts c high low = by_brackets state.brackets
   where
-    by_inside : (i : Inside) (b : Bracket) (bs : List Bracket) (t : Lexeme) (ts : List Lexeme) → BoundAt (λ (o : Opened). 0) c room
+    by_inside : (i : Inside) (b : Bracket) (bs : List Bracket) (t : Lexeme) (ts : List Lexeme)
+        → BoundAt (λ (o : Opened). 0) c room
         (c + 0) (t ∷ ts) (bracket_by i b bs t s ts)
     by_inside (Opens other) b bs t ts = record { held = record { before = t ∷ []; parts = refl; low = omega arith } }
     by_inside (Closes other) b bs t ts =
@@ -67,7 +73,8 @@ bracket_step_bound room state s ts c high low = by_brackets state.brackets
     by_inside Plain b bs t ts = record { held = record { before = t ∷ []; parts = refl; low = omega arith } }
     by_inside Stops b bs t ts = record { held = λ e. absurd cc }
 
-    by_tokens : (b : Bracket) (bs : List Bracket) (ts : List Lexeme) → BoundAt (λ (o : Opened). 0) c room (c + 0) ts (bracket_step b
+    by_tokens : (b : Bracket) (bs : List Bracket) (ts : List Lexeme)
+        → BoundAt (λ (o : Opened). 0) c room (c + 0) ts (bracket_step b
         bs s ts)
     by_tokens b bs [] = record { held = λ e. absurd cc }
     by_tokens b bs (t ∷ ts) = by_inside (inside_of t.kind) b bs t ts
@@ -76,7 +83,8 @@ bracket_step_bound room state s ts c high low = by_brackets state.brackets
     by_brackets [] = tt
     by_brackets (b ∷ bs) = by_tokens b bs ts
 
-pub b_group_at : (room : ℕ) (s : HeldScopes) (ts : List Lexeme) → BoundAt (no_levels {A = Group}) 0 room 0 ts (group_at s ts)
+pub b_group_at : (room : ℕ) (s : HeldScopes) (ts : List Lexeme)
+    → BoundAt (no_levels {A = Group}) 0 room 0 ts (group_at s ts)
 unfolding group_at
 b_group_at room s ts =
     bound_bind token_levels (no_levels {A = Group}) 0 0 room 0 ts (token_at is_open_paren s ts) (λ opening. and_then (run
@@ -102,20 +110,23 @@ b_group_at room s ts =
     (λ inside b2 e2 l2. bound_ends (no_levels {A = Group}) (8 * length b2 + (8 * length b1 + 0)) room (8 * length b2 + (8 * length
     b1 + 0)) (record { first = opening.tree; last = inside.tree.last }) inside.scopes inside.rest (omega arith)))
 
-pub b_attr_at : (room : ℕ) (s : HeldScopes) (ts : List Lexeme) → BoundAt (token_levels {A = Attr}) (0) room (0) ts (attr_at s ts)
+pub b_attr_at : (room : ℕ) (s : HeldScopes) (ts : List Lexeme)
+    → BoundAt (token_levels {A = Attr}) (0) room (0) ts (attr_at s ts)
 unfolding attr_at
 b_attr_at room s ts =
     bound_bind token_levels _ (0) _ _ _ _ _ _ (bound_token is_attribute _ _ _ _) (λ keyword b1 e2 l3. bound_bind (no_levels {A =
     Group}) _ (0) _ _ _ _ _ _ (bound_weaker _ (0) room (0) _ _ _ _ _ (omega arith) (omega arith) (b_group_at room _ _)) (λ group
     b4 e5 l6. bound_ends _ _ _ _ _ _ _ (omega arith)))
 
-pub b_align_at : (room : ℕ) (s : HeldScopes) (ts : List Lexeme) → BoundAt (token_levels {A = Attr}) (0) room (0) ts (align_at s ts)
+pub b_align_at : (room : ℕ) (s : HeldScopes) (ts : List Lexeme)
+    → BoundAt (token_levels {A = Attr}) (0) room (0) ts (align_at s ts)
 unfolding align_at
 b_align_at room s ts =
     bound_bind token_levels _ (0) _ _ _ _ _ _ (bound_take _ _ _ _) (λ keyword b1 e2 l3. bound_bind (no_levels {A = Group}) _ (0) _ _ _ _ _ _
     (bound_weaker _ (0) room (0) _ _ _ _ _ (omega arith) (omega arith) (b_group_at room _ _)) (λ group b4 e5 l6. bound_ends _ _ _ _ _ _ _ (omega arith)))
 
-pub b_assert_at : (room : ℕ) (s : HeldScopes) (ts : List Lexeme) → BoundAt (no_levels {A = Assert}) (0) room (0) ts (assert_at s ts)
+pub b_assert_at : (room : ℕ) (s : HeldScopes) (ts : List Lexeme)
+    → BoundAt (no_levels {A = Assert}) (0) room (0) ts (assert_at s ts)
 unfolding assert_at
 b_assert_at room s ts =
     bound_bind token_levels _ (0) _ _ _ _ _ _ (bound_token is_static_assert _ _ _ _) (λ keyword b7 e8 l9. bound_bind (no_levels {A =
@@ -123,7 +134,8 @@ b_assert_at room s ts =
     b10 e11 l12. bound_bind token_levels _ (0) _ _ _ _ _ _ (bound_token is_semicolon _ _ _ _) (λ semi b13 e14 l15. bound_ends _
     _ _ _ _ _ _ (omega arith))))
 
-fewer_levels : {A : Type 0} (room : ℕ) (ts : List Lexeme) (r : Read A) → BoundAt token_levels 0 room 0 ts r → BoundAt no_levels 0
+fewer_levels : {A : Type 0} (room : ℕ) (ts : List Lexeme) (r : Read A) → BoundAt token_levels 0 room 0 ts r
+    → BoundAt no_levels 0
     room 0 ts r
 fewer_levels room ts (Ok x) b = record { held = record { before = b.held.before; parts = b.held.parts; low = omega arith } }
 fewer_levels room ts (Err e) b = record { held = b.held }
@@ -143,7 +155,8 @@ pub b_quals_at : (room : ℕ) (s : HeldScopes) (ts : List Lexeme) → BoundAt no
 unfolding quals_at
 b_quals_at room s ts = made_row word_qual_of (λ kind. is_made (word_qual_of kind)) room s ts
 
-pub b_array_words_at : (room : ℕ) (s : HeldScopes) (ts : List Lexeme) → BoundAt no_levels 0 room 0 ts (array_words_at s ts)
+pub b_array_words_at : (room : ℕ) (s : HeldScopes) (ts : List Lexeme)
+    → BoundAt no_levels 0 room 0 ts (array_words_at s ts)
 unfolding array_words_at
 b_array_words_at room s ts = made_row array_word_of (λ kind. is_made (array_word_of kind)) room s ts
 
@@ -221,7 +234,8 @@ pointer_words_low [] = omega arith
 pointer_words_low (pointer_words.Qual q ∷ xs) = pointer_words_low xs
 pointer_words_low (pointer_words.Attr a ∷ xs) = omega arith
 
-pointer_word_bound : (room : ℕ) (s : HeldScopes) (ts : List Lexeme) → BoundAt no_levels 0 room 1 ts (pointer_word_at room s ts)
+pointer_word_bound : (room : ℕ) (s : HeldScopes) (ts : List Lexeme)
+    → BoundAt no_levels 0 room 1 ts (pointer_word_at room s ts)
 unfolding pointer_word_at
 pointer_word_bound room s ts =
     bound_if no_levels 0 room 1 ts (is_attribute (kind_at ts)) (fits 2 room ts (and_then (attr_at s ts) (λ attr. ends
@@ -240,14 +254,16 @@ pointer_word_bound room s ts =
     (λ qual b1 e1 l1. bound_ends (no_levels {A = PointerWord}) (8 * length b1 + 0) room (8 * length b1 + 1) (pointer_words.Qual
     qual.tree) qual.scopes qual.rest (omega arith)))
 
-pub b_pointer_words_at : (room : ℕ) (s : HeldScopes) (ts : List Lexeme) → BoundAt pointer_words_height 1 room 1 ts (pointer_words_at
+pub b_pointer_words_at : (room : ℕ) (s : HeldScopes) (ts : List Lexeme)
+    → BoundAt pointer_words_height 1 room 1 ts (pointer_words_at
     room s ts)
 unfolding pointer_words_at
 b_pointer_words_at room s ts =
     forget (repeated begins_pointer_word (pointer_word_at room) s ts) (bound_repeated begins_pointer_word (pointer_word_at room)
     no_levels 0 room 1 (pointer_word_shrinks [] room) (omega arith) (λ s ts is. pointer_word_bound room s ts) s ts)
   where
-    forget : (r : Read (List PointerWord)) → BoundAt (most_of no_levels) 0 room 1 ts r → BoundAt pointer_words_height 1 room 1 ts r
+    forget : (r : Read (List PointerWord)) → BoundAt (most_of no_levels) 0 room 1 ts r
+        → BoundAt pointer_words_height 1 room 1 ts r
     forget (Ok x) b = record {
       held = record {
         before = b.held.before;
@@ -265,7 +281,8 @@ next_falls name shrinks comma s ts x e =
     let a = bind_ok e in
     omega (arith, shrinks s ts a.0 a.1, ap (λ (x : Found (Next Identifier ⊥)). length x.rest) (ok_is a.2))
 
-pub b_names_list : (name : Reader Identifier) → Shrinks name → ((room : ℕ) (s : HeldScopes) (ts : List Lexeme) → BoundAt token_levels 0 room 0 ts (name s ts)) →
+pub b_names_list : (name : Reader Identifier) → Shrinks name
+    → ((room : ℕ) (s : HeldScopes) (ts : List Lexeme) → BoundAt token_levels 0 room 0 ts (name s ts)) →
     (room : ℕ) (s : HeldScopes) (ts : List Lexeme) → BoundAt no_levels 0 room 0 ts (names_list name s ts)
 unfolding names_list
 b_names_list name shrinks bound room s ts =
@@ -275,7 +292,8 @@ b_names_list name shrinks bound room s ts =
     (λ xs b2 e2 l2. bound_ends _ _ _ _ _ _ _ (omega arith))
 
 -- identifiers of a list, which are no names of typedefs
-pub bound_identifier : (room : ℕ) (s : HeldScopes) (ts : List Lexeme) → BoundAt token_levels 0 room 0 ts (identifier_at s ts)
+pub bound_identifier : (room : ℕ) (s : HeldScopes) (ts : List Lexeme)
+    → BoundAt token_levels 0 room 0 ts (identifier_at s ts)
 bound_identifier room s ts =
     bound_if token_levels 0 room 0 ts (is_identifier s (spelled_name (kind_at ts))) (name_at s ts) (refuses Unexpected ts) (λ is. bound_name room 0 s ts) (λ is. record { held = λ e. absurd cc })
 

@@ -40,11 +40,13 @@ long [] t c = omega arith
 long (u ∷ b) t c = let e = long b t c in omega (arith, e)
 
 -- in numbered tokens the number of one is how many stand before it
-number_of : (all : List Lexeme) → IsNumbered all → (b : List Lexeme) (t : Lexeme) (r : List Lexeme) → all ≡ b ++ (t ∷ r) → t.at ≡ length b
+number_of : (all : List Lexeme) → IsNumbered all → (b : List Lexeme) (t : Lexeme) (r : List Lexeme) → all ≡ b ++ (t ∷ r)
+    → t.at ≡ length b
 number_of all is b t r e = is (length b) t (ap (λ (all : List Lexeme). slice_get all (length b)) e ∙ stands_at b t r)
 
 -- what is among the tokens behind one has a greater number
-number_behind : (all : List Lexeme) → IsNumbered all → (b : List Lexeme) (t : Lexeme) (r : List Lexeme) → all ≡ b ++ (t ∷ r) → (c : List Lexeme) (u : Lexeme) (v : List Lexeme) → r ≡ c ++ (u ∷ v) → t.at < u.at
+number_behind : (all : List Lexeme) → IsNumbered all → (b : List Lexeme) (t : Lexeme) (r : List Lexeme)
+    → all ≡ b ++ (t ∷ r) → (c : List Lexeme) (u : Lexeme) (v : List Lexeme) → r ≡ c ++ (u ∷ v) → t.at < u.at
 number_behind all is b t r e c u v f =
     let here = number_of all is b t r e in
     let there = number_of all is (b ++ (t ∷ c)) u v (e ∙ ap (λ (r : List Lexeme). b ++ (t ∷ r)) f ∙ sym (append_assoc b (t ∷ c) (u ∷ v))) in
@@ -65,7 +67,8 @@ not_both r e x is also = absurd cc
 
 module _ (formed : UnitIsWellFormed) (read_back : WellFormedIsRead) (whole_are : WholeAreMixes) (goes : MixesGoOn) (first : PlaceIsFirst) (trees : UnitsBeginAsTrees) (late : TooDeepIsLate) (passes : WithMoreRoomItPasses) (sound : AnyUnitIsWellFormed) where
   -- what is read with some room begins with its first tokens
-  begins : (dialect : Bool) (room : ℕ) → 1 ≤ room → (front more : List TokenKind) (y : Found (List Item)) → unit_of room dialect (numbered (front ++ more)) ≡ Ok y → BeginsTree front
+  begins : (dialect : Bool) (room : ℕ) → 1 ≤ room → (front more : List TokenKind) (y : Found (List Item))
+      → unit_of room dialect (numbered (front ++ more)) ≡ Ok y → BeginsTree front
   begins dialect room one front more y is =
       let w = sound dialect (numbered (front ++ more)) (are_numbered (front ++ more)) room y one is in (
         y.tree,
@@ -89,7 +92,8 @@ module _ (formed : UnitIsWellFormed) (read_back : WellFormedIsRead) (whole_are :
     place : Placed dialect most tokens TooDeep at
     place = placed dialect most (items_of formed read_back whole_are goes most (omega arith)) tokens TooDeep at ended e
 
-    wide_place : (fault : Fault) (n : ℕ) → unit_of wide dialect all ≡ Err (fault, n) → Placed dialect wide tokens fault n
+    wide_place : (fault : Fault) (n : ℕ) → unit_of wide dialect all ≡ Err (fault, n)
+        → Placed dialect wide tokens fault n
     wide_place fault n is = placed dialect wide (items_of formed read_back whole_are goes wide (omega arith)) tokens fault n ended is
 
     -- with so much room nothing is too deep
@@ -123,7 +127,9 @@ module _ (formed : UnitIsWellFormed) (read_back : WellFormedIsRead) (whole_are :
         let same = ap (λ (ks : List TokenKind). ks ++ b.0) parts ∙ append_assoc (take (at + 1) tokens) (take m (drop (at + 1) tokens)) b.0 in
         begins dialect wide (omega arith) (take (at + 1) tokens) (take m (drop (at + 1) tokens) ++ b.0) b.1 (sym (ap (λ (ks : List TokenKind). unit_of wide dialect (numbered ks)) same) ∙ b.2)
 
-    among : (d : Refusal) → unit_of wide dialect all ≡ refused d → (here : List Lexeme) → Leaves all here → at ≡ number_at here → (us : List Lexeme) → Leaves (behind_first here) us → d.1 ≡ number_at us → BeginsTree (take (at + 1) tokens)
+    among : (d : Refusal) → unit_of wide dialect all ≡ refused d → (here : List Lexeme) → Leaves all here
+        → at ≡ number_at here → (us : List Lexeme) → Leaves (behind_first here) us → d.1 ≡ number_at us
+        → BeginsTree (take (at + 1) tokens)
     among d is [] left there us inside place_of = let f = fifty in absurd (omega (arith, f, there))
     among d is (t ∷ r) left there [] inside none = absurd (not_first d.0 (is ∙ ap (λ (n : ℕ). refused (d.0, n)) none))
     among d is (t ∷ r) left there (u ∷ us) inside place_of =
@@ -133,7 +139,8 @@ module _ (formed : UnitIsWellFormed) (read_back : WellFormedIsRead) (whole_are :
     tree : BeginsTree (take (at + 1) tokens)
     tree = by_wide (unit_of wide dialect all) refl (subst (λ (r : Read (List Item)). Passes all r (unit_of wide dialect all)) e (passes most wide (omega arith) (omega arith) dialect all))
       where
-        by_wide : (r : Read (List Item)) → unit_of wide dialect all ≡ r → Passes all (refused (TooDeep, at)) r → BeginsTree (take (at + 1) tokens)
+        by_wide : (r : Read (List Item)) → unit_of wide dialect all ≡ r → Passes all (refused (TooDeep, at)) r
+            → BeginsTree (take (at + 1) tokens)
         by_wide (Ok y) is p = begins dialect wide (omega arith) (take (at + 1) tokens) (drop (at + 1) tokens) y (ap (λ (ks : List TokenKind). unit_of wide dialect (numbered ks)) (cut_here (at + 1) tokens) ∙ is)
         by_wide (Err d) is (inl same) = absurd (none_deep at (is ∙ same))
         by_wide (Err d) is (inr deep) = by_late deep.late

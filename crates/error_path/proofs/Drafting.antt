@@ -18,20 +18,24 @@ use Rattle.error_path.proofs.Resting.{has_early, has_of, leads_owner, rank_early
 
 module _ (sys : System) (lattice : ℕ) (rows : List Summary) where
   module _ (subs : List (List PathStep)) where
-    pub drafts_push : (drafts : List Draft) (draft : Draft) → AreDrafts sys lattice rows subs drafts → IsDraft sys lattice rows subs draft → AreDrafts sys lattice rows subs (drafts ++ draft ∷ [])
+    pub drafts_push : (drafts : List Draft) (draft : Draft) → AreDrafts sys lattice rows subs drafts
+        → IsDraft sys lattice rows subs draft → AreDrafts sys lattice rows subs (drafts ++ draft ∷ [])
     drafts_push drafts draft all one other there = elim (Contains-push_cases drafts draft other there) [
       | inl before ↦ all other before
       | inr same ↦ subst (IsDraft sys lattice rows subs) same one
     ]
 
-    pub drafts_last : (drafts : List Draft) (draft : Draft) → AreDrafts sys lattice rows subs (drafts ++ draft ∷ []) → IsDraft sys lattice rows subs draft
+    pub drafts_last : (drafts : List Draft) (draft : Draft) → AreDrafts sys lattice rows subs (drafts ++ draft ∷ [])
+        → IsDraft sys lattice rows subs draft
     drafts_last drafts draft all = all draft (Contains-push drafts draft)
 
-    pub drafts_rest : (drafts : List Draft) (draft : Draft) → AreDrafts sys lattice rows subs (drafts ++ draft ∷ []) → AreDrafts sys lattice rows subs drafts
+    pub drafts_rest : (drafts : List Draft) (draft : Draft) → AreDrafts sys lattice rows subs (drafts ++ draft ∷ [])
+        → AreDrafts sys lattice rows subs drafts
     drafts_rest drafts draft all other there = all other (Contains-append_left drafts (draft ∷ []) other there)
 
     -- a draft of which nothing is written
-    pub empty_draft : (draft : Draft) → draft.at ≡ draft.pair.to → draft.steps.items ≡ [] → HasPair rows draft.pair.from draft.pair.to → IsDraft sys lattice rows subs draft
+    pub empty_draft : (draft : Draft) → draft.at ≡ draft.pair.to → draft.steps.items ≡ []
+        → HasPair rows draft.pair.from draft.pair.to → IsDraft sys lattice rows subs draft
     empty_draft draft at none joined = record {
       whole = joined;
       joined = subst (λ v. HasPair rows draft.pair.from v) (sym at) joined;
@@ -41,12 +45,14 @@ module _ (sys : System) (lattice : ℕ) (rows : List Summary) where
           subst Steps (sym none) (subst At (sym at) (Done draft.pair.to));
     }
 
-    pub empty_draft_of : (draft : Draft) (pair : Pair) → draft.pair ≡ pair → draft.at ≡ pair.to → draft.steps.items ≡ [] → HasPair rows pair.from pair.to → IsDraft sys lattice rows subs draft
+    pub empty_draft_of : (draft : Draft) (pair : Pair) → draft.pair ≡ pair → draft.at ≡ pair.to → draft.steps.items ≡ []
+        → HasPair rows pair.from pair.to → IsDraft sys lattice rows subs draft
     empty_draft_of draft pair is at none joined =
         empty_draft draft (at ∙ ap (λ (p : Pair). p.to) (sym is)) none (subst (λ (p : Pair). HasPair rows p.from p.to) (sym is) joined)
 
     -- one that has the same steps
-    pub same_draft : (old new : Draft) → new.pair ≡ old.pair → new.at ≡ old.at → new.steps.items ≡ old.steps.items → IsDraft sys lattice rows subs old → IsDraft sys lattice rows subs new
+    pub same_draft : (old new : Draft) → new.pair ≡ old.pair → new.at ≡ old.at → new.steps.items ≡ old.steps.items
+        → IsDraft sys lattice rows subs old → IsDraft sys lattice rows subs new
     same_draft old new pair at steps draft = record {
       whole = subst (λ (p : Pair). HasPair rows p.from p.to) (sym pair) draft.whole;
       joined = subst (λ (p : Pair). HasPair rows p.from new.at) (sym pair) (subst (λ v. HasPair rows old.pair.from v) (sym at) draft.joined);
@@ -59,7 +65,8 @@ module _ (sys : System) (lattice : ℕ) (rows : List Summary) where
     }
 
     -- one that goes on
-    pub written_draft : Summarises sys lattice rows → (old new : Draft) → new.pair ≡ old.pair → IsDraft sys lattice rows subs old → IsWritten sys lattice rows subs old new →
+    pub written_draft : Summarises sys lattice rows → (old new : Draft) → new.pair ≡ old.pair
+        → IsDraft sys lattice rows subs old → IsWritten sys lattice rows subs old new →
         HasPair rows old.pair.from new.at → IsDraft sys lattice rows subs new
     written_draft all old new pair draft written joined = record {
       whole = subst (λ (p : Pair). HasPair rows p.from p.to) (sym pair) draft.whole;
@@ -74,7 +81,8 @@ module _ (sys : System) (lattice : ℕ) (rows : List Summary) where
     }
 
     -- and one that is whole
-    pub written_sub : (old new : Draft) → IsDraft sys lattice rows subs old → IsWritten sys lattice rows subs old new → new.at ≡ old.pair.from →
+    pub written_sub : (old new : Draft) → IsDraft sys lattice rows subs old → IsWritten sys lattice rows subs old new
+        → new.at ≡ old.pair.from →
         IsSub sys lattice subs old.pair.from old.pair.to (reverse new.steps.items)
     written_sub old new draft written same =
         let Begins : ℕ → Type 0 = λ x. Part sys lattice subs x old.at written.front in
@@ -91,7 +99,8 @@ module _ (sys : System) (lattice : ℕ) (rows : List Summary) where
         }
 
     -- what goes on where the pair's first variable is not reached
-    pub goes_on : (old new : Draft) → new.pair ≡ old.pair → IsWritten sys lattice rows subs old new → (new.at ≡ new.pair.from → ⊥) →
+    pub goes_on : (old new : Draft) → new.pair ≡ old.pair → IsWritten sys lattice rows subs old new
+        → (new.at ≡ new.pair.from → ⊥) →
         HasPair rows old.pair.from new.at × (rank rows new.pair.from new.at < rank rows old.pair.from old.at)
     goes_on old new pair written not =
         let from : new.pair.from ≡ old.pair.from = ap (λ (p : Pair). p.from) pair in
@@ -100,7 +109,8 @@ module _ (sys : System) (lattice : ℕ) (rows : List Summary) where
           | inr deeper ↦ (deeper.0, subst (λ u. rank rows u new.at < rank rows old.pair.from old.at) (sym from) deeper.1)
         ]
 
-  pub drafts_grown : (subs more : List (List PathStep)) (drafts : List Draft) → AreDrafts sys lattice rows subs drafts → AreDrafts sys lattice rows (subs ++ more) drafts
+  pub drafts_grown : (subs more : List (List PathStep)) (drafts : List Draft) → AreDrafts sys lattice rows subs drafts
+      → AreDrafts sys lattice rows (subs ++ more) drafts
   drafts_grown subs more drafts all draft there =
       let was = all draft there in
       record { whole = was.whole; joined = was.joined; inside = λ f o. inside_grown sys lattice subs more f draft.at draft.pair.to (reverse draft.steps.items) (was.inside f o) }

@@ -1,4 +1,5 @@
--- What a search has found stays right for other summaries of the same system, and its variables are those of constraints.
+-- What a search has found stays right for other summaries of the same system, and its variables are those of
+-- constraints.
 use Rattle.std.proofs.Common.{◌≡◌, ℕ, ◌<◌, List, inl, inr, arith, subst, sym}
 use Rattle.flow_graph.specs.System.{System, AllBelow}
 use Rattle.flow_graph.specs.declared.phase.Phase.{Phase}
@@ -20,7 +21,8 @@ module _ (sys : System) (lattice vars : ℕ) (origin : Origin) (rows : List Summ
   leads_below n p u q v (ByLeave _ _ _ _ _ st _) = let low = below n _ (has_of sys lattice n _ st) in omega (arith, low)
   leads_below n p u q v (ByEnter _ _ _ _ _ _ st _) = let low = below n _ (has_of sys lattice n _ st) in omega (arith, low)
 
-  comes_below : (place : ℕ) (q : Phase) (v : ℕ) (cause : Cause) → ComesBy sys lattice origin rows queue place q v cause → v < vars
+  comes_below : (place : ℕ) (q : Phase) (v : ℕ) (cause : Cause) → ComesBy sys lattice origin rows queue place q v cause
+      → v < vars
   comes_below place q v (Start n) comes = let low = below n _ (has_of sys lattice n _ comes.2) in omega (arith, low)
   comes_below place q v Here comes = subst (λ (o : Origin). HasRoom o vars) comes.0 room
   comes_below place q v (Step from n) comes = leads_below n comes.0.it.phase comes.0.it.at q v comes.1
@@ -38,7 +40,8 @@ module _ (sys : System) (lattice : ℕ) (origin : Origin) (rows others : List Su
   leads_alike u v inner (inl same) = inl same
   leads_alike u v inner (inr pair) = inr (pair_alike u v inner pair)
 
-  around_alike : (enter leave : ℕ) (p : Phase) (u : ℕ) (q : Phase) (v : ℕ) → LeadsAround sys lattice rows enter leave p u q v → LeadsAround sys lattice others enter leave p u q v
+  around_alike : (enter leave : ℕ) (p : Phase) (u : ℕ) (q : Phase) (v : ℕ)
+      → LeadsAround sys lattice rows enter leave p u q v → LeadsAround sys lattice others enter leave p u q v
   around_alike enter leave p u q v a = record {
     site = a.site;
     inner = a.inner;
@@ -49,7 +52,8 @@ module _ (sys : System) (lattice : ℕ) (origin : Origin) (rows others : List Su
     phase_is = a.phase_is;
   }
 
-  comes_alike : (queue : List Reached) (place : ℕ) (q : Phase) (v : ℕ) (cause : Cause) → ComesBy sys lattice origin rows queue place q v cause →
+  comes_alike : (queue : List Reached) (place : ℕ) (q : Phase) (v : ℕ) (cause : Cause)
+      → ComesBy sys lattice origin rows queue place q v cause →
       ComesBy sys lattice origin others queue place q v cause
   comes_alike queue place q v (Start n) comes = comes
   comes_alike queue place q v Here comes = comes
@@ -57,11 +61,13 @@ module _ (sys : System) (lattice : ℕ) (origin : Origin) (rows others : List Su
   comes_alike queue place q v (Group from enter leave) comes =
       (comes.0, around_alike enter leave comes.0.it.phase comes.0.it.at q v comes.1)
 
-  pub sound_alike : (queue : List Reached) → AreSound sys lattice origin rows queue → AreSound sys lattice origin others queue
+  pub sound_alike : (queue : List Reached) → AreSound sys lattice origin rows queue
+      → AreSound sys lattice origin others queue
   sound_alike queue sound place r is = comes_alike queue place r.phase r.at r.cause (sound place r is)
 
 -- what was found is sound for any summaries of the system
-pub found_sound : (sys : System) (found : Found) (lattice : ℕ) (origin : Origin) (rows : List Summary) → IsFound sys found → found.lattice ≡ lattice → found.origin ≡ origin →
+pub found_sound : (sys : System) (found : Found) (lattice : ℕ) (origin : Origin) (rows : List Summary)
+    → IsFound sys found → found.lattice ≡ lattice → found.origin ≡ origin →
     Summarises sys lattice rows → AreSound sys lattice origin rows found.queue.items
 found_sound sys found lattice origin rows is at named all =
     let Rows : ℕ → Type 0 = λ l. Summarises sys l rows in

@@ -34,29 +34,35 @@ variable_is u v is = cc
 
 module _ (sys : System) (lattice start : ℕ) (rows : List Summary) (well : IsWellOwned sys) (all : Summarises sys lattice rows) where
   -- what nothing or a summary joins to the inner end of an Enter is matched
-  inner_matches : (n s u a b : ℕ) → Stands sys lattice n (Enter s u a) → Leads rows a b → (g : ℕ) × Matches sys lattice g a b
+  inner_matches : (n s u a b : ℕ) → Stands sys lattice n (Enter s u a) → Leads rows a b
+      → (g : ℕ) × Matches sys lattice g a b
   inner_matches n s u a b st (inl same) =
       let call = entering sys lattice well n s u a st in
       (call.it.target, subst (λ x. Matches sys lattice call.it.target a x) same (stay call.it.target a call.inner_is))
   inner_matches n s u a b st (inr pair) = let m = all.sound a b pair in (m.0, longer m.0 a m.1 b m.2 m.3)
 
-  settled_goes : (v : ℕ) (q : Phase) → q ≡ settled (owner_of sys v) First → Goes sys lattice start First v → Goes sys lattice start q v
+  settled_goes : (v : ℕ) (q : Phase) → q ≡ settled (owner_of sys v) First → Goes sys lattice start First v
+      → Goes sys lattice start q v
   settled_goes v q is goes = subst (λ f. Goes sys lattice start f v) (sym (is ∙ first_is (owner_of sys v))) goes
 
-  goes_by : (n : ℕ) (p : Phase) (u : ℕ) (q : Phase) (v : ℕ) → LeadsBy sys lattice n p u q v → Goes sys lattice start p u → Goes sys lattice start q v
+  goes_by : (n : ℕ) (p : Phase) (u : ℕ) (q : Phase) (v : ℕ) → LeadsBy sys lattice n p u q v → Goes sys lattice start p u
+      → Goes sys lattice start q v
   goes_by n p u q v (ByFlow _ _ _ _ _ st is) on = Flows p u v n q is on st
   goes_by n _ u q v (ByLeave _ s _ _ _ st is) on = settled_goes v q is (Returns u v s n on st)
   goes_by n p u q v (ByEnter _ s _ _ _ _ st is) on = Enters p u v s n q is on st
 
-  goes_around : (enter leave : ℕ) (p : Phase) (u : ℕ) (q : Phase) (v : ℕ) → LeadsAround sys lattice rows enter leave p u q v → Goes sys lattice start p u → Goes sys lattice start q v
+  goes_around : (enter leave : ℕ) (p : Phase) (u : ℕ) (q : Phase) (v : ℕ)
+      → LeadsAround sys lattice rows enter leave p u q v → Goes sys lattice start p u → Goes sys lattice start q v
   goes_around enter leave p u q v a on =
       let inside = inner_matches enter a.site u a.inner a.last a.enters a.joined in
       Rounds p u a.inner a.last v a.site inside.0 enter leave q a.phase_is on a.enters inside.1 a.leaves
 
   module _ (queue : List Reached) (sound : AreSound sys lattice (Variable start) rows queue) where
     -- where that holds of all earlier places
-    came : (place : ℕ) → ((from : ℕ) (r : Reached) → from < place → slice_get queue from ≡ Some r → Goes sys lattice start r.phase r.at) →
-        (q : Phase) (v : ℕ) (cause : Cause) → ComesBy sys lattice (Variable start) rows queue place q v cause → Goes sys lattice start q v
+    came : (place : ℕ)
+        → ((from : ℕ) (r : Reached) → from < place → slice_get queue from ≡ Some r → Goes sys lattice start r.phase r.at) →
+        (q : Phase) (v : ℕ) (cause : Cause) → ComesBy sys lattice (Variable start) rows queue place q v cause
+        → Goes sys lattice start q v
     came place earlier q v (Start n) comes = absurd (no_element comes.0 start comes.1)
     came place earlier q v Here comes =
         let begins : Goes sys lattice start First start = Begins in
@@ -65,7 +71,8 @@ module _ (sys : System) (lattice start : ℕ) (rows : List Summary) (well : IsWe
     came place earlier q v (Group from enter leave) comes =
         goes_around enter leave comes.0.it.phase comes.0.it.at q v comes.1 (earlier from comes.0.it comes.0.before comes.0.there)
 
-    reached_below : (most place : ℕ) (r : Reached) → place < most → slice_get queue place ≡ Some r → Goes sys lattice start r.phase r.at
+    reached_below : (most place : ℕ) (r : Reached) → place < most → slice_get queue place ≡ Some r
+        → Goes sys lattice start r.phase r.at
     reached_below zero place r lt is = absurd (omega (arith, lt))
     reached_below (suc most) place r lt is =
         came place (λ from other before there. reached_below most from other (omega (arith, lt, before)) there) r.phase r.at r.cause (sound place r is)
@@ -76,7 +83,8 @@ module _ (sys : System) (lattice start : ℕ) (rows : List Summary) (well : IsWe
         (at.0.phase, subst (λ x. Goes sys lattice start at.0.phase x) at.2 goes)
 
 -- of what was found from a variable
-pub found_goes : (sys : System) (lattice start : ℕ) (reach : Reach) → IsWellOwned sys → IsReachOf sys lattice start reach → (place v : ℕ) → StandsIn reach.found.queue.items place v →
+pub found_goes : (sys : System) (lattice start : ℕ) (reach : Reach) → IsWellOwned sys
+    → IsReachOf sys lattice start reach → (place v : ℕ) → StandsIn reach.found.queue.items place v →
     GoesTo sys lattice start v
 found_goes sys lattice start reach well of place v at =
     let From : Origin → Type 0 = λ o. AreSound sys reach.found.lattice o of.is.rows reach.found.queue.items in

@@ -15,12 +15,15 @@ use Rattle.flow_laws.proofs.Walking.{seen}
 use Rattle.error_path.specs.Shown.{HaveNoLines}
 
 module _ (sys : System) (lattice : ℕ) (subs : List (List PathStep)) (elem bound : ℕ) where
-  pub path_first : (steps : List PathStep) (path : IsPath sys lattice subs elem bound steps) → first_of steps ≡ Some (Take path.start 0)
+  pub path_first : (steps : List PathStep) (path : IsPath sys lattice subs elem bound steps)
+      → first_of steps ≡ Some (Take path.start 0)
   path_first steps path = ap first_of path.steps_are
 
   -- a path that a constant is not below
-  pub path_holds : (orders : List Order) (order : Order) → slice_get orders lattice ≡ Some order → AreSubs sys lattice subs →
-      ((v limit : ℕ) → Stands sys lattice bound (Bound v lattice limit) → leq order elem limit ≡ false) → (steps : List PathStep) (end : ℕ) →
+  pub path_holds : (orders : List Order) (order : Order) → slice_get orders lattice ≡ Some order
+      → AreSubs sys lattice subs →
+      ((v limit : ℕ) → Stands sys lattice bound (Bound v lattice limit) → leq order elem limit ≡ false)
+      → (steps : List PathStep) (end : ℕ) →
       IsPath sys lattice subs elem bound steps → first_fault sys orders subs steps end ≡ None
   path_holds orders order there good over steps end path =
       let main : List PathStep = Take path.start 0 ∷ path.rest in
@@ -34,7 +37,8 @@ module _ (sys : System) (lattice : ℕ) (subs : List (List PathStep)) (elem boun
 
 -- the lines of a path are 0
 module _ (sys : System) (lattice : ℕ) (subs : List (List PathStep)) where
-  part_lines : (u v : ℕ) (front rest : List PathStep) → Part sys lattice subs u v front → HaveNoLines rest → HaveNoLines (front ++ rest)
+  part_lines : (u v : ℕ) (front rest : List PathStep) → Part sys lattice subs u v front → HaveNoLines rest
+      → HaveNoLines (front ++ rest)
   part_lines u v _ rest (Flow _ _ n st) more = (refl, more)
   part_lines u v _ rest (Empty _ a _ s n m st ts) more = (refl, (refl, more))
   part_lines u v _ rest (Full _ a b _ s n m k st is ts) more = (refl, (refl, (refl, more)))
@@ -46,23 +50,27 @@ module _ (sys : System) (lattice : ℕ) (subs : List (List PathStep)) where
   sub_lines : (u v : ℕ) (steps : List PathStep) → IsSub sys lattice subs u v steps → HaveNoLines steps
   sub_lines u v steps sub = subst HaveNoLines (sym sub.steps_are) (part_lines u sub.next sub.front sub.rest sub.part (inside_lines sub.function sub.next v sub.rest sub.more))
 
-  pub onward_lines : (goal : Goal) (p : Phase) (u : ℕ) (steps : List PathStep) → Onward sys lattice subs goal p u steps → HaveNoLines steps
+  pub onward_lines : (goal : Goal) (p : Phase) (u : ℕ) (steps : List PathStep) → Onward sys lattice subs goal p u steps
+      → HaveNoLines steps
   onward_lines _ p u _ (Ends _ _ _ limit st) = (refl, tt)
   onward_lines _ p u _ (There _ _) = tt
   onward_lines goal p u _ (Along _ _ _ v front rest part more) = part_lines u v front rest part (onward_lines goal (settled (owner_of sys v) p) v rest more)
   onward_lines goal _ u _ (Back _ _ v t n rest st more) = (refl, onward_lines goal (settled (owner_of sys v) First) v rest more)
   onward_lines goal p u _ (Into _ _ _ v t n rest st more) = (refl, onward_lines goal (settled (owner_of sys v) Second) v rest more)
 
-  pub path_lines : (elem bound : ℕ) (steps : List PathStep) → IsPath sys lattice subs elem bound steps → HaveNoLines steps
+  pub path_lines : (elem bound : ℕ) (steps : List PathStep) → IsPath sys lattice subs elem bound steps
+      → HaveNoLines steps
   path_lines elem bound steps path = subst HaveNoLines (sym path.steps_are) (refl, onward_lines (ToBound bound) _ path.from path.rest path.onward)
 
-push_get : (xs : List (List PathStep)) (y : List PathStep) (n : ℕ) (z : List PathStep) → slice_get (xs ++ y ∷ []) n ≡ Some z → (slice_get xs n ≡ Some z) ⊎ (y ≡ z)
+push_get : (xs : List (List PathStep)) (y : List PathStep) (n : ℕ) (z : List PathStep)
+    → slice_get (xs ++ y ∷ []) n ≡ Some z → (slice_get xs n ≡ Some z) ⊎ (y ≡ z)
 push_get [] y zero z is = inr cc
 push_get [] y (suc n) z is = absurd cc
 push_get (x ∷ xs) y zero z is = inl is
 push_get (x ∷ xs) y (suc n) z is = push_get xs y n z is
 
-pub subs_lines : (sys : System) (lattice : ℕ) (subs : List (List PathStep)) → AreSubs sys lattice subs → (n : ℕ) (steps : List PathStep) → slice_get subs n ≡ Some steps → HaveNoLines steps
+pub subs_lines : (sys : System) (lattice : ℕ) (subs : List (List PathStep)) → AreSubs sys lattice subs
+    → (n : ℕ) (steps : List PathStep) → slice_get subs n ≡ Some steps → HaveNoLines steps
 subs_lines sys lattice _ NoSubs n steps is = absurd cc
 subs_lines sys lattice _ (Next subs u v last before sub) n steps is = elim (push_get subs last n steps is) [
   | inl old ↦ subs_lines sys lattice subs before n steps old

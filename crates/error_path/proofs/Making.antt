@@ -29,7 +29,8 @@ pub push_last : {X : Type 0} (xs : List X) (x : X) → slice_get (xs ++ x ∷ []
 push_last [] x = refl
 push_last (z ∷ xs) x = push_last xs x
 
-pub more_get : {X : Type 0} (xs more : List X) (n : ℕ) (y : X) → slice_get xs n ≡ Some y → slice_get (xs ++ more) n ≡ Some y
+pub more_get : {X : Type 0} (xs more : List X) (n : ℕ) (y : X) → slice_get xs n ≡ Some y
+    → slice_get (xs ++ more) n ≡ Some y
 more_get [] more n y is = absurd cc
 more_get (x ∷ xs) more zero y is = is
 more_get (x ∷ xs) more (suc n) y is = more_get xs more n y is
@@ -38,7 +39,8 @@ pub some_is : (n m : ℕ) → Some n ≡ Some m → n ≡ m
 some_is n m e = cc
 
 module _ (sys : System) where
-  span_more : (o : Option (List PathStep)) (subs more : List (List PathStep)) (n u v : ℕ) → slice_get subs n ≡ o → span_of sys o ≡ Through u v →
+  span_more : (o : Option (List PathStep)) (subs more : List (List PathStep)) (n u v : ℕ) → slice_get subs n ≡ o
+      → span_of sys o ≡ Through u v →
       span_of sys (slice_get (subs ++ more) n) ≡ Through u v
   span_more None subs more n u v is span = absurd cc
   span_more (Some steps) subs more n u v is span = ap (span_of sys) (more_get subs more n steps is) ∙ span
@@ -47,12 +49,14 @@ module _ (sys : System) where
   look_next subs n = let less : suc n - 1 ≡ n = omega arith in rw (eqb-suc-zero n, less) refl
 
   -- what a number names stays where more sub-paths come
-  pub look_more : (subs more : List (List PathStep)) (k u v : ℕ) → look sys subs (Sub k 0) ≡ Through u v → look sys (subs ++ more) (Sub k 0) ≡ Through u v
+  pub look_more : (subs more : List (List PathStep)) (k u v : ℕ) → look sys subs (Sub k 0) ≡ Through u v
+      → look sys (subs ++ more) (Sub k 0) ≡ Through u v
   look_more subs more zero u v is = absurd cc
   look_more subs more (suc n) u v is = look_next (subs ++ more) n ∙ span_more (slice_get subs n) subs more n u v refl (sym (look_next subs n) ∙ is)
 
   -- a number that names a sub-path
-  pub sub_looked : (subs : List (List PathStep)) (k u v : ℕ) → look sys subs (Sub k 0) ≡ Through u v → HasSub sys subs u v
+  pub sub_looked : (subs : List (List PathStep)) (k u v : ℕ) → look sys subs (Sub k 0) ≡ Through u v
+      → HasSub sys subs u v
   sub_looked subs zero u v is = absurd cc
   sub_looked subs (suc n) u v is = (n, sym (look_next subs n) ∙ is)
 
@@ -62,7 +66,8 @@ module _ (sys : System) where
   look_at : (subs : List (List PathStep)) (n : ℕ) → look sys subs (Sub (n + 1) 0) ≡ span_of sys (slice_get subs n)
   look_at subs n = let next : n + 1 ≡ suc n = omega arith in ap (λ k. look sys subs (Sub k 0)) next ∙ look_next subs n
 
-  pub made_none : (lattice : ℕ) (subs : List (List PathStep)) (place : ℕ → ℕ → Option ℕ) → subs ≡ [] → ((u v : ℕ) → place u v ≡ None) → AreMade sys lattice subs place
+  pub made_none : (lattice : ℕ) (subs : List (List PathStep)) (place : ℕ → ℕ → Option ℕ) → subs ≡ []
+      → ((u v : ℕ) → place u v ≡ None) → AreMade sys lattice subs place
   made_none lattice subs place is none =
       let empty : AreMade sys lattice [] place = record {
         good = NoSubs;
@@ -78,7 +83,8 @@ module _ (sys : System) where
     longer : length (subs ++ steps ∷ []) ≡ length subs + 1
     longer = length-append subs (steps ∷ [])
 
-    new_found : (x y n : ℕ) → x ≡ u → y ≡ v → new x y ≡ Some n → (n < length (subs ++ steps ∷ [])) × (look sys (subs ++ steps ∷ []) (Sub (n + 1) 0) ≡ Through x y)
+    new_found : (x y n : ℕ) → x ≡ u → y ≡ v → new x y ≡ Some n
+        → (n < length (subs ++ steps ∷ [])) × (look sys (subs ++ steps ∷ []) (Sub (n + 1) 0) ≡ Through x y)
     new_found x y n f t is =
         let at : n ≡ length subs = some_is n (length subs) (sym is ∙ ap (λ z. new z y) f ∙ ap (λ z. new u z) t ∙ here) in
         let size = longer in (
@@ -87,7 +93,8 @@ module _ (sys : System) where
               ∙ ap (λ z. Through z v) (sym f) ∙ ap (λ z. Through x z) (sym t),
         )
 
-    old_found : (x y n : ℕ) → (x ≡ u → y ≢ v) → new x y ≡ Some n → (n < length (subs ++ steps ∷ [])) × (look sys (subs ++ steps ∷ []) (Sub (n + 1) 0) ≡ Through x y)
+    old_found : (x y n : ℕ) → (x ≡ u → y ≢ v) → new x y ≡ Some n
+        → (n < length (subs ++ steps ∷ [])) × (look sys (subs ++ steps ∷ []) (Sub (n + 1) 0) ≡ Through x y)
     old_found x y n other is =
         let was = made.found x y n (sym (others x y other) ∙ is) in
         let lt = was.0 in
@@ -121,7 +128,8 @@ module _ (sys : System) where
   through_is u v x y e = (cc, cc)
 
   -- sub-paths that have places are apart
-  pub made_apart : (lattice : ℕ) (subs : List (List PathStep)) (place : ℕ → ℕ → Option ℕ) → AreMade sys lattice subs place → AreApart sys subs
+  pub made_apart : (lattice : ℕ) (subs : List (List PathStep)) (place : ℕ → ℕ → Option ℕ)
+      → AreMade sys lattice subs place → AreApart sys subs
   made_apart lattice subs place made n m one other first second same =
       let p = made.named n one first in
       let q = made.named m other second in
@@ -130,16 +138,19 @@ module _ (sys : System) where
 
   -- parts and main paths stay where more sub-paths come
   module _ (lattice : ℕ) (subs more : List (List PathStep)) where
-    part_grown : (u v : ℕ) (front : List PathStep) → Part sys lattice subs u v front → Part sys lattice (subs ++ more) u v front
+    part_grown : (u v : ℕ) (front : List PathStep) → Part sys lattice subs u v front
+        → Part sys lattice (subs ++ more) u v front
     part_grown u v _ (Flow _ _ n st) = Flow u v n st
     part_grown u v _ (Empty _ a _ s n m st ts) = Empty u a v s n m st ts
     part_grown u v _ (Full _ a b _ s n m k st is ts) = Full u a b v s n m k st (look_more subs more k a b is) ts
 
-    pub inside_grown : (f u v : ℕ) (steps : List PathStep) → Inside sys lattice subs f u v steps → Inside sys lattice (subs ++ more) f u v steps
+    pub inside_grown : (f u v : ℕ) (steps : List PathStep) → Inside sys lattice subs f u v steps
+        → Inside sys lattice (subs ++ more) f u v steps
     inside_grown f u _ _ (Done _) = Done u
     inside_grown f u v _ (More _ x _ front rest part from to on) = More u x v front rest (part_grown u x front part) from to (inside_grown f x v rest on)
 
-    pub onward_grown : (goal : Goal) (p : Phase) (u : ℕ) (steps : List PathStep) → Onward sys lattice subs goal p u steps → Onward sys lattice (subs ++ more) goal p u steps
+    pub onward_grown : (goal : Goal) (p : Phase) (u : ℕ) (steps : List PathStep)
+        → Onward sys lattice subs goal p u steps → Onward sys lattice (subs ++ more) goal p u steps
     onward_grown _ p u _ (Ends bound _ _ limit st) = Ends bound p u limit st
     onward_grown _ p u _ (There _ _) = There p u
     onward_grown goal p u _ (Along _ _ _ v front rest part on) = Along goal p u v front rest (part_grown u v front part) (onward_grown goal _ v rest on)
@@ -147,7 +158,8 @@ module _ (sys : System) where
     onward_grown goal p u _ (Into _ _ _ v s n rest st on) = Into goal p u v s n rest st (onward_grown goal _ v rest on)
 
 -- a number that a place gives
-pub number_place : (place : Option ℕ) (k : ℕ) → option_map (λ n. n + 1) place ≡ Some k → (n : ℕ) × (place ≡ Some n) × (k ≡ n + 1)
+pub number_place : (place : Option ℕ) (k : ℕ) → option_map (λ n. n + 1) place ≡ Some k
+    → (n : ℕ) × (place ≡ Some n) × (k ≡ n + 1)
 number_place None k is = absurd cc
 number_place (Some n) k is = (n, refl, cc)
 

@@ -21,10 +21,12 @@ unmarked_not : {b : Bool} → b ≡ false → b ≡ true → ⊥
 unmarked_not none is = let both : false ≡ true = sym none ∙ is in cc
 
 module _ (sys : System) (lattice : ℕ) (rows : List Summary) where
-  pub from_on : (old new : Search) (p : Phase) (s a b m : ℕ) → Grows old new → IsRoundedFrom sys lattice rows old p s a b m → IsRoundedFrom sys lattice rows new p s a b m
+  pub from_on : (old new : Search) (p : Phase) (s a b m : ℕ) → Grows old new
+      → IsRoundedFrom sys lattice rows old p s a b m → IsRoundedFrom sys lattice rows new p s a b m
   from_on old new p s a b m grows rounded v st leads = grows.kept _ v (rounded v st leads)
 
-  pub over_on : (passed : PhaseMarks) (old new : Search) → Grows old new → IsOver sys lattice rows passed old → IsOver sys lattice rows passed new
+  pub over_on : (passed : PhaseMarks) (old new : Search) → Grows old new → IsOver sys lattice rows passed old
+      → IsOver sys lattice rows passed new
   over_on passed old new grows o = record {
     room = o.room;
     groups = λ p n s u a m is has b v st leads. grows.kept _ v (o.groups p n s u a m is has b v st leads);
@@ -32,7 +34,8 @@ module _ (sys : System) (lattice : ℕ) (rows : List Summary) where
   }
 
   -- nothing was followed
-  pub empty_over : (passed : PhaseMarks) (search : Search) → length sys.constraints ≤ size_of passed → ((p : Phase) (n : ℕ) → mark_of passed p n ≡ false) →
+  pub empty_over : (passed : PhaseMarks) (search : Search) → length sys.constraints ≤ size_of passed
+      → ((p : Phase) (n : ℕ) → mark_of passed p n ≡ false) →
       IsOver sys lattice rows passed search
   empty_over passed search room none = record {
     room = room;
@@ -42,12 +45,14 @@ module _ (sys : System) (lattice : ℕ) (rows : List Summary) where
 
   module _ (passed : PhaseMarks) (search : Search) (over : IsOver sys lattice rows passed search) (p : Phase) (n : ℕ) (is : mark_of passed p n ≡ true) where
     -- what a mark stands for
-    pub enter_covered : (s a : ℕ) → Crosses sys (record { way = In; site = s; at = a }) n → (m : ℕ) → IsRounded sys lattice rows search p s a m
+    pub enter_covered : (s a : ℕ) → Crosses sys (record { way = In; site = s; at = a }) n → (m : ℕ)
+        → IsRounded sys lattice rows search p s a m
     enter_covered s a c m b v st leads =
         let link = has_enter s a c.constraint.link c.has in
         over.groups p n s link.0 a m is (record { constraint = c.constraint; there = c.there; link_is = link.1 }) b v st leads
 
-    pub leave_covered : (s b : ℕ) → Crosses sys (record { way = Out; site = s; at = b }) n → (m v : ℕ) → Stands sys lattice m (Leave s b v) → IsMarked search (settled (owner_of sys v) p) v
+    pub leave_covered : (s b : ℕ) → Crosses sys (record { way = Out; site = s; at = b }) n → (m v : ℕ)
+        → Stands sys lattice m (Leave s b v) → IsMarked search (settled (owner_of sys v) p) v
     leave_covered s b c m v st =
         let link = has_leave s b c.constraint.link c.has in
         over.leaves p n s b link.0 m v is (record { constraint = c.constraint; there = c.there; link_is = link.1 }) st
@@ -57,7 +62,8 @@ module _ (sys : System) (lattice : ℕ) (rows : List Summary) where
     room_on = subst (λ k. length sys.constraints ≤ k) (sym size) over.room
 
     -- the groups of an Enter were followed
-    pub enter_over : (s a : ℕ) → Crosses sys (record { way = In; site = s; at = a }) at → ((m : ℕ) → IsRounded sys lattice rows search phase s a m) → IsOver sys lattice rows new search
+    pub enter_over : (s a : ℕ) → Crosses sys (record { way = In; site = s; at = a }) at
+        → ((m : ℕ) → IsRounded sys lattice rows search phase s a m) → IsOver sys lattice rows new search
     enter_over s a c done = record {
       room = room_on;
       groups = λ p n t u b m is has d v st leads. elim (only p n is) [
@@ -74,7 +80,8 @@ module _ (sys : System) (lattice : ℕ) (rows : List Summary) where
     }
 
     -- the Leaves of a site from a variable were followed
-    pub leave_over : (s b : ℕ) → Crosses sys (record { way = Out; site = s; at = b }) at → ((m v : ℕ) → Stands sys lattice m (Leave s b v) → IsMarked search (settled (owner_of sys v) phase) v) →
+    pub leave_over : (s b : ℕ) → Crosses sys (record { way = Out; site = s; at = b }) at
+        → ((m v : ℕ) → Stands sys lattice m (Leave s b v) → IsMarked search (settled (owner_of sys v) phase) v) →
         IsOver sys lattice rows new search
     leave_over s b c done = record {
       room = room_on;

@@ -8,7 +8,8 @@ use Rattle.match_summary.specs.Summary.{StandsOnce}
 use Rattle.error_path.specs.Drafts.{rank}
 
 -- a pair stands first, or later
-rank_is : (row : Summary) (rows : List Summary) (u v : ℕ) → ((row.from ≡ u) × (row.to ≡ v) × (rank (row ∷ rows) u v ≡ 0))
+rank_is : (row : Summary) (rows : List Summary) (u v : ℕ)
+    → ((row.from ≡ u) × (row.to ≡ v) × (rank (row ∷ rows) u v ≡ 0))
     ⊎ ((row.from ≡ u → row.to ≡ v → ⊥) × (rank (row ∷ rows) u v ≡ suc (rank rows u v)))
 rank_is row rows u v =
     let next : rank rows u v + 1 ≡ suc (rank rows u v) = omega arith in
@@ -28,7 +29,8 @@ same_row row u v f t =
 some_row : {x y : Summary} → Some x ≡ Some y → x ≡ y
 some_row e = cc
 
-pub rank_most : (rows : List Summary) (n u v : ℕ) (why : Reason) → slice_get rows n ≡ Some (record { from = u; to = v; why = why }) → rank rows u v ≤ n
+pub rank_most : (rows : List Summary) (n u v : ℕ) (why : Reason)
+    → slice_get rows n ≡ Some (record { from = u; to = v; why = why }) → rank rows u v ≤ n
 rank_most [] n u v why is = absurd cc
 rank_most (row ∷ rows) zero u v why is = elim (rank_is row rows u v) [
   | inl here ↦ omega (arith, here.2)
@@ -40,7 +42,8 @@ rank_most (row ∷ rows) (suc n) u v why is = elim (rank_is row rows u v) [
   | inr later ↦ let deeper = rank_most rows n u v why is in omega (arith, deeper, later.1)
 ]
 
-rank_there : (rows : List Summary) (u v : ℕ) → rank rows u v < length rows → (why : Reason) × (slice_get rows (rank rows u v) ≡ Some (record { from = u; to = v; why = why }))
+rank_there : (rows : List Summary) (u v : ℕ) → rank rows u v < length rows
+    → (why : Reason) × (slice_get rows (rank rows u v) ≡ Some (record { from = u; to = v; why = why }))
 rank_there [] u v lt = absurd (omega (arith, lt))
 rank_there (row ∷ rows) u v lt = elim (rank_is row rows u v) [
   | inl here ↦
@@ -53,7 +56,8 @@ rank_there (row ∷ rows) u v lt = elim (rank_is row rows u v) [
 ]
 
 -- a pair that stands once stands there alone
-pub rank_once : (rows : List Summary) → StandsOnce rows → (n u v : ℕ) (why : Reason) → slice_get rows n ≡ Some (record { from = u; to = v; why = why }) → rank rows u v ≡ n
+pub rank_once : (rows : List Summary) → StandsOnce rows → (n u v : ℕ) (why : Reason)
+    → slice_get rows n ≡ Some (record { from = u; to = v; why = why }) → rank rows u v ≡ n
 rank_once rows once n u v why is =
     let most = rank_most rows n u v why is in
     let within = slice_get_within rows n (record { from = u; to = v; why = why }) is in

@@ -28,12 +28,14 @@ pub leads_early : (rows : List Summary) (n u v : ℕ) → Leads (take n rows) u 
 leads_early rows n u v (inl same) = inl same
 leads_early rows n u v (inr pair) = inr (has_early rows n u v pair)
 
-pub ends_early : (sys : System) (lattice : ℕ) (rows : List Summary) (n : ℕ) (why : Reason) (v : ℕ) → EndsAt sys lattice (take n rows) why v → EndsAt sys lattice rows why v
+pub ends_early : (sys : System) (lattice : ℕ) (rows : List Summary) (n : ℕ) (why : Reason) (v : ℕ)
+    → EndsAt sys lattice (take n rows) why v → EndsAt sys lattice rows why v
 ends_early sys lattice rows n (Last edge before) v h = h
 ends_early sys lattice rows n (Group before enter leave) v h = (h.0, h.1, h.2, h.3, leads_early rows n h.1 h.2 h.4, h.5, h.6)
 
 -- a summary rests on the summaries
-pub rests : (sys : System) (lattice : ℕ) (rows : List Summary) → Summarises sys lattice rows → (row : Summary) → Contains rows row → RestsOn sys lattice rows row
+pub rests : (sys : System) (lattice : ℕ) (rows : List Summary) → Summarises sys lattice rows → (row : Summary)
+    → Contains rows row → RestsOn sys lattice rows row
 rests sys lattice rows all row there =
     let n = there.0 in
     let is : slice_get rows n ≡ Some row = slice_get-get_or rows n row there.1 ∙ ap (λ (x : Summary). Some x) there.2 in
@@ -50,19 +52,22 @@ pub within_of : (sys : System) (lattice n : ℕ) (link : Link) → Stands sys la
 within_of sys lattice n link st = slice_get_within sys.constraints n st.constraint st.there
 
 -- of the reason that was found for a pair
-pub rests_by : (sys : System) (lattice : ℕ) (rows : List Summary) → Summarises sys lattice rows → (u v : ℕ) (o : Option Reason) (why : Reason) →
+pub rests_by : (sys : System) (lattice : ℕ) (rows : List Summary) → Summarises sys lattice rows
+    → (u v : ℕ) (o : Option Reason) (why : Reason) →
     IfSome o (λ w. Contains rows (record { from = u; to = v; why = w })) → o ≡ Some why → RestsOn sys lattice rows (record { from = u; to = v; why = why })
 rests_by sys lattice rows all u v o why some is =
     let Found : Option Reason → Type 0 = λ x. IfSome x (λ w. Contains rows (record { from = u; to = v; why = w })) in
     rests sys lattice rows all (record { from = u; to = v; why = why }) (subst Found is some)
 
 -- what leads from a variable of a function stays in the function
-pub leads_owner : (sys : System) (lattice : ℕ) (rows : List Summary) → Summarises sys lattice rows → (u v f : ℕ) → Leads rows u v → owner_of sys u ≡ Function f → owner_of sys v ≡ Function f
+pub leads_owner : (sys : System) (lattice : ℕ) (rows : List Summary) → Summarises sys lattice rows → (u v f : ℕ)
+    → Leads rows u v → owner_of sys u ≡ Function f → owner_of sys v ≡ Function f
 leads_owner sys lattice rows all u v f (inl same) o = ap (owner_of sys) (sym same) ∙ o
 leads_owner sys lattice rows all u v f (inr pair) o = let one = (rests sys lattice rows all _ pair.1).inside in one.2 ∙ sym one.1 ∙ o
 
 -- the reason of a pair rests on the summaries that stand before the pair
-pub rests_early : (sys : System) (lattice : ℕ) (rows : List Summary) → Summarises sys lattice rows → (u v : ℕ) (o : Option Reason) (why : Reason) →
+pub rests_early : (sys : System) (lattice : ℕ) (rows : List Summary) → Summarises sys lattice rows
+    → (u v : ℕ) (o : Option Reason) (why : Reason) →
     IfSome o (λ w. Contains rows (record { from = u; to = v; why = w })) → o ≡ Some why →
     RestsOn sys lattice (take (rank rows u v) rows) (record { from = u; to = v; why = why })
 rests_early sys lattice rows all u v o why some is =
@@ -86,6 +91,7 @@ rank_early rows n u v pair =
     let most = rank_most rows pair.1.0 u v pair.0 at in
     omega (arith, most, lt)
 
-pub leads_before : (rows : List Summary) (n u v : ℕ) → Leads (take n rows) u v → (u ≡ v) ⊎ (HasPair rows u v × (rank rows u v < n))
+pub leads_before : (rows : List Summary) (n u v : ℕ) → Leads (take n rows) u v
+    → (u ≡ v) ⊎ (HasPair rows u v × (rank rows u v < n))
 leads_before rows n u v (inl same) = inl same
 leads_before rows n u v (inr pair) = inr (has_early rows n u v pair, rank_early rows n u v pair)

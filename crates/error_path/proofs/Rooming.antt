@@ -27,15 +27,18 @@ in_less all left r v is other at =
     ]
 
 -- where the marks of the last one's variable were taken away, and its place
-pub marked_less : (old new : PhaseMarks) (all left : List Reached) (r : Reached) → all ≡ left ++ r ∷ [] → ((p : Phase) → mark_of new p r.at ≡ false) →
+pub marked_less : (old new : PhaseMarks) (all left : List Reached) (r : Reached) → all ≡ left ++ r ∷ []
+    → ((p : Phase) → mark_of new p r.at ≡ false) →
     ((p : Phase) (v : ℕ) → v ≢ r.at → mark_of new p v ≡ mark_of old p v) → AreIn old all → AreIn new left
 marked_less old new all left r is here others marked p v mark = elim (cases_eq v r.at) [
   | inl same ↦ absurd (unmarked new p v (ap (λ (k : ℕ). mark_of new p k) same ∙ here p) mark)
   | inr other ↦ in_less all left r v is other (marked p v (sym (others p v other) ∙ mark))
 ]
 
-pub placed_less : (old new : List ℕ) (all left : List Reached) (r : Reached) → all ≡ left ++ r ∷ [] → slice_index_or new r.at nowhere ≡ nowhere →
-    ((v : ℕ) → v ≢ r.at → slice_index_or new v nowhere ≡ slice_index_or old v nowhere) → ArePlaced old all → ArePlaced new left
+pub placed_less : (old new : List ℕ) (all left : List Reached) (r : Reached) → all ≡ left ++ r ∷ []
+    → slice_index_or new r.at nowhere ≡ nowhere →
+    ((v : ℕ) → v ≢ r.at → slice_index_or new v nowhere ≡ slice_index_or old v nowhere) → ArePlaced old all
+    → ArePlaced new left
 placed_less old new all left r is here others placed v place = elim (cases_eq v r.at) [
   | inl same ↦ absurd (place (ap (λ (k : ℕ). slice_index_or new k nowhere) same ∙ here))
   | inr other ↦ in_less all left r v is other (placed v (λ none. place (others v other ∙ none)))

@@ -41,13 +41,16 @@ grows_then a b c p q = record {
   free = omega (arith, p.free, q.free);
 }
 
-pub stands_on : (old new : Search) (place : ℕ) (p : Phase) (v : ℕ) → Grows old new → StandsAt old place p v → StandsAt new place p v
+pub stands_on : (old new : Search) (place : ℕ) (p : Phase) (v : ℕ) → Grows old new → StandsAt old place p v
+    → StandsAt new place p v
 stands_on old new place p v g s = (s.0, ap (λ xs. slice_get xs place) g.is ∙ more_get old.queue.items g.more place s.0 s.1, s.2, s.3)
 
-pub below_on : (sys : System) (old new : Search) → Grows old new → AllBelow sys (size_of old.marks) → AllBelow sys (size_of new.marks)
+pub below_on : (sys : System) (old new : Search) → Grows old new → AllBelow sys (size_of old.marks)
+    → AllBelow sys (size_of new.marks)
 below_on sys old new g all = subst (λ k. AllBelow sys k) (sym g.size) all
 
-pub followed_on : (sys : System) (lattice : ℕ) (rows : List Summary) (old new : Search) (p : Phase) (u n : ℕ) → Grows old new → IsFollowed sys lattice rows old p u n → IsFollowed sys lattice rows new p u n
+pub followed_on : (sys : System) (lattice : ℕ) (rows : List Summary) (old new : Search) (p : Phase) (u n : ℕ)
+    → Grows old new → IsFollowed sys lattice rows old p u n → IsFollowed sys lattice rows new p u n
 followed_on sys lattice rows old new p u n g f = record {
   flow = λ v st. g.kept _ v (f.flow v st);
   back = λ s v first st. g.kept _ v (f.back s v first st);
@@ -55,7 +58,8 @@ followed_on sys lattice rows old new p u n g f = record {
   group = λ s a m st b v ts leads. g.kept _ v (f.group s a m st b v ts leads);
 }
 
-abbrev earlier_more : (queue more : List Reached) (from place : ℕ) → Earlier queue from place → Earlier (queue ++ more) from place
+abbrev earlier_more : (queue more : List Reached) (from place : ℕ) → Earlier queue from place
+    → Earlier (queue ++ more) from place
 earlier_more queue more from place e = record { it = e.it; there = more_get queue more from e.it e.there; before = e.before }
 
 comes_more : (sys : System) (lattice : ℕ) (origin : Origin) (rows : List Summary) (queue more : List Reached) (place : ℕ) (q : Phase) (v : ℕ) (cause : Cause) →
@@ -66,7 +70,8 @@ comes_more sys lattice origin rows queue more place q v (Step from n) h = (earli
 comes_more sys lattice origin rows queue more place q v (Group from enter leave) h = (earlier_more queue more from place h.0, h.1)
 
 -- one more item
-pub sound_push : (sys : System) (lattice : ℕ) (origin : Origin) (rows : List Summary) (queue : List Reached) (r : Reached) → AreSound sys lattice origin rows queue →
+pub sound_push : (sys : System) (lattice : ℕ) (origin : Origin) (rows : List Summary) (queue : List Reached) (r : Reached)
+    → AreSound sys lattice origin rows queue →
     ComesBy sys lattice origin rows queue (length queue) r.phase r.at r.cause → AreSound sys lattice origin rows (queue ++ r ∷ [])
 sound_push sys lattice origin rows queue r sound comes n other is = elim (push_cases queue r n other is) [
   | inl old ↦ comes_more sys lattice origin rows queue (r ∷ []) n other.phase other.at other.cause (sound n other old.1)
@@ -84,7 +89,8 @@ same_phase Second First = inr (λ e. absurd cc)
 same_phase Second Second = inl refl
 
 -- a mark is an old one or that of the variable
-pub mark_cases : (old new : PhaseMarks) (phase : Phase) (at : ℕ) → ((p : Phase) (v : ℕ) → (p ≡ phase → v ≢ at) → mark_of new p v ≡ mark_of old p v) →
+pub mark_cases : (old new : PhaseMarks) (phase : Phase) (at : ℕ)
+    → ((p : Phase) (v : ℕ) → (p ≡ phase → v ≢ at) → mark_of new p v ≡ mark_of old p v) →
     (p : Phase) (v : ℕ) → mark_of new p v ≡ true → (mark_of old p v ≡ true) ⊎ ((phase ≡ p) × (at ≡ v))
 mark_cases old new phase at others p v has = elim (same_phase p phase) [
   | inr not ↦ inl (sym (others p v (λ e. absurd (not e))) ∙ has)
@@ -92,7 +98,8 @@ mark_cases old new phase at others p v has = elim (same_phase p phase) [
 ]
 
 pub mark_kept : (old new : PhaseMarks) (phase : Phase) (at : ℕ) → mark_of new phase at ≡ true →
-    ((p : Phase) (v : ℕ) → (p ≡ phase → v ≢ at) → mark_of new p v ≡ mark_of old p v) → (p : Phase) (v : ℕ) → mark_of old p v ≡ true → mark_of new p v ≡ true
+    ((p : Phase) (v : ℕ) → (p ≡ phase → v ≢ at) → mark_of new p v ≡ mark_of old p v) → (p : Phase) (v : ℕ)
+    → mark_of old p v ≡ true → mark_of new p v ≡ true
 mark_kept old new phase at here others p v has = elim (same_phase p phase) [
   | inr not ↦ others p v (λ e. absurd (not e)) ∙ has
   | inl same ↦ elim (cases_eq v at) [
@@ -103,14 +110,16 @@ mark_kept old new phase at here others p v has = elim (same_phase p phase) [
 
 pub listed_push : (old new : PhaseMarks) (queue : List Reached) (r : Reached) →
     ((p : Phase) (v : ℕ) → mark_of new p v ≡ true → (mark_of old p v ≡ true) ⊎ ((r.phase ≡ p) × (r.at ≡ v))) →
-    ((p : Phase) (v : ℕ) → mark_of old p v ≡ true → IsListed queue p v) → (p : Phase) (v : ℕ) → mark_of new p v ≡ true → IsListed (queue ++ r ∷ []) p v
+    ((p : Phase) (v : ℕ) → mark_of old p v ≡ true → IsListed queue p v) → (p : Phase) (v : ℕ) → mark_of new p v ≡ true
+    → IsListed (queue ++ r ∷ []) p v
 listed_push old new queue r cases listed p v has = elim (cases p v has) [
   | inl before ↦ let l = listed p v before in record { place = l.place; it = l.it; there = more_get queue (r ∷ []) l.place l.it l.there; phase_is = l.phase_is; at_is = l.at_is }
   | inr here ↦ record { place = length queue; it = r; there = push_last queue r; phase_is = here.0; at_is = here.1 }
 ]
 
 -- what is marked at the start stays so
-pub started_on : (sys : System) (lattice : ℕ) (origin : Origin) (old new : Search) → Grows old new → AreStarted sys lattice origin old → AreStarted sys lattice origin new
+pub started_on : (sys : System) (lattice : ℕ) (origin : Origin) (old new : Search) → Grows old new
+    → AreStarted sys lattice origin old → AreStarted sys lattice origin new
 started_on sys lattice (Element e) old new g started = λ n v st. g.kept _ v (started n v st)
 started_on sys lattice (Variable v) old new g started = g.kept _ v started
 
@@ -136,11 +145,13 @@ module _ (sys : System) (lattice : ℕ) (rows : List Summary) (search : Search) 
       first_is Nobody = refl
       first_is (Function f) = refl
 
-  -- what a path with an open call leads to is marked in the second phase where the variable is a function's, or in the first
+  -- what a path with an open call leads to is marked in the second phase where the variable is a function's, or in the
+  -- first
   abbrev IsCalled : ℕ → Type 0
   IsCalled v = IsMarked search First v ⊎ IsMarked search (settled (owner_of sys v) Second) v
 
-  either_phase : (o : Owner) (v : ℕ) → IsMarked search (settled o Second) v → IsMarked search First v ⊎ IsMarked search Second v
+  either_phase : (o : Owner) (v : ℕ) → IsMarked search (settled o Second) v
+      → IsMarked search First v ⊎ IsMarked search Second v
   either_phase Nobody v mark = inl mark
   either_phase (Function f) v mark = inr mark
 
@@ -197,7 +208,8 @@ module _ (sys : System) (lattice : ℕ) (rows : List Summary) (search : Search) 
   all_in (Element e) begun = λ v lead. elim (lead_marked e begun v lead) [ inl mark ↦ listed_in First v mark | inr mark ↦ listed_in Second v mark ]
   all_in (Variable u) begun = λ v goes. listed_in goes.0 v (goes_in u begun goes.0 v goes.1)
 
-pub leads_in : (sys : System) (lattice : ℕ) (origin : Origin) (rows : List Summary) (search : Search) → Summarises sys lattice rows → IsGood sys lattice origin rows search →
+pub leads_in : (sys : System) (lattice : ℕ) (origin : Origin) (rows : List Summary) (search : Search)
+    → Summarises sys lattice rows → IsGood sys lattice origin rows search →
     AreStarted sys lattice origin search → ((place : ℕ) → IsVisited sys lattice rows search place) → HasAll sys lattice origin search.queue.items
 leads_in sys lattice origin rows search whole good begun visited = all_in sys lattice rows search whole good.listed visited origin begun
 
@@ -213,13 +225,15 @@ module _ (sys : System) (lattice : ℕ) (origin : Origin) (rows : List Summary) 
   abbrev from_front : Earlier search.queue.items place (length search.queue.items)
   from_front = record { it = front.0; there = front.1; before = slice_get_within search.queue.items place front.0 front.1 }
 
-  pub comes_step : (n : ℕ) (q : Phase) (v : ℕ) → LeadsBy sys lattice n p u q v → ComesBy sys lattice origin rows search.queue.items (length search.queue.items) q v (Step place n)
+  pub comes_step : (n : ℕ) (q : Phase) (v : ℕ) → LeadsBy sys lattice n p u q v
+      → ComesBy sys lattice origin rows search.queue.items (length search.queue.items) q v (Step place n)
   comes_step n q v leads =
       let Of : Phase → Type 0 = λ f. LeadsBy sys lattice n f front.0.at q v in
       let At : ℕ → Type 0 = λ w. LeadsBy sys lattice n p w q v in
       (from_front, subst Of (sym front.2) (subst At (sym front.3) leads))
 
-  pub comes_around : (enter leave site inner last v : ℕ) → Stands sys lattice enter (Enter site u inner) → Stands sys lattice leave (Leave site last v) → Leads rows inner last →
+  pub comes_around : (enter leave site inner last v : ℕ) → Stands sys lattice enter (Enter site u inner)
+      → Stands sys lattice leave (Leave site last v) → Leads rows inner last →
       ComesBy sys lattice origin rows search.queue.items (length search.queue.items) (settled (owner_of sys v) p) v (Group place enter leave)
   comes_around enter leave site inner last v st ts joined =
       let At : ℕ → Type 0 = λ w. Stands sys lattice enter (Enter site w inner) in (
@@ -268,13 +282,15 @@ followed_elsewhere sys lattice rows search p u n followed = record {
   group = λ s a m st. (followed (record { constraint = st.constraint; there = st.there; keyed = subst (λ l. link_begins l ≡ Some u) (sym st.link_is) refl })).group s a m st;
 }
 
-old_item : (queue more : List Reached) (n : ℕ) (r : Reached) → n < length queue → slice_get (queue ++ more) n ≡ Some r → slice_get queue n ≡ Some r
+old_item : (queue more : List Reached) (n : ℕ) (r : Reached) → n < length queue → slice_get (queue ++ more) n ≡ Some r
+    → slice_get queue n ≡ Some r
 old_item [] more n r within is = absurd (omega (arith, within))
 old_item (x ∷ queue) more zero r within is = is
 old_item (x ∷ queue) more (suc n) r within is = old_item queue more n r (omega (arith, within)) is
 
 -- a place of a queue that has not grown past it
-pub visited_on : (sys : System) (lattice : ℕ) (rows : List Summary) (old new : Search) (place : ℕ) → Grows old new → place < length old.queue.items →
+pub visited_on : (sys : System) (lattice : ℕ) (rows : List Summary) (old new : Search) (place : ℕ) → Grows old new
+    → place < length old.queue.items →
     IsVisited sys lattice rows old place → IsVisited sys lattice rows new place
 visited_on sys lattice rows old new place g within v r is n =
     let item : slice_get old.queue.items place ≡ Some r = old_item old.queue.items g.more place r within (sym (ap (λ xs. slice_get xs place) g.is) ∙ is) in
@@ -299,7 +315,8 @@ enter_followed sys lattice rows search p n constraint s u a w there is mark grou
 some_reached : {x y : Reached} → Some x ≡ Some y → x ≡ y
 some_reached e = cc
 
-pub visited_here : (sys : System) (lattice : ℕ) (rows : List Summary) (old new : Search) (place : ℕ) (p : Phase) (u : ℕ) → Grows old new → StandsAt old place p u →
+pub visited_here : (sys : System) (lattice : ℕ) (rows : List Summary) (old new : Search) (place : ℕ) (p : Phase) (u : ℕ)
+    → Grows old new → StandsAt old place p u →
     ((n : ℕ) → IsFollowed sys lattice rows new p u n) → IsVisited sys lattice rows new place
 visited_here sys lattice rows old new place p u g s done r is n =
     let within = slice_get_within old.queue.items place s.0 s.1 in

@@ -30,7 +30,8 @@ use Rattle.error_path.specs.Traced.{FromConstant, IsJoinedBy, IsTraced}
 use Rattle.error_path.proofs.Resting.{has_of}
 
 module _ (sys : System) (lattice : ℕ) (subs : List (List PathStep)) (goal : Goal) where
-  pub traced_step : (n : ℕ) (p : Phase) (u : ℕ) (q : Phase) (v : ℕ) (rest : List PathStep) → LeadsBy sys lattice n p u q v → Onward sys lattice subs goal q v rest →
+  pub traced_step : (n : ℕ) (p : Phase) (u : ℕ) (q : Phase) (v : ℕ) (rest : List PathStep)
+      → LeadsBy sys lattice n p u q v → Onward sys lattice subs goal q v rest →
       Onward sys lattice subs goal p u (Take n 0 ∷ rest)
   traced_step n p u q v rest (ByFlow _ _ _ _ _ st is) on = Along goal p u v (Take n 0 ∷ []) rest (Flow u v n st) (subst (λ f. Onward sys lattice subs goal f v rest) is on)
   traced_step n _ u q v rest (ByLeave _ s _ _ _ st is) on = Back goal u v s n rest st (subst (λ f. Onward sys lattice subs goal f v rest) is on)
@@ -66,7 +67,8 @@ module _ (sys : System) (lattice : ℕ) (subs : List (List PathStep)) (goal : Go
       subst (λ (o : Origin). IsTraced sys lattice subs o goal steps) (sym comes.0) (subst (λ f. Onward sys lattice subs goal f v steps) comes.1 on)
 
 -- steps from a constant to a bound are a path
-pub path_of : (sys : System) (lattice : ℕ) (subs : List (List PathStep)) (elem bound : ℕ) (steps : List PathStep) → FromConstant sys lattice subs elem (ToBound bound) steps →
+pub path_of : (sys : System) (lattice : ℕ) (subs : List (List PathStep)) (elem bound : ℕ) (steps : List PathStep)
+    → FromConstant sys lattice subs elem (ToBound bound) steps →
     IsPath sys lattice subs elem bound steps
 path_of sys lattice subs elem bound steps f = record {
   start = f.start;
@@ -78,7 +80,8 @@ path_of sys lattice subs elem bound steps f = record {
 }
 
 -- what a cause says of a variable, by the cause's form
-pub comes_as : (sys : System) (lattice : ℕ) (origin : Origin) (rows : List Summary) (queue : List Reached) (place : ℕ) (q : Phase) (v : ℕ) (cause other : Cause) → cause ≡ other →
+pub comes_as : (sys : System) (lattice : ℕ) (origin : Origin) (rows : List Summary) (queue : List Reached) (place : ℕ) (q : Phase) (v : ℕ) (cause other : Cause)
+    → cause ≡ other →
     ComesBy sys lattice origin rows queue place q v cause → ComesBy sys lattice origin rows queue place q v other
 comes_as sys lattice origin rows queue place q v cause other is comes = subst (λ x. ComesBy sys lattice origin rows queue place q v x) is comes
 
@@ -97,7 +100,8 @@ module _ (sys : System) (lattice : ℕ) (rows : List Summary) (enter leave : ℕ
       let To : ℕ → Type 0 = λ x. Leads rows a.inner x in
       subst From (sym from_is) (subst To (sym to_is) a.joined)
 
-  pub around_joined : (subs : List (List PathStep)) (number : Option ℕ) → IsJoinedBy sys subs number pair.from pair.to → IsJoinedBy sys subs number a.inner a.last
+  pub around_joined : (subs : List (List PathStep)) (number : Option ℕ) → IsJoinedBy sys subs number pair.from pair.to
+      → IsJoinedBy sys subs number a.inner a.last
   around_joined subs number joined =
       let From : ℕ → Type 0 = λ x. IsJoinedBy sys subs number x a.last in
       let To : ℕ → Type 0 = λ x. IsJoinedBy sys subs number pair.from x in
@@ -125,14 +129,16 @@ in_union a b e is =
     let most : max (bit_at a e) (bit_at b e) ≡ 1 = sym (bit_at_or a b e) ∙ is in either_one (bit_at a e) (bit_at b e) most
 
 -- an element that reaches a variable leads to it
-pub reached_leads : (sys : System) (solution : Solution) → IsSolved sys solution → (v e : ℕ) → HasElement solution v e → Lead sys solution.lattice e v
+pub reached_leads : (sys : System) (solution : Solution) → IsSolved sys solution → (v e : ℕ) → HasElement solution v e
+    → Lead sys solution.lattice e v
 reached_leads sys solution solved v e has = elim (in_union (set_of solution.phases First v) (set_of solution.phases Second v) e has) [
   | inl first ↦ inl ((solved.exact First v e).0 first)
   | inr second ↦ inr ((solved.exact Second v e).0 second)
 ]
 
 -- each bound of a number is the one that the element exceeds
-pub bound_over : (sys : System) (solution : Solution) (order : Order) (bound elem : ℕ) → Exceeds sys solution order bound elem → (v limit : ℕ) →
+pub bound_over : (sys : System) (solution : Solution) (order : Order) (bound elem : ℕ)
+    → Exceeds sys solution order bound elem → (v limit : ℕ) →
     Stands sys solution.lattice bound (Bound v solution.lattice limit) → leq order elem limit ≡ false
 bound_over sys solution order bound elem ex v limit st =
     let same : ex.bound.constraint ≡ st.constraint = same_constraint (sym ex.bound.there ∙ st.there) in
@@ -144,7 +150,8 @@ bound_over sys solution order bound elem ex v limit st =
     same_constraint e = cc
 
 -- a list of lattices and that of their orders
-pub order_there : (views : List LatticeView) (n : ℕ) (view : LatticeView) → slice_get views n ≡ Some view → slice_get (orders_of views) n ≡ Some view.order
+pub order_there : (views : List LatticeView) (n : ℕ) (view : LatticeView) → slice_get views n ≡ Some view
+    → slice_get (orders_of views) n ≡ Some view.order
 order_there [] n view is = absurd cc
 order_there (x ∷ views) zero view is = let same : x ≡ view = same_view is in ap (λ (v : LatticeView). Some v.order) same
   where
@@ -152,7 +159,8 @@ order_there (x ∷ views) zero view is = let same : x ≡ view = same_view is in
     same_view e = cc
 order_there (x ∷ views) (suc n) view is = order_there views n view is
 
-pub view_at : (views : List LatticeView) (n : ℕ) → n < length views → (view : LatticeView) × (slice_get views n ≡ Some view)
+pub view_at : (views : List LatticeView) (n : ℕ) → n < length views
+    → (view : LatticeView) × (slice_get views n ≡ Some view)
 view_at [] n lt = absurd (omega (arith, lt))
 view_at (x ∷ views) zero lt = (x, refl)
 view_at (x ∷ views) (suc n) lt = view_at views n (omega (arith, lt))
@@ -166,15 +174,18 @@ some_if None A a not = absurd (not a)
 some_if (Some n) A a not = refl
 
 -- an element exceeds a bound where not all are below it
-pub not_under : (sys : System) (solution : Solution) (order : Order) (bound elem : ℕ) → Exceeds sys solution order bound elem → IsUnder sys solution order bound → ⊥
+pub not_under : (sys : System) (solution : Solution) (order : Order) (bound elem : ℕ)
+    → Exceeds sys solution order bound elem → IsUnder sys solution order bound → ⊥
 not_under sys solution order bound elem ex under =
     let is : true ≡ false = sym (under ex.var ex.limit elem ex.bound ex.reached) ∙ ex.over in cc
 
-pub limit_given : (A : Type 0) (B : Limit → Type 0) (o : Option Limit) (limit : Limit) → o ≡ Some limit → MatchOption o A B → B limit
+pub limit_given : (A : Type 0) (B : Limit → Type 0) (o : Option Limit) (limit : Limit) → o ≡ Some limit
+    → MatchOption o A B → B limit
 limit_given A B o limit is given = let Of : Option Limit → Type 0 = λ x. MatchOption x A B in subst Of is given
 
 -- a bound is at one variable
-pub bound_at : (sys : System) (lattice n : ℕ) (constraint : Constraint) (v b w d l : ℕ) → Stands sys lattice n (Bound v lattice b) → slice_get sys.constraints n ≡ Some constraint →
+pub bound_at : (sys : System) (lattice n : ℕ) (constraint : Constraint) (v b w d l : ℕ)
+    → Stands sys lattice n (Bound v lattice b) → slice_get sys.constraints n ≡ Some constraint →
     constraint.link ≡ Bound w l d → v ≡ w
 bound_at sys lattice n constraint v b w d l st there is =
     let same : st.constraint ≡ constraint = same_constraint (sym st.there ∙ there) in

@@ -36,7 +36,8 @@ module _ (old new : ℕ → ℕ → Option ℕ) (u v n : ℕ) (before : old u v 
   unmade_most [] = omega arith
   unmade_most (row ∷ rows) = let rest = unmade_most rows in let one = free_most row.from row.to in omega (arith, rest, one)
 
-  unmade_at : (rows : List Summary) (k : ℕ) (row : Summary) → slice_get rows k ≡ Some row → row.from ≡ u → row.to ≡ v → unmade rows new < unmade rows old
+  unmade_at : (rows : List Summary) (k : ℕ) (row : Summary) → slice_get rows k ≡ Some row → row.from ≡ u → row.to ≡ v
+      → unmade rows new < unmade rows old
   unmade_at [] k row is f t = absurd cc
   unmade_at (x ∷ rows) zero row is f t =
       let same : x ≡ row = some_row is in

@@ -18,13 +18,16 @@ abbrev pub rank : List Summary → ℕ → ℕ → ℕ
 rank [] u v = 0
 rank (row ∷ rows) u v = if (row.from == u) && (row.to == v) then 0 else rank rows u v + 1
 
--- The steps of a draft are parts inside one function, to the last variable of a pair that a summary joins; another joins the
+-- The steps of a draft are parts inside one function, to the last variable of a pair that a summary joins; another
+-- joins the
 -- pair's first variable to their beginning.
 pub record IsDraft (sys : System) (lattice : ℕ) (rows : List Summary) (subs : List (List PathStep)) (draft : Draft) : Type 0 where
   pub whole : HasPair rows draft.pair.from draft.pair.to
   pub joined : HasPair rows draft.pair.from draft.at
-  pub inside : (f : ℕ) → owner_of sys draft.pair.from ≡ Function f → Inside sys lattice subs f draft.at draft.pair.to (reverse draft.steps.items)
+  pub inside : (f : ℕ) → owner_of sys draft.pair.from ≡ Function f
+      → Inside sys lattice subs f draft.at draft.pair.to (reverse draft.steps.items)
 
+-- each of these is a draft of a sub-path
 abbrev pub AreDrafts : System → ℕ → List Summary → List (List PathStep) → List Draft → Type 0
 AreDrafts sys lattice rows subs drafts = (draft : Draft) → Contains drafts draft → IsDraft sys lattice rows subs draft
 

@@ -15,6 +15,7 @@ use Rattle.flow_graph.specs.Parts.{AreSubs}
 abbrev pub Fronts : List PathStep → List PathStep → List PathStep → Type 0
 Fronts front old new = reverse new ≡ front ++ reverse old
 
+-- the steps of a group: its Enter, the sub-path inside, if there is one, and its Leave
 abbrev pub group_steps : ℕ → Option ℕ → ℕ → List PathStep
 group_steps enter None leave = Take enter 0 ∷ Take leave 0 ∷ []
 group_steps enter (Some k) leave = Take enter 0 ∷ Sub k 0 ∷ Take leave 0 ∷ []
@@ -29,14 +30,18 @@ pub record AreMade (sys : System) (lattice : ℕ) (subs : List (List PathStep)) 
   pub good : AreSubs sys lattice subs
   pub few : length subs ≤ 4294967294
   pub found : (u v n : ℕ) → place u v ≡ Some n → (n < length subs) × (look sys subs (Sub (n + 1) 0) ≡ Through u v)
-  pub named : (n : ℕ) (steps : List PathStep) → slice_get subs n ≡ Some steps → (u : ℕ) × (v : ℕ) × (span_of sys (Some steps) ≡ Through u v) × (place u v ≡ Some n)
+  pub named : (n : ℕ) (steps : List PathStep) → slice_get subs n ≡ Some steps
+      → (u : ℕ) × (v : ℕ) × (span_of sys (Some steps) ≡ Through u v) × (place u v ≡ Some n)
 
+-- the sub-paths that are made, in their order
 abbrev pub subs_in : SubPaths → List (List PathStep)
 subs_in made = steps_of made.paths.items
 
+-- the place of the sub-path from one variable to another, if it is made
 abbrev pub place_of : SubPaths → ℕ → ℕ → Option ℕ
 place_of made = place_in made.places.map
 
+-- the sub-paths that are made are right, with the places that they have
 abbrev pub IsMade : System → SubPaths → Type 0
 IsMade sys made = AreMade sys made.lattice (subs_in made) (place_of made)
 

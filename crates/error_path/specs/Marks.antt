@@ -5,14 +5,17 @@ use Rattle.std.specs.List.{Contains}
 use Rattle.flow_graph.specs.declared.phase.Phase.{Phase}
 use Rattle.flow_graph.specs.declared.phase.Phase.TheVariants.{First, Second}
 
+-- a mark for each variable in each phase
 pub record PhaseMarks : Type 0 where
   pub first : List Bool
   pub second : List Bool
 
+-- whether a variable is marked in a phase
 abbrev pub mark_of : PhaseMarks → Phase → ℕ → Bool
 mark_of marks First v = slice_index_or marks.first v false
 mark_of marks Second v = slice_index_or marks.second v false
 
+-- for how many variables there are marks
 abbrev pub size_of : PhaseMarks → ℕ
 size_of marks = length marks.first
 
@@ -22,6 +25,7 @@ unset [] = 0
 unset (true ∷ marks) = unset marks
 unset (false ∷ marks) = unset marks + 1
 
+-- how many marks of both phases are not set
 abbrev pub free_of : PhaseMarks → ℕ
 free_of marks = unset marks.first + unset marks.second
 

@@ -40,7 +40,8 @@ AreBelow vars queue = (place : ℕ) (r : Reached) → slice_get queue place ≡ 
 -- each variable of a queue has a place in the list, and a place that a variable has is one of its places in the queue
 pub record AreFirsts (queue : List Reached) (firsts : List ℕ) : Type 0 where
   pub right : (v place : ℕ) → slice_index_or firsts v nowhere ≡ place → (place ≡ nowhere → ⊥) → StandsIn queue place v
-  pub whole : (place : ℕ) (r : Reached) → slice_get queue place ≡ Some r → slice_index_or firsts r.at nowhere ≡ nowhere → ⊥
+  pub whole : (place : ℕ) (r : Reached) → slice_get queue place ≡ Some r → slice_index_or firsts r.at nowhere ≡ nowhere
+      → ⊥
 
 -- What a search has found: how each variable was reached, and all that are reached.
 pub record IsFound (sys : System) (found : Found) : Type 0 where

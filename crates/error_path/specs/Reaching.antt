@@ -1,4 +1,5 @@
--- How a search reaches variables: a queue of those that were reached, each with how it was, and a mark for each of them.
+-- How a search reaches variables: a queue of those that were reached, each with how it was, and a mark for each of
+-- them.
 use Rattle.std.specs.Prelude.{◌≡◌, ℕ, ◌+◌, ◌<◌, ◌≤◌, List, ◌++◌, length, slice_get, Some, true}
 use Rattle.flow_graph.specs.declared.constraint.Link.TheVariants.{Le, Const, Enter, Leave}
 use Rattle.flow_graph.specs.System.{System, owner_of, Has, Stands, AllBelow}
@@ -17,9 +18,12 @@ use Rattle.flow_graph.specs.Parts.{settled}
 
 -- a constraint leads from a variable in a phase to a variable in a phase
 pub data LeadsBy (sys : System) (lattice : ℕ) : ℕ → Phase → ℕ → Phase → ℕ → Type 0 where
-  ByFlow : (n u v : ℕ) (p q : Phase) → Stands sys lattice n (Le u v) → q ≡ settled (owner_of sys v) p → LeadsBy sys lattice n p u q v
-  ByLeave : (n s u v : ℕ) (q : Phase) → Stands sys lattice n (Leave s u v) → q ≡ settled (owner_of sys v) First → LeadsBy sys lattice n First u q v
-  ByEnter : (n s u v : ℕ) (p q : Phase) → Stands sys lattice n (Enter s u v) → q ≡ settled (owner_of sys v) Second → LeadsBy sys lattice n p u q v
+  ByFlow : (n u v : ℕ) (p q : Phase) → Stands sys lattice n (Le u v) → q ≡ settled (owner_of sys v) p
+      → LeadsBy sys lattice n p u q v
+  ByLeave : (n s u v : ℕ) (q : Phase) → Stands sys lattice n (Leave s u v) → q ≡ settled (owner_of sys v) First
+      → LeadsBy sys lattice n First u q v
+  ByEnter : (n s u v : ℕ) (p q : Phase) → Stands sys lattice n (Enter s u v) → q ≡ settled (owner_of sys v) Second
+      → LeadsBy sys lattice n p u q v
 
 -- so does a group, inside which nothing or a summary leads from its Enter to its Leave
 pub record LeadsAround (sys : System) (lattice : ℕ) (rows : List Summary) (enter leave : ℕ) (p : Phase) (u : ℕ) (q : Phase) (v : ℕ) : Type 0 where
@@ -37,7 +41,8 @@ pub record Earlier (queue : List Reached) (from place : ℕ) : Type 0 where
   pub there : slice_get queue from ≡ Some it
   pub before : from < place
 
--- A variable was reached by a constant of the element that the search goes out from, as the variable that it goes out from, or
+-- A variable was reached by a constant of the element that the search goes out from, as the variable that it goes out
+-- from, or
 -- from an earlier place of the queue.
 abbrev pub ComesBy : System → ℕ → Origin → List Summary → List Reached → ℕ → Phase → ℕ → Cause → Type 0
 ComesBy sys lattice origin rows queue place q v (Start n) =
@@ -95,18 +100,22 @@ IsRoundedFrom sys lattice rows search p site inner b leave = (v : ℕ) → Stand
 abbrev pub IsRounded : System → ℕ → List Summary → Search → Phase → ℕ → ℕ → ℕ → Type 0
 IsRounded sys lattice rows search p site inner leave = (b : ℕ) → IsRoundedFrom sys lattice rows search p site inner b leave
 
--- An Enter that is marked stands for the groups of its site that begin at its variable, and a Leave for all Leaves of its site
+-- An Enter that is marked stands for the groups of its site that begin at its variable, and a Leave for all Leaves of
+-- its site
 -- from its variable: they were followed.
 pub record IsOver (sys : System) (lattice : ℕ) (rows : List Summary) (passed : PhaseMarks) (search : Search) : Type 0 where
   pub room : length sys.constraints ≤ size_of passed
-  pub groups : (p : Phase) (n s u a m : ℕ) → mark_of passed p n ≡ true → Has sys n (Enter s u a) → IsRounded sys lattice rows search p s a m
-  pub leaves : (p : Phase) (n s b w m v : ℕ) → mark_of passed p n ≡ true → Has sys n (Leave s b w) → Stands sys lattice m (Leave s b v) →
+  pub groups : (p : Phase) (n s u a m : ℕ) → mark_of passed p n ≡ true → Has sys n (Enter s u a)
+      → IsRounded sys lattice rows search p s a m
+  pub leaves : (p : Phase) (n s b w m v : ℕ) → mark_of passed p n ≡ true → Has sys n (Leave s b w)
+      → Stands sys lattice m (Leave s b v) →
       IsMarked search (settled (owner_of sys v) p) v
 
 -- all that a constraint leads to from a variable in a phase, by itself or as the first of a group, is marked
 pub record IsFollowed (sys : System) (lattice : ℕ) (rows : List Summary) (search : Search) (p : Phase) (u n : ℕ) : Type 0 where
   pub flow : (v : ℕ) → Stands sys lattice n (Le u v) → IsMarked search (settled (owner_of sys v) p) v
-  pub back : (s v : ℕ) → p ≡ First → Stands sys lattice n (Leave s u v) → IsMarked search (settled (owner_of sys v) First) v
+  pub back : (s v : ℕ) → p ≡ First → Stands sys lattice n (Leave s u v)
+      → IsMarked search (settled (owner_of sys v) First) v
   pub call : (s a : ℕ) → Stands sys lattice n (Enter s u a) → IsMarked search (settled (owner_of sys a) Second) a
   pub group : (s a m : ℕ) → Stands sys lattice n (Enter s u a) → IsRounded sys lattice rows search p s a m
 

@@ -13,7 +13,8 @@ nowhere = 4294967295
 abbrev pub HasNoFirst : List ℕ → Type 0
 HasNoFirst firsts = (v : ℕ) → slice_index_or firsts v nowhere ≡ nowhere
 
--- A room has marks for the variables and the constraints of a system, and a place for each of these variables, and nothing is set.
+-- A room has marks for the variables and the constraints of a system, and a place for each of these variables, and
+-- nothing is set.
 pub record IsRoom (sys : System) (room : Room) : Type 0 where
   pub vars : AllBelow sys (size_of room.marks)
   pub constraints : length sys.constraints ≤ size_of room.passed

@@ -1,5 +1,8 @@
-//! Path proofs for exceeded bounds, and walks between variables: a search from the constants of an element or from a variable,
-//! and the sub-paths that what it finds rests on.
+//! Path proofs for exceeded bounds, and walks between variables: a search from the constants of an element or from a
+//! variable, and the sub-paths that what it finds rests on.
+//!
+//! Entry: `show`, `reach_from`, `sub_paths_for`. Invariant: what is found leads back to where the search began.
+//! It does not know texts. Above: `annotate`, `flow_query`.
 #![tactic(auto)]
 
 mod marks;

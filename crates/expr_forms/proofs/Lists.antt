@@ -24,11 +24,14 @@ pub one_mapped : {A B : Type 0} (f : A → B) (xs : List A) (x : A) → map f (x
 one_mapped f [] x = refl
 one_mapped f (y ∷ xs) x = ap (λ more. f y ∷ more) (one_mapped f xs x)
 
-pub one_expr_mapped : (es : List rust_expr.Expr) (e : rust_expr.Expr) → map expr_of (es ++ e ∷ []) ≡ map expr_of es ++ expr_of e ∷ []
+pub one_expr_mapped : (es : List rust_expr.Expr) (e : rust_expr.Expr)
+    → map expr_of (es ++ e ∷ []) ≡ map expr_of es ++ expr_of e ∷ []
 one_expr_mapped es e = one_mapped expr_of es e
 
-pub one_step_mapped : (xs : List rust_desig.Desig) (x : rust_desig.Desig) → map desig_of (xs ++ x ∷ []) ≡ map desig_of xs ++ desig_of x ∷ []
+pub one_step_mapped : (xs : List rust_desig.Desig) (x : rust_desig.Desig)
+    → map desig_of (xs ++ x ∷ []) ≡ map desig_of xs ++ desig_of x ∷ []
 one_step_mapped xs x = one_mapped desig_of xs x
 
-pub one_assoc_mapped : (xs : List rust_assoc.Assoc) (x : rust_assoc.Assoc) → map assoc_of (xs ++ x ∷ []) ≡ map assoc_of xs ++ assoc_of x ∷ []
+pub one_assoc_mapped : (xs : List rust_assoc.Assoc) (x : rust_assoc.Assoc)
+    → map assoc_of (xs ++ x ∷ []) ≡ map assoc_of xs ++ assoc_of x ∷ []
 one_assoc_mapped xs x = one_mapped assoc_of xs x

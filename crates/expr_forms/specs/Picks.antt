@@ -11,6 +11,7 @@ use Rattle.reader_base.specs.declared.fault.ReadError.{ReadError}
 use Rattle.reader_base.specs.declared.place.Place.{Place}
 use Rattle.reader_base.specs.Gives.{Reads}
 
+-- an association is read as the reader of lists gives it
 abbrev pub ReadsAssoc : Place → Place → Result SizedAssoc ReadError → Reader Assoc → Type 0
 ReadsAssoc before after result reader = Reads (λ x. assoc_of x.assoc) before after result reader
 
@@ -18,13 +19,15 @@ ReadsAssoc before after result reader = Reads (λ x. assoc_of x.assoc) before af
 abbrev pub known_assocs : SizedAssocs → CommaList Assoc ⊥
 known_assocs xs = record { items = map assoc_of xs.items.items; ending = None }
 
+-- associations are read so, as a state of the loop over them
 abbrev pub ReadsAssocList : Place → Place → Result SizedAssocs ReadError → Reader (CommaList Assoc ⊥) → Type 0
 ReadsAssocList before after result reader = Reads known_assocs before after result reader
 
--- the loop over them, and behind the first
+-- a further association, behind a comma
 unfoldable pub assoc_turn : ℕ → ℕ → Turn (CommaList Assoc ⊥)
 assoc_turn depth room known s ts = comma_turn (exprs.next_assoc (knot depth) room) known s ts
 
+-- the associations behind the first, with that
 abbrev pub behind_assoc : ℕ → SizedAssoc → ℕ → Reader (CommaList Assoc ⊥)
 behind_assoc depth first room s ts = run (assoc_turn depth room) (record { items = assoc_of first.assoc ∷ []; ending = None }) s ts
 

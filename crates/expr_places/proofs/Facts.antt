@@ -62,13 +62,6 @@ expr_operand Conditional kind h = h
 expr_operand Castable kind h = h
 expr_operand Unary kind h = h
 
-pub whole_expr : (reach : Reach) (kind : TokenKind) → stops_whole kind ≡ true → stops_expr reach kind ≡ true
-whole_expr Whole kind h = h
-whole_expr Assigned kind h = whole_operand kind h
-whole_expr Conditional kind h = whole_operand kind h
-whole_expr Castable kind h = whole_operand kind h
-whole_expr Unary kind h = whole_operand kind h
-
 -- Single tokens that may stand behind an expression.
 
 pub close_paren_whole : (kind : TokenKind) → is_close_paren kind ≡ true → stops_whole kind ≡ true
@@ -127,10 +120,6 @@ pub close_paren_no_desig : (kind : TokenKind) → is_close_paren kind ≡ true �
 close_paren_no_desig (kinds.Punct puncts.CloseParen) h = refl
 close_paren_no_desig kind h = absurd cc
 
-pub close_paren_no_dot : (kind : TokenKind) → is_close_paren kind ≡ true → is_dot kind ≡ false
-close_paren_no_dot (kinds.Punct puncts.CloseParen) h = refl
-close_paren_no_dot kind h = absurd cc
-
 pub close_brace_no_comma : (kind : TokenKind) → is_close_brace kind ≡ true → is_comma kind ≡ false
 close_brace_no_comma (kinds.Punct puncts.CloseBrace) h = refl
 close_brace_no_comma kind h = absurd cc
@@ -145,33 +134,13 @@ pub number_no_brace : (kind : TokenKind) → is_number kind ≡ true → is_open
 number_no_brace kinds.Number h = refl
 number_no_brace kind h = absurd cc
 
-pub number_no_close_brace : (kind : TokenKind) → is_number kind ≡ true → is_close_brace kind ≡ false
-number_no_close_brace kinds.Number h = refl
-number_no_close_brace kind h = absurd cc
-
 pub number_no_paren : (kind : TokenKind) → is_number kind ≡ true → is_open_paren kind ≡ false
 number_no_paren kinds.Number h = refl
 number_no_paren kind h = absurd cc
 
-pub number_opens : (kind : TokenKind) → is_number kind ≡ true → opening_of kind ≡ openings.Number
-number_opens kinds.Number h = refl
-number_opens kind h = absurd cc
-
-pub number_no_desig : (kind : TokenKind) → is_number kind ≡ true → begins_desig kind ≡ false
-number_no_desig kinds.Number h = refl
-number_no_desig kind h = absurd cc
-
 pub number_begins_init : (s : HeldScopes) (kind : TokenKind) → is_number kind ≡ true → begins_init s kind ≡ true
 number_begins_init s kinds.Number h = refl
 number_begins_init s kind h = absurd cc
-
-pub paren_opens : (kind : TokenKind) → is_open_paren kind ≡ true → opening_of kind ≡ openings.Paren
-paren_opens (kinds.Punct puncts.OpenParen) h = refl
-paren_opens kind h = absurd cc
-
-pub paren_no_end : (kind : TokenKind) → is_open_paren kind ≡ true → is_end kind ≡ false
-paren_no_end (kinds.Punct puncts.OpenParen) h = refl
-paren_no_end kind h = absurd cc
 
 -- What begins an operand, goes on behind one, or stands between two, is not the end.
 
@@ -244,7 +213,8 @@ opening_tight kinds.Char = refl
 opening_tight kinds.Text = refl
 opening_tight kind = refl
 
-pub tight_stops : (reach : Reach) → is_tight reach ≡ true → (kind : TokenKind) → stops_operand kind ≡ true → stops_expr reach kind ≡ true
+pub tight_stops : (reach : Reach) → is_tight reach ≡ true → (kind : TokenKind) → stops_operand kind ≡ true
+    → stops_expr reach kind ≡ true
 tight_stops Whole tight kind h = absurd cc
 tight_stops Assigned tight kind h = h
 tight_stops Conditional tight kind h = h
@@ -252,7 +222,8 @@ tight_stops Castable tight kind h = h
 tight_stops Unary tight kind h = h
 
 -- between two operands: a comma where the expression does not go on with one, or nothing
-pub operand_infix : (kind : TokenKind) → stops_operand kind ≡ true → (infix_of kind ≡ infixes.Nothing) ⊎ (infix_of kind ≡ infixes.Comma)
+pub operand_infix : (kind : TokenKind) → stops_operand kind ≡ true
+    → (infix_of kind ≡ infixes.Nothing) ⊎ (infix_of kind ≡ infixes.Comma)
 operand_infix (kinds.Punct puncts.CloseParen) h = inl refl
 operand_infix (kinds.Punct puncts.CloseBracket) h = inl refl
 operand_infix (kinds.Punct puncts.CloseBrace) h = inl refl

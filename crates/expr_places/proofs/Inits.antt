@@ -66,14 +66,16 @@ name_is (kinds.Name other) name h = cc
 name_is kind name h = absurd cc
 
 module _ (n : ℕ) (inner : Inner) (laws : Laws [] n inner) (places : InnerLaws n inner) where
-  pub init_good : (room : ℕ) → room < n → (s : HeldScopes) (ts : List Lexeme) → Good true (init_with inner room) stops_operand s ts
+  pub init_good : (room : ℕ) → room < n → (s : HeldScopes) (ts : List Lexeme)
+      → Good true (init_with inner room) stops_operand s ts
   unfolding init_with
   init_good room less s ts =
       if_good_takes true (λ s. is_open_brace) (behind (inner.init_list room) (λ list. ends (init_braced list))) (behind (inner.expr Assigned nothing room) (λ e. ends (init_value e))) stops_operand s ts
       (λ is. mapped_good true (inner.init_list room) init_braced stops_operand s ts (good_before true (inner.init_list room) any stops_operand s ts (λ kind h. refl) (places.lists.good room less s ts)))
       (λ is. mapped_good true (inner.expr Assigned nothing room) init_value stops_operand s ts (places.exprs.good Assigned nothing room less s ts)) (init_shrinks [] n inner laws room)
 
-  pub init_ready : (room : ℕ) → room < n → 1 ≤ room → (s : HeldScopes) (at : ℕ) → Ready true (init_with inner room) is_number stops_operand s at
+  pub init_ready : (room : ℕ) → room < n → 1 ≤ room → (s : HeldScopes) (at : ℕ)
+      → Ready true (init_with inner room) is_number stops_operand s at
   unfolding init_with
   init_ready room less one s at =
       ready_as true (behind (inner.expr Assigned nothing room) (λ e. ends (init_value e))) (init_with inner room) is_number stops_operand s at (λ k h. rw (number_no_brace (kind_at k) h) refl)
@@ -81,13 +83,15 @@ module _ (n : ℕ) (inner : Inner) (laws : Laws [] n inner) (places : InnerLaws 
 
   -- Designators.
 
-  member_good : (room : ℕ) (stops : TokenKind → Bool) (s : HeldScopes) (ts : List Lexeme) → is_end (kind_at ts) ≡ false → Good true (member_desig_with inner room) stops s ts
+  member_good : (room : ℕ) (stops : TokenKind → Bool) (s : HeldScopes) (ts : List Lexeme) → is_end (kind_at ts) ≡ false
+      → Good true (member_desig_with inner room) stops s ts
   unfolding member_desig_with
   member_good room stops s ts known =
       fits_good true 2 room (behind take_one (λ token. behind name_at (λ name. ends (member_desig token name)))) stops s ts
       (λ fit. take_behind true (λ token. behind name_at (λ name. ends (member_desig token name))) stops (λ token. mapped_law true name_at (member_desig token) any stops (name_law true any stops (λ name. refl))) s ts known)
 
-  index_good : (room : ℕ) → room < suc n → (stops : TokenKind → Bool) (s : HeldScopes) (ts : List Lexeme) → is_end (kind_at ts) ≡ false → Good true (index_desig_with inner room) stops s ts
+  index_good : (room : ℕ) → room < suc n → (stops : TokenKind → Bool) (s : HeldScopes) (ts : List Lexeme)
+      → is_end (kind_at ts) ≡ false → Good true (index_desig_with inner room) stops s ts
   unfolding index_desig_with index_behind range_behind and_then
   index_good room less stops s ts known = fits_good true 3 room (behind take_one indexed) stops s ts (λ fit. take_behind true indexed stops (indexed_law fit) s ts known)
     where
@@ -117,7 +121,8 @@ module _ (n : ℕ) (inner : Inner) (laws : Laws [] n inner) (places : InnerLaws 
       range_rest : ℕ → Expr → ℕ → Reader Desig
       range_rest opening first dots = behind (inner.expr Conditional nothing (room - 2)) (λ e. behind (token_at is_close_bracket) (λ closing. ends (range_desig opening first dots e closing)))
 
-      range_law : 3 ≤ room → (opening : ℕ) (first : Expr) (dots : ℕ) → Law true (range_rest opening first dots) any stops
+      range_law : 3 ≤ room → (opening : ℕ) (first : Expr) (dots : ℕ)
+          → Law true (range_rest opening first dots) any stops
       range_law fit opening first dots =
           closed_law true (inner.expr Conditional nothing (room - 2)) is_close_bracket (kinds.Punct puncts.CloseBracket) any stops (λ e closing. ends (range_desig opening first dots e closing)) (value_law fit) refl close_bracket_end
           (λ e closing. ends_law true (range_desig opening first dots e closing) any stops (λ kind h. refl)) (λ e closing. ends_falls (range_desig opening first dots e closing))
@@ -136,7 +141,8 @@ module _ (n : ℕ) (inner : Inner) (laws : Laws [] n inner) (places : InnerLaws 
           if_ok (is_range s (kind_at ts)) eq (λ is eq. range_shrinks opening e s ts x eq) (λ is eq. one_shrinks opening e s ts x eq)
 
       -- a bracket, or in wider C dots, another value and a bracket
-      rest_law : 3 ≤ room → (opening : ℕ) (e : Expr) → Law true (index_behind inner opening e room) is_close_bracket stops
+      rest_law : 3 ≤ room → (opening : ℕ) (e : Expr)
+          → Law true (index_behind inner opening e room) is_close_bracket stops
       rest_law fit opening e = record {
         good = λ s ts.
             if_good_takes true is_range (behind take_one (range_rest opening e)) (one_rest opening e) stops s ts
@@ -152,7 +158,8 @@ module _ (n : ℕ) (inner : Inner) (laws : Laws [] n inner) (places : InnerLaws 
           bind_law true (inner.expr Conditional nothing (room - 2)) (λ e. index_behind inner opening e room) any is_close_bracket stops (value_law fit) (rest_law fit opening)
           (inl (λ e s ts y eq. rest_shrinks opening e s ts y eq))
 
-  desig_good : (room : ℕ) → room < suc n → (stops : TokenKind → Bool) (s : HeldScopes) (ts : List Lexeme) → begins_desig (kind_at ts) ≡ true → Good true (desig_with inner room) stops s ts
+  desig_good : (room : ℕ) → room < suc n → (stops : TokenKind → Bool) (s : HeldScopes) (ts : List Lexeme)
+      → begins_desig (kind_at ts) ≡ true → Good true (desig_with inner room) stops s ts
   unfolding desig_with
   desig_good room less stops s ts begun =
       if_good_takes true (λ s. is_dot) (member_desig_with inner room) (index_desig_with inner room) stops s ts (λ is. member_good room stops s ts (dot_no_end (kind_at ts) is))
@@ -212,13 +219,15 @@ module _ (n : ℕ) (inner : Inner) (laws : Laws [] n inner) (places : InnerLaws 
   plain_shrinks room =
       falls_shrinks (repeated begins_desig (desig_with inner room)) (rest_part room) (repeated_falls begins_desig (desig_with inner room) (desig_shrinks [] none_numbered none_tokens n inner laws room)) (rest_shrinks room)
 
-  rest_law : (room : ℕ) → room < suc n → 2 ≤ room → (desigs : List Desig) → Law true (rest_part room desigs) behind_desigs stops_operand
+  rest_law : (room : ℕ) → room < suc n → 2 ≤ room → (desigs : List Desig)
+      → Law true (rest_part room desigs) behind_desigs stops_operand
   unfolding rest_part value_part
   rest_law room less two desigs =
       bind_law true (equal_behind (desigs_from desigs)) (value_part room desigs) behind_desigs is_number stops_operand (equal_law (desigs_from desigs))
       (λ equal. mapped_law true (init_here inner room) (item_of desigs equal) is_number stops_operand (here_law room less two)) (inl (λ equal s ts y e. value_shrinks room desigs equal s ts y e))
 
-  plain_high : (room : ℕ) → room < suc n → 2 ≤ room → (s : HeldScopes) (ts : List Lexeme) → Good true (plain_item inner room) stops_operand s ts
+  plain_high : (room : ℕ) → room < suc n → 2 ≤ room → (s : HeldScopes) (ts : List Lexeme)
+      → Good true (plain_item inner room) stops_operand s ts
   unfolding plain_item rest_part value_part item_of
   plain_high room less two s ts =
       bind_good true (repeated begins_desig (desig_with inner room)) (rest_part room) behind_desigs stops_operand s ts (λ desigs scopes gives at. (rest_law room less two desigs).ready scopes at)
@@ -230,7 +239,8 @@ module _ (n : ℕ) (inner : Inner) (laws : Laws [] n inner) (places : InnerLaws 
   abbrev low_fault : HeldScopes → TokenKind → Fault
   low_fault s kind = if begins_desig kind then TooDeep else if begins_init s kind then TooDeep else Unexpected
 
-  low_is : (room : ℕ) → room < 2 → (s : HeldScopes) (k : List Lexeme) → plain_item inner room s k ≡ refuses (low_fault s (kind_at k)) k
+  low_is : (room : ℕ) → room < 2 → (s : HeldScopes) (k : List Lexeme)
+      → plain_item inner room s k ≡ refuses (low_fault s (kind_at k)) k
   unfolding plain_item repeated desig_with member_desig_with index_desig_with init_here and_then
   low_is room low s k = by_desig (begins_desig (kind_at k)) refl
     where
@@ -238,15 +248,18 @@ module _ (n : ℕ) (inner : Inner) (laws : Laws [] n inner) (places : InnerLaws 
       by_dot true is = rw is (fits_not 2 room k _ low)
       by_dot false is = rw is (fits_not 3 room k _ (omega (arith, low)))
 
-      by_init : (b : Bool) → begins_init s (kind_at k) ≡ b → init_here inner room s k ≡ refuses (if b then TooDeep else Unexpected) k
+      by_init : (b : Bool) → begins_init s (kind_at k) ≡ b
+          → init_here inner room s k ≡ refuses (if b then TooDeep else Unexpected) k
       by_init true is = rw is (fits_not 2 room k _ low)
       by_init false is = rw is refl
 
-      by_desig : (b : Bool) → begins_desig (kind_at k) ≡ b → plain_item inner room s k ≡ refuses (low_fault s (kind_at k)) k
+      by_desig : (b : Bool) → begins_desig (kind_at k) ≡ b
+          → plain_item inner room s k ≡ refuses (low_fault s (kind_at k)) k
       by_desig true is = rw (run_is (repeated_turn begins_desig (desig_with inner room)) (row_turn_shrinks begins_desig (desig_with inner room) (desig_shrinks [] none_numbered none_tokens n inner laws room)) [] s k, is, by_dot (is_dot (kind_at k)) refl) refl
       by_desig false is = rw (run_is (repeated_turn begins_desig (desig_with inner room)) (row_turn_shrinks begins_desig (desig_with inner room) (desig_shrinks [] none_numbered none_tokens n inner laws room)) [] s k, is, by_init (begins_init s (kind_at k)) refl) refl
 
-  plain_good : (room : ℕ) → room < suc n → (s : HeldScopes) (ts : List Lexeme) → Good true (plain_item inner room) stops_operand s ts
+  plain_good : (room : ℕ) → room < suc n → (s : HeldScopes) (ts : List Lexeme)
+      → Good true (plain_item inner room) stops_operand s ts
   plain_good room less s ts = by_room (nat_le 2 room) refl
     where
       by_room : (b : Bool) → nat_le 2 room ≡ b → Good true (plain_item inner room) stops_operand s ts
@@ -268,7 +281,8 @@ module _ (n : ℕ) (inner : Inner) (laws : Laws [] n inner) (places : InnerLaws 
       behind_shrinks (token_at is_colon) (λ colon. behind (init_here inner room) (λ init. ends (old_of name colon init))) (token_shrinks is_colon)
       (λ colon. behind_falls (init_here inner room) (λ init. ends (old_of name colon init)) (shrinks_falls (init_here inner room) (here_shrinks room)) (λ init. ends_falls (old_of name colon init)))
 
-  old_law : (room : ℕ) → room < suc n → 2 ≤ room → (name : Identifier) → Law true (old_rest room name) is_colon stops_operand
+  old_law : (room : ℕ) → room < suc n → 2 ≤ room → (name : Identifier)
+      → Law true (old_rest room name) is_colon stops_operand
   unfolding old_rest
   old_law room less two name =
       token_then true is_colon (kinds.Punct puncts.Colon) is_colon stops_operand (λ colon. behind (init_here inner room) (λ init. ends (old_of name colon init))) refl refl colon_end
@@ -307,12 +321,14 @@ module _ (n : ℕ) (inner : Inner) (laws : Laws [] n inner) (places : InnerLaws 
     choice : ℕ → Reader ListItem
     choice at s k = chosen name room s (named at ∷ k)
 
-    old_is : (at : ℕ) (s : HeldScopes) (k : List Lexeme) → old_item inner room s (named at ∷ k) ≡ old_rest room (identifier_of at name) s k
+    old_is : (at : ℕ) (s : HeldScopes) (k : List Lexeme)
+        → old_item inner room s (named at ∷ k) ≡ old_rest room (identifier_of at name) s k
     unfolding old_item old_rest old_of named and_then
     old_is at s k = refl
 
     -- a name that is no type's is a value
-    plain_is : (at : ℕ) (s : HeldScopes) → names_type s name ≡ false → (y : Found ListItem) × (plain_item inner room s (named at ∷ record { kind = kinds.Punct puncts.Semicolon; at = 0 } ∷ []) ≡ done y)
+    plain_is : (at : ℕ) (s : HeldScopes) → names_type s name ≡ false
+        → (y : Found ListItem) × (plain_item inner room s (named at ∷ record { kind = kinds.Punct puncts.Semicolon; at = 0 } ∷ []) ≡ done y)
     unfolding plain_item named repeated init_here init_with and_then item_of
     plain_is at s no_type =
         let v = places.exprs.named Assigned (room - 1) (omega arith) (omega arith) s name at no_type in
@@ -344,7 +360,8 @@ module _ (n : ℕ) (inner : Inner) (laws : Laws [] n inner) (places : InnerLaws 
         other : Reader ListItem
         other s k = if names_type s name then refuses Unexpected k else plain_item inner room s (named at ∷ k)
 
-        by_type : (s : HeldScopes) (k : List Lexeme) (b : Bool) → names_type s name ≡ b → Good true other is_close_brace s k
+        by_type : (s : HeldScopes) (k : List Lexeme) (b : Bool) → names_type s name ≡ b
+            → Good true other is_close_brace s k
         by_type s k true is = refused_here true other is_close_brace s k Unexpected (λ k e. rw is refl)
         by_type s k false is =
             let y = plain_is at s is in
@@ -353,16 +370,19 @@ module _ (n : ℕ) (inner : Inner) (laws : Laws [] n inner) (places : InnerLaws 
             (λ x e. plain_shrinks room s (named at ∷ k) x e)
             (good_before true (plain_item inner room) stops_operand is_close_brace s (named at ∷ k) close_brace_operand (plain_good room less s (named at ∷ k))))
 
-  item_good : (room : ℕ) → room < suc n → (s : HeldScopes) (ts : List Lexeme) → Good true (init_item_with inner room) is_close_brace s ts
+  item_good : (room : ℕ) → room < suc n → (s : HeldScopes) (ts : List Lexeme)
+      → Good true (init_item_with inner room) is_close_brace s ts
   unfolding init_item_with named_init_item choice named and_then
   item_good room less s ts = by_name (spelled_name (kind_at ts)) refl
     where
-      plain : ((k : List Lexeme) → first_kind k ≡ first_kind ts → init_item_with inner room s k ≡ plain_item inner room s k) → Good true (init_item_with inner room) is_close_brace s ts
+      plain : ((k : List Lexeme) → first_kind k ≡ first_kind ts → init_item_with inner room s k ≡ plain_item inner room s k)
+          → Good true (init_item_with inner room) is_close_brace s ts
       plain same =
           good_choice true (plain_item inner room) (init_item_with inner room) is_close_brace s ts same (item_shrinks room)
           (good_before true (plain_item inner room) stops_operand is_close_brace s ts close_brace_operand (plain_good room less s ts))
 
-      by_wide : (name : ℕ) → spelled_name (kind_at ts) ≡ Some name → (b : Bool) → is_wide s ≡ b → Good true (init_item_with inner room) is_close_brace s ts
+      by_wide : (name : ℕ) → spelled_name (kind_at ts) ≡ Some name → (b : Bool) → is_wide s ≡ b
+          → Good true (init_item_with inner room) is_close_brace s ts
       by_wide name is false off = plain (λ k e. ap (λ (o : Option ℕ). init_item_by inner o room s k) (ap spelled_name (kind_same k ts e) ∙ is) ∙ rw off refl)
       by_wide name is true on =
           good_choice true (λ s ts. fits 2 room ts (chosen name room s ts)) (init_item_with inner room) is_close_brace s ts
@@ -370,13 +390,15 @@ module _ (n : ℕ) (inner : Inner) (laws : Laws [] n inner) (places : InnerLaws 
           (fits_good true 2 room (chosen name room) is_close_brace s ts (λ fit. good_choice true (behind take_one (choice name room less fit)) (chosen name room) is_close_brace s ts (same fit) (chosen_shrinks name room)
           (take_behind true (choice name room less fit) is_close_brace (choice_law name room less fit) s ts (name_end (kind_at ts) name is))))
         where
-          same : (fit : 2 ≤ room) → (k : List Lexeme) → first_kind k ≡ first_kind ts → chosen name room s k ≡ behind take_one (choice name room less fit) s k
+          same : (fit : 2 ≤ room) → (k : List Lexeme) → first_kind k ≡ first_kind ts
+              → chosen name room s k ≡ behind take_one (choice name room less fit) s k
           same fit [] e = let none : None ≡ Some name = ap spelled_name (kind_same [] ts e) ∙ is in absurd cc
           same fit (u ∷ us) e =
               let kind : u.kind ≡ kinds.Name name = name_is u.kind name (ap spelled_name (kind_same (u ∷ us) ts e) ∙ is) in
               ap (λ (kind : TokenKind). chosen name room s (record { kind = kind; at = u.at } ∷ us)) kind
 
-      by_name : (o : Option ℕ) → spelled_name (kind_at ts) ≡ o → Good true (init_item_with inner room) is_close_brace s ts
+      by_name : (o : Option ℕ) → spelled_name (kind_at ts) ≡ o
+          → Good true (init_item_with inner room) is_close_brace s ts
       by_name None is = plain (λ k e. ap (λ (o : Option ℕ). init_item_by inner o room s k) (ap spelled_name (kind_same k ts e) ∙ is))
       by_name (Some name) is = by_wide name is (is_wide s) refl
 
@@ -429,7 +451,8 @@ module _ (n : ℕ) (inner : Inner) (laws : Laws [] n inner) (places : InnerLaws 
       (λ opening. closed_falls (init_items_with inner (room - 1)) is_close_brace (λ items closing. ends (init_list opening (init_items_from items.items) items.ending closing)) (items_falls (room - 1))
       (λ items closing. ends_falls (init_list opening (init_items_from items.items) items.ending closing))) s ts x (fits_ok 1 room ts e).1
 
-  list_good : (room : ℕ) → room < suc n → (s : HeldScopes) (ts : List Lexeme) → Good true (init_list_with inner room) any s ts
+  list_good : (room : ℕ) → room < suc n → (s : HeldScopes) (ts : List Lexeme)
+      → Good true (init_list_with inner room) any s ts
   unfolding init_list_with braced_with braced
   list_good room less s ts = by_brace (is_open_brace (kind_at ts)) refl
     where
@@ -439,7 +462,8 @@ module _ (n : ℕ) (inner : Inner) (laws : Laws [] n inner) (places : InnerLaws 
           good_as true (braced_with inner room) (init_list_with inner room) any s ts (λ k e. rw (kind_same k ts e, is) refl) (inl (λ x e. braced_shrinks room s ts x e))
           (fits_good true 1 room (behind take_one (braced room)) any s ts (λ fit. take_behind true (braced room) any (λ opening. braced_law room opening less fit) s ts (open_brace_end (kind_at ts) is)))
 
-  list_ready : (room : ℕ) → room < suc n → 1 ≤ room → (s : HeldScopes) (at : ℕ) → Ready true (init_list_with inner room) is_open_brace any s at
+  list_ready : (room : ℕ) → room < suc n → 1 ≤ room → (s : HeldScopes) (at : ℕ)
+      → Ready true (init_list_with inner room) is_open_brace any s at
   unfolding init_list_with braced_with init_items_with and_then
   list_ready room less one s at = record {
     more = kinds.Punct puncts.OpenBrace ∷ kinds.Punct puncts.CloseBrace ∷ [];

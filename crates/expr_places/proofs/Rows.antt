@@ -50,10 +50,13 @@ module _ (n : ℕ) (inner : Inner) (laws : Laws [] n inner) (places : InnerLaws 
     };
   }
 
-  cast_stops : (reach : Reach) (room : ℕ) → room < suc n → 1 ≤ room → Law true (cast_with inner room) any (stops_expr reach)
+  cast_stops : (reach : Reach) (room : ℕ) → room < suc n → 1 ≤ room
+      → Law true (cast_with inner room) any (stops_expr reach)
   cast_stops reach room less one = law_before true (cast_with inner room) any any stops_operand (stops_expr reach) (expr_operand reach) (λ kind h. h) (cast_law room less one)
 
-  operation_good : (reach : Reach) (op : Operator) (left : Settled) (room : ℕ) → room < suc n → (s : HeldScopes) (ts : List Lexeme) → is_end (kind_at ts) ≡ false → Good true (operation_with inner op left room) (stops_expr reach) s ts
+  operation_good : (reach : Reach) (op : Operator) (left : Settled) (room : ℕ) → room < suc n
+      → (s : HeldScopes) (ts : List Lexeme) → is_end (kind_at ts) ≡ false
+      → Good true (operation_with inner op left room) (stops_expr reach) s ts
   operation_good reach op left room less s ts known =
       fits_good true (depth_of left + expr_height left.last) room (behind take_one (λ token. behind (cast_with inner (room - depth_of left)) (λ e. ends (with_operand left op token e)))) (stops_expr reach) s ts
       (λ fit. take_behind true (λ token. behind (cast_with inner (room - depth_of left)) (λ e. ends (with_operand left op token e))) (stops_expr reach)
@@ -73,7 +76,8 @@ module _ (n : ℕ) (inner : Inner) (laws : Laws [] n inner) (places : InnerLaws 
     ready = λ s at. record { more = []; tree = no_expr; scopes = s; keeps = kept_refl true s; begins = λ k h. refl; reads = λ k h. rw h refl };
   }
 
-  question_good : (reach : Reach) (left : Settled) (room : ℕ) → room < suc n → (s : HeldScopes) (ts : List Lexeme) → is_end (kind_at ts) ≡ false → Good true (question_with inner left room) (stops_expr reach) s ts
+  question_good : (reach : Reach) (left : Settled) (room : ℕ) → room < suc n → (s : HeldScopes) (ts : List Lexeme)
+      → is_end (kind_at ts) ≡ false → Good true (question_with inner left room) (stops_expr reach) s ts
   question_good reach left room less s ts known =
       fits_good true (depth_of left + expr_height left.last) room (behind take_one all) (stops_expr reach) s ts (λ fit. take_behind true all (stops_expr reach) (all_law fit) s ts known)
     where
@@ -96,35 +100,42 @@ module _ (n : ℕ) (inner : Inner) (laws : Laws [] n inner) (places : InnerLaws 
           (λ middle colon. shrinks_falls (last token middle colon) (behind_shrinks (cast_with inner (room - depth_of left)) (λ e. ends (with_operand left (cond middle colon) token e))
           (cast_shrinks [] none_tokens n inner laws (room - depth_of left)) (λ e. ends_falls (with_operand left (cond middle colon) token e))))
 
-  operation_none : (reach : Reach) (room : ℕ) (row : Row) (s : HeldScopes) (k : List Lexeme) → stops_expr reach (kind_at k) ≡ true → operation_turn inner reach room row s k ≡ None
+  operation_none : (reach : Reach) (room : ℕ) (row : Row) (s : HeldScopes) (k : List Lexeme)
+      → stops_expr reach (kind_at k) ≡ true → operation_turn inner reach room row s k ≡ None
   operation_none reach room row s k h = by_infix (operand_infix (kind_at k) (expr_operand reach (kind_at k) h))
     where
-      no_comma : (reach : Reach) → stops_expr reach (kind_at k) ≡ true → infix_of (kind_at k) ≡ infixes.Comma → operation_by inner reach room infixes.Comma row s k ≡ None
+      no_comma : (reach : Reach) → stops_expr reach (kind_at k) ≡ true → infix_of (kind_at k) ≡ infixes.Comma
+          → operation_by inner reach room infixes.Comma row s k ≡ None
       no_comma Whole h is = let other = whole_infix (kind_at k) h in absurd cc
       no_comma Assigned h is = refl
       no_comma Conditional h is = refl
       no_comma Castable h is = refl
       no_comma Unary h is = refl
 
-      by_infix : (infix_of (kind_at k) ≡ infixes.Nothing) ⊎ (infix_of (kind_at k) ≡ infixes.Comma) → operation_turn inner reach room row s k ≡ None
+      by_infix : (infix_of (kind_at k) ≡ infixes.Nothing) ⊎ (infix_of (kind_at k) ≡ infixes.Comma)
+          → operation_turn inner reach room row s k ≡ None
       by_infix (inl is) = ap (λ (f : Infix). operation_by inner reach room f row s k) is
       by_infix (inr is) = ap (λ (f : Infix). operation_by inner reach room f row s k) is ∙ no_comma reach h is
 
-  operation_step : (reach : Reach) (room : ℕ) → room < suc n → (row : Row) (s : HeldScopes) (ts : List Lexeme) → GoodTurn true (operation_turn inner reach room) (stops_expr reach) row s ts
+  operation_step : (reach : Reach) (room : ℕ) → room < suc n → (row : Row) (s : HeldScopes) (ts : List Lexeme)
+      → GoodTurn true (operation_turn inner reach room) (stops_expr reach) row s ts
   operation_step reach room less row s ts = by_infix (infix_of (kind_at ts)) refl
     where
-      to : (f : Infix) → infix_of (kind_at ts) ≡ f → (k : List Lexeme) → first_kind k ≡ first_kind ts → operation_turn inner reach room row s k ≡ operation_by inner reach room f row s k
+      to : (f : Infix) → infix_of (kind_at ts) ≡ f → (k : List Lexeme) → first_kind k ≡ first_kind ts
+          → operation_turn inner reach room row s k ≡ operation_by inner reach room f row s k
       to f is k h = ap (λ (f : Infix). operation_by inner reach room f row s k) (ap infix_of (kind_same k ts h) ∙ is)
 
       known : (f : Infix) → infix_of (kind_at ts) ≡ f → is_infix f ≡ true → is_end (kind_at ts) ≡ false
       known f is some = infix_no_end (kind_at ts) (ap is_infix is ∙ some)
 
-      by_comma : (b : Bool) → takes_comma reach ≡ b → infix_of (kind_at ts) ≡ infixes.Comma → GoodTurn true (operation_turn inner reach room) (stops_expr reach) row s ts
+      by_comma : (b : Bool) → takes_comma reach ≡ b → infix_of (kind_at ts) ≡ infixes.Comma
+          → GoodTurn true (operation_turn inner reach room) (stops_expr reach) row s ts
       by_comma false takes is = inl (λ k h. to infixes.Comma is k h ∙ rw takes refl)
       by_comma true takes is =
           inr (operation_with inner comma (settled row 0) room, (λ k h. to infixes.Comma is k h ∙ rw takes refl), operation_good reach comma (settled row 0) room less s ts (known infixes.Comma is refl))
 
-      by_assign : (p : Punct) (unary takes : Bool) → nat_le 14 (expr_level (settled row 1).last) ≡ unary → takes_assign reach ≡ takes → infix_of (kind_at ts) ≡ infixes.Assign p →
+      by_assign : (p : Punct) (unary takes : Bool) → nat_le 14 (expr_level (settled row 1).last) ≡ unary
+          → takes_assign reach ≡ takes → infix_of (kind_at ts) ≡ infixes.Assign p →
           GoodTurn true (operation_turn inner reach room) (stops_expr reach) row s ts
       by_assign p false takes level goes is =
           inr ((λ s ts. refuses BadTarget ts), (λ k h. to (infixes.Assign p) is k h ∙ rw level refl), refused_here true (λ s ts. refuses BadTarget ts) (stops_expr reach) s ts BadTarget (λ k h. refl))
@@ -132,7 +143,8 @@ module _ (n : ℕ) (inner : Inner) (laws : Laws [] n inner) (places : InnerLaws 
       by_assign p true true level goes is =
           inr (operation_with inner (assign p) (settled row 1) room, (λ k h. to (infixes.Assign p) is k h ∙ rw (level, goes) refl), operation_good reach (assign p) (settled row 1) room less s ts (known (infixes.Assign p) is refl))
 
-      by_infix : (f : Infix) → infix_of (kind_at ts) ≡ f → GoodTurn true (operation_turn inner reach room) (stops_expr reach) row s ts
+      by_infix : (f : Infix) → infix_of (kind_at ts) ≡ f
+          → GoodTurn true (operation_turn inner reach room) (stops_expr reach) row s ts
       by_infix infixes.Comma is = by_comma (takes_comma reach) refl is
       by_infix (infixes.Assign p) is = by_assign p (nat_le 14 (expr_level (settled row 1).last)) (takes_assign reach) refl refl is
       by_infix infixes.Question is =
@@ -145,12 +157,14 @@ module _ (n : ℕ) (inner : Inner) (laws : Laws [] n inner) (places : InnerLaws 
           )
       by_infix infixes.Nothing is = inl (to infixes.Nothing is)
 
-  row_ends : (reach : Reach) (room : ℕ) (row : Row) (s : HeldScopes) (k : List Lexeme) → stops_expr reach (kind_at k) ≡ true → run (operation_turn inner reach room) row s k ≡ done (found row s k)
+  row_ends : (reach : Reach) (room : ℕ) (row : Row) (s : HeldScopes) (k : List Lexeme)
+      → stops_expr reach (kind_at k) ≡ true → run (operation_turn inner reach room) row s k ≡ done (found row s k)
   row_ends reach room row s k h = run_stops true (operation_turn inner reach room) (operation_turn_shrinks [] none_tokens n inner laws reach room) (stops_expr reach) (operation_none reach room) row s k h
 
   -- The first operand.
 
-  operand_stops : (begun : Begun) (room : ℕ) → room < suc n → (s : HeldScopes) (ts : List Lexeme) → Good true (operand_with inner begun room) stops_operand s ts
+  operand_stops : (begun : Begun) (room : ℕ) → room < suc n → (s : HeldScopes) (ts : List Lexeme)
+      → Good true (operand_with inner begun room) stops_operand s ts
   unfolding operand_with
   operand_stops nothing room less s ts = cast_law_good n inner laws places room less s ts
   operand_stops (extensions tokens) room less s ts =
@@ -158,10 +172,12 @@ module _ (n : ℕ) (inner : Inner) (laws : Laws [] n inner) (places : InnerLaws 
   operand_stops (star token) room less s ts =
       mapped_good true (cast_with inner (room - 1)) (λ e. prefix token puncts.Star e) stops_operand s ts (cast_law_good n inner laws places (room - 1) (omega (arith, less)) s ts)
 
-  operand_good : (reach : Reach) (begun : Begun) (room : ℕ) → room < suc n → (s : HeldScopes) (ts : List Lexeme) → Good true (operand_with inner begun room) (stops_expr reach) s ts
+  operand_good : (reach : Reach) (begun : Begun) (room : ℕ) → room < suc n → (s : HeldScopes) (ts : List Lexeme)
+      → Good true (operand_with inner begun room) (stops_expr reach) s ts
   operand_good reach begun room less s ts = good_before true (operand_with inner begun room) stops_operand (stops_expr reach) s ts (expr_operand reach) (operand_stops begun room less s ts)
 
-  number_operand : (begun : Begun) (room : ℕ) → begun_levels begun < room → (s : HeldScopes) (at : ℕ) → (e : Expr) × ((k : List Lexeme) → stops_operand (kind_at k) ≡ true →
+  number_operand : (begun : Begun) (room : ℕ) → begun_levels begun < room → (s : HeldScopes) (at : ℕ)
+      → (e : Expr) × ((k : List Lexeme) → stops_operand (kind_at k) ≡ true →
       operand_with inner begun room s (record { kind = kinds.Number; at = at } ∷ k) ≡ done (found e s k))
   unfolding operand_with and_then
   number_operand nothing room more s at = (number_use at, (λ k h. number_cast n inner laws places room (omega (arith, more)) s at k h))
@@ -173,7 +189,8 @@ module _ (n : ℕ) (inner : Inner) (laws : Laws [] n inner) (places : InnerLaws 
   abbrev row_rest : Reach → ℕ → Expr → Reader Expr
   row_rest reach room e = behind (run (operation_turn inner reach room) (record { waiting = bottom; last = e })) (λ row. ends (finished row.waiting row.last))
 
-  row_rest_law : (reach : Reach) (room : ℕ) → room < suc n → (e : Expr) → Law true (row_rest reach room e) (stops_expr reach) (stops_expr reach)
+  row_rest_law : (reach : Reach) (room : ℕ) → room < suc n → (e : Expr)
+      → Law true (row_rest reach room e) (stops_expr reach) (stops_expr reach)
   row_rest_law reach room less e =
       mapped_law true (run (operation_turn inner reach room) (record { waiting = bottom; last = e })) (λ row. finished row.waiting row.last) (stops_expr reach) (stops_expr reach) (record {
         good = λ s ts.
@@ -189,21 +206,24 @@ module _ (n : ℕ) (inner : Inner) (laws : Laws [] n inner) (places : InnerLaws 
         };
       })
 
-  row_good : (reach : Reach) (begun : Begun) (room : ℕ) → room < suc n → (s : HeldScopes) (ts : List Lexeme) → Good true (row_with inner reach begun room) (stops_expr reach) s ts
+  row_good : (reach : Reach) (begun : Begun) (room : ℕ) → room < suc n → (s : HeldScopes) (ts : List Lexeme)
+      → Good true (row_with inner reach begun room) (stops_expr reach) s ts
   unfolding row_with
   row_good reach begun room less s ts =
       bind_good true (operand_with inner begun room) (row_rest reach room) (stops_expr reach) (stops_expr reach) s ts (λ e scopes gives at. (row_rest_law reach room less e).ready scopes at)
       (operand_good reach begun room less s ts) (λ x is. (row_rest_law reach room less x.tree).good x.scopes x.rest) (inr (λ kind h. h))
 
   -- an operand alone is a row
-  row_is : (reach : Reach) (begun : Begun) (room : ℕ) (s : HeldScopes) (ts k : List Lexeme) (e : Expr) → operand_with inner begun room s ts ≡ done (found e s k) → stops_expr reach (kind_at k) ≡ true →
+  row_is : (reach : Reach) (begun : Begun) (room : ℕ) (s : HeldScopes) (ts k : List Lexeme) (e : Expr)
+      → operand_with inner begun room s ts ≡ done (found e s k) → stops_expr reach (kind_at k) ≡ true →
       row_with inner reach begun room s ts ≡ done (found e s k)
   unfolding row_with and_then
   row_is reach begun room s ts k e is h = rw (is, row_ends reach room (record { waiting = bottom; last = e }) s k h) refl
 
   -- Expressions of each reach.
 
-  expr_good : (reach : Reach) (begun : Begun) (room : ℕ) → room < suc n → (s : HeldScopes) (ts : List Lexeme) → Good true (expr_with inner reach begun room) (stops_expr reach) s ts
+  expr_good : (reach : Reach) (begun : Begun) (room : ℕ) → room < suc n → (s : HeldScopes) (ts : List Lexeme)
+      → Good true (expr_with inner reach begun room) (stops_expr reach) s ts
   unfolding expr_with
   expr_good Whole begun room less s ts = row_good Whole begun room less s ts
   expr_good Assigned begun room less s ts = row_good Assigned begun room less s ts
@@ -215,8 +235,10 @@ module _ (n : ℕ) (inner : Inner) (laws : Laws [] n inner) (places : InnerLaws 
   abbrev Reads : Reach → Begun → ℕ → HeldScopes → (List Lexeme → List Lexeme) → Type 0
   Reads reach begun room s tokens = (e : Expr) × ((k : List Lexeme) → stops_expr reach (kind_at k) ≡ true → expr_with inner reach begun room s (tokens k) ≡ done (found e s k))
 
-  reads_of : (begun : Begun) (room : ℕ) (s : HeldScopes) (tokens : List Lexeme → List Lexeme) → ((e : Expr) × ((k : List Lexeme) → stops_operand (kind_at k) ≡ true → operand_with inner begun room s (tokens k) ≡ done (found e s k))) →
-      ((e : Expr) × ((k : List Lexeme) → stops_operand (kind_at k) ≡ true → unary_with inner room s (tokens k) ≡ done (found e s k))) → (reach : Reach) → Reads reach begun room s tokens
+  reads_of : (begun : Begun) (room : ℕ) (s : HeldScopes) (tokens : List Lexeme → List Lexeme)
+      → ((e : Expr) × ((k : List Lexeme) → stops_operand (kind_at k) ≡ true → operand_with inner begun room s (tokens k) ≡ done (found e s k))) →
+      ((e : Expr) × ((k : List Lexeme) → stops_operand (kind_at k) ≡ true → unary_with inner room s (tokens k) ≡ done (found e s k)))
+      → (reach : Reach) → Reads reach begun room s tokens
   unfolding expr_with
   reads_of begun room s tokens operand unary Whole = (operand.0, (λ k h. row_is Whole begun room s (tokens k) k operand.0 (operand.1 k (whole_operand (kind_at k) h)) h))
   reads_of begun room s tokens operand unary Assigned = (operand.0, (λ k h. row_is Assigned begun room s (tokens k) k operand.0 (operand.1 k h) h))
@@ -224,11 +246,13 @@ module _ (n : ℕ) (inner : Inner) (laws : Laws [] n inner) (places : InnerLaws 
   reads_of begun room s tokens operand unary Castable = operand
   reads_of begun room s tokens operand unary Unary = unary
 
-  number_reads : (reach : Reach) (begun : Begun) (room : ℕ) → begun_levels begun < room → (s : HeldScopes) (at : ℕ) → Reads reach begun room s (λ k. record { kind = kinds.Number; at = at } ∷ k)
+  number_reads : (reach : Reach) (begun : Begun) (room : ℕ) → begun_levels begun < room → (s : HeldScopes) (at : ℕ)
+      → Reads reach begun room s (λ k. record { kind = kinds.Number; at = at } ∷ k)
   number_reads reach begun room more s at =
       reads_of begun room s (λ k. record { kind = kinds.Number; at = at } ∷ k) (number_operand begun room more s at) (number_use at, (λ k h. number_unary n inner laws places room (omega (arith, more)) s at k h)) reach
 
-  named_reads : (reach : Reach) (room : ℕ) → 1 ≤ room → (s : HeldScopes) (name at : ℕ) → names_type s name ≡ false → Reads reach nothing room s (λ k. record { kind = kinds.Name name; at = at } ∷ k)
+  named_reads : (reach : Reach) (room : ℕ) → 1 ≤ room → (s : HeldScopes) (name at : ℕ) → names_type s name ≡ false
+      → Reads reach nothing room s (λ k. record { kind = kinds.Name name; at = at } ∷ k)
   unfolding operand_with
   named_reads reach room one s name at no_type =
       reads_of nothing room s (λ k. record { kind = kinds.Name name; at = at } ∷ k) (name_use at name, (λ k h. name_cast n inner laws places room one s name at no_type k h))

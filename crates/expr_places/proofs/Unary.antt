@@ -65,7 +65,9 @@ module _ (n : ℕ) (inner : Inner) (laws : Laws [] n inner) (places : InnerLaws 
       law_before true (inner.type_name (room - 1)) is_int any stops_type is_close_paren close_paren_type (λ kind h. refl)
       (record { good = places.types.good (room - 1) (omega arith) (omega arith); ready = places.types.ready (room - 1) (omega arith) (omega arith) })
 
-  prefix_good : (p : Punct) (reach : Reach) (room : ℕ) → room < suc n → is_tight reach ≡ true → (s : HeldScopes) (ts : List Lexeme) → is_end (kind_at ts) ≡ false → Good true (prefix_with inner p reach room) stops_operand s ts
+  prefix_good : (p : Punct) (reach : Reach) (room : ℕ) → room < suc n → is_tight reach ≡ true
+      → (s : HeldScopes) (ts : List Lexeme) → is_end (kind_at ts) ≡ false
+      → Good true (prefix_with inner p reach room) stops_operand s ts
   unfolding prefix_with
   prefix_good p reach room less tight s ts known =
       fits_good true 2 room (behind take_one (λ token. behind (inner.expr reach nothing (room - 1)) (λ e. ends (prefix token p e)))) stops_operand s ts
@@ -73,7 +75,8 @@ module _ (n : ℕ) (inner : Inner) (laws : Laws [] n inner) (places : InnerLaws 
       (λ token. mapped_law true (inner.expr reach nothing (room - 1)) (λ e. prefix token p e) any stops_operand
       (expr_law n inner laws places reach room less fit any stops_operand (λ kind h. refl) (tight_stops reach tight))) s ts known)
 
-  extension_good : (room : ℕ) → room < suc n → (s : HeldScopes) (ts : List Lexeme) → is_end (kind_at ts) ≡ false → Good true (extension_with inner room) stops_operand s ts
+  extension_good : (room : ℕ) → room < suc n → (s : HeldScopes) (ts : List Lexeme) → is_end (kind_at ts) ≡ false
+      → Good true (extension_with inner room) stops_operand s ts
   unfolding extension_with
   extension_good room less s ts known =
       fits_good true 2 room (behind take_one (λ token. behind (inner.expr Castable nothing (room - 1)) (λ e. ends (extension token e)))) stops_operand s ts
@@ -83,7 +86,8 @@ module _ (n : ℕ) (inner : Inner) (laws : Laws [] n inner) (places : InnerLaws 
 
   -- `sizeof`: behind the word a unary form, or a type's name in parentheses.
 
-  value_good : (word : Word) (room : ℕ) → room < suc n → 2 ≤ room → (s : HeldScopes) (ts : List Lexeme) → Good true (sizeof_value_with inner word room) stops_operand s ts
+  value_good : (word : Word) (room : ℕ) → room < suc n → 2 ≤ room → (s : HeldScopes) (ts : List Lexeme)
+      → Good true (sizeof_value_with inner word room) stops_operand s ts
   unfolding sizeof_value_with
   value_good word room less two s ts = mapped_good true (inner.expr Unary nothing (room - 1)) (sizeof_value word) stops_operand s ts (places.exprs.good Unary nothing (room - 1) (omega arith) s ts)
 
@@ -91,7 +95,8 @@ module _ (n : ℕ) (inner : Inner) (laws : Laws [] n inner) (places : InnerLaws 
   unfolding sizeof_value_with
   value_shrinks word room = behind_shrinks (inner.expr Unary nothing (room - 1)) (λ e. ends (sizeof_value word e)) (laws.exprs.shrinks Unary nothing (room - 1)) (λ e. ends_falls (sizeof_value word e))
 
-  value_ready : (word : Word) (room : ℕ) → room < suc n → 2 ≤ room → (s : HeldScopes) (at : ℕ) → Ready true (sizeof_value_with inner word room) is_number stops_operand s at
+  value_ready : (word : Word) (room : ℕ) → room < suc n → 2 ≤ room → (s : HeldScopes) (at : ℕ)
+      → Ready true (sizeof_value_with inner word room) is_number stops_operand s at
   unfolding sizeof_value_with
   value_ready word room less two s at =
       mapped_ready true (inner.expr Unary nothing (room - 1)) (sizeof_value word) is_number stops_operand s at (places.exprs.ready Unary nothing (room - 1) (omega arith) (let more : 0 < room - 1 = omega arith in more) s at)
@@ -99,11 +104,13 @@ module _ (n : ℕ) (inner : Inner) (laws : Laws [] n inner) (places : InnerLaws 
   abbrev literal_behind : Word → ℕ → TypeName → ℕ → ℕ → Reader Expr
   literal_behind word opening t closing room = behind (compound_with inner opening t closing (room - 1)) (λ e. ends (sizeof_value word e))
 
-  literal_shrinks : (word : Word) (opening : ℕ) (t : TypeName) (closing room : ℕ) → Shrinks (literal_behind word opening t closing room)
+  literal_shrinks : (word : Word) (opening : ℕ) (t : TypeName) (closing room : ℕ)
+      → Shrinks (literal_behind word opening t closing room)
   literal_shrinks word opening t closing room =
       behind_shrinks (compound_with inner opening t closing (room - 1)) (λ e. ends (sizeof_value word e)) (compound_shrinks n inner laws places opening t closing (room - 1)) (λ e. ends_falls (sizeof_value word e))
 
-  typed_falls : (word : Word) (opening : ℕ) (t : TypeName) (closing room : ℕ) → Falls (sizeof_typed inner word opening t closing room)
+  typed_falls : (word : Word) (opening : ℕ) (t : TypeName) (closing room : ℕ)
+      → Falls (sizeof_typed inner word opening t closing room)
   unfolding sizeof_typed
   typed_falls word opening t closing room s ts x e =
       if_ok (is_open_brace (kind_at ts)) e
@@ -111,7 +118,8 @@ module _ (n : ℕ) (inner : Inner) (laws : Laws [] n inner) (places : InnerLaws 
       (λ is e. ends_falls (sizeof_type word opening t.words t.declr closing) s ts x e)
 
   -- behind the parenthesis that closes the name nothing has to stand
-  typed_law : (word : Word) (opening : ℕ) (t : TypeName) (closing room : ℕ) → room < suc n → Law true (sizeof_typed inner word opening t closing room) any stops_operand
+  typed_law : (word : Word) (opening : ℕ) (t : TypeName) (closing room : ℕ) → room < suc n
+      → Law true (sizeof_typed inner word opening t closing room) any stops_operand
   unfolding sizeof_typed
   typed_law word opening t closing room less = record {
     good = λ s ts.
@@ -144,7 +152,8 @@ module _ (n : ℕ) (inner : Inner) (laws : Laws [] n inner) (places : InnerLaws 
   rest_shrinks word opening room =
       closed_shrinks (inner.type_name (room - 1)) is_close_paren (λ t closing. sizeof_typed inner word opening t closing room) (laws.types.shrinks (room - 1)) (λ t closing. typed_falls word opening t closing room)
 
-  rest_good : (word : Word) (opening room : ℕ) → room < suc n → 3 ≤ room → (s : HeldScopes) (ts : List Lexeme) → Good true (type_rest word opening room) stops_operand s ts
+  rest_good : (word : Word) (opening room : ℕ) → room < suc n → 3 ≤ room → (s : HeldScopes) (ts : List Lexeme)
+      → Good true (type_rest word opening room) stops_operand s ts
   unfolding type_rest
   rest_good word opening room less three s ts =
       (closed_law true (inner.type_name (room - 1)) is_close_paren (kinds.Punct puncts.CloseParen) any stops_operand (λ t closing. sizeof_typed inner word opening t closing room) (type_law room less three) refl close_paren_end
@@ -158,7 +167,8 @@ module _ (n : ℕ) (inner : Inner) (laws : Laws [] n inner) (places : InnerLaws 
       (λ is e. value_shrinks word room s ts x e)
 
   -- By the parenthesis and the token behind it: as a reader of the parenthesis, and then by the token there.
-  type_or_value_good : (word : Word) (room : ℕ) → room < suc n → 3 ≤ room → (s : HeldScopes) (ts : List Lexeme) → is_open_paren (kind_at ts) ≡ true → Good true (typed_or_value word room) stops_operand s ts
+  type_or_value_good : (word : Word) (room : ℕ) → room < suc n → 3 ≤ room → (s : HeldScopes) (ts : List Lexeme)
+      → is_open_paren (kind_at ts) ≡ true → Good true (typed_or_value word room) stops_operand s ts
   unfolding and_then sizeof_type_with type_rest sizeof_value_with
   type_or_value_good word room less three s ts is_paren =
       good_choice true (behind take_one choice) (typed_or_value word room) stops_operand s ts same (type_or_value_shrinks word room)
@@ -170,7 +180,8 @@ module _ (n : ℕ) (inner : Inner) (laws : Laws [] n inner) (places : InnerLaws 
       choice : ℕ → Reader Expr
       choice at s k = typed_or_value word room s (opening at ∷ k)
 
-      same : (k : List Lexeme) → first_kind k ≡ first_kind ts → typed_or_value word room s k ≡ behind take_one choice s k
+      same : (k : List Lexeme) → first_kind k ≡ first_kind ts
+          → typed_or_value word room s k ≡ behind take_one choice s k
       same [] e = absurd (no_paren ts e is_paren)
         where
           no_paren : (ts : List Lexeme) → first_kind [] ≡ first_kind ts → is_open_paren (kind_at ts) ≡ true → ⊥
@@ -178,7 +189,8 @@ module _ (n : ℕ) (inner : Inner) (laws : Laws [] n inner) (places : InnerLaws 
           no_paren (t ∷ ts) e h = absurd cc
       same (u ∷ us) e = ap (λ (t : Lexeme). typed_or_value word room s (t ∷ us)) (token_is u (kinds.Punct puncts.OpenParen) (open_paren_is u.kind (ap is_open_paren (kind_same (u ∷ us) ts e) ∙ is_paren)))
 
-      type_good : (at : ℕ) (s : HeldScopes) (k : List Lexeme) → Good true (λ s k. sizeof_type_with inner word room s (opening at ∷ k)) stops_operand s k
+      type_good : (at : ℕ) (s : HeldScopes) (k : List Lexeme)
+          → Good true (λ s k. sizeof_type_with inner word room s (opening at ∷ k)) stops_operand s k
       type_good at s k = rest_good word at room less three s k
 
       goes : (at : ℕ) (s : HeldScopes) → (e : Expr) × ((k : List Lexeme) → stops_operand (kind_at k) ≡ true
@@ -188,7 +200,8 @@ module _ (n : ℕ) (inner : Inner) (laws : Laws [] n inner) (places : InnerLaws 
       semi : Lexeme
       semi = record { kind = kinds.Punct puncts.Semicolon; at = 0 }
 
-      value_behind : (at : ℕ) (s : HeldScopes) (k : List Lexeme) → Good true (λ s k. sizeof_value_with inner word room s (opening at ∷ k)) stops_operand s k
+      value_behind : (at : ℕ) (s : HeldScopes) (k : List Lexeme)
+          → Good true (λ s k. sizeof_value_with inner word room s (opening at ∷ k)) stops_operand s k
       value_behind at s k =
           let g = goes at s in
           tail_good true (sizeof_value_with inner word room) stops_operand s (opening at) k
@@ -213,7 +226,8 @@ module _ (n : ℕ) (inner : Inner) (laws : Laws [] n inner) (places : InnerLaws 
   either_shrinks : (word : Word) (room : ℕ) → Shrinks (λ s ts. fits 3 room ts (typed_or_value word room s ts))
   either_shrinks word room s ts x e = type_or_value_shrinks word room s ts x (fits_ok 3 room ts e).1
 
-  sizeof_behind_law : (word : Word) (room : ℕ) → room < suc n → 2 ≤ room → Law true (sizeof_behind inner word room) any stops_operand
+  sizeof_behind_law : (word : Word) (room : ℕ) → room < suc n → 2 ≤ room
+      → Law true (sizeof_behind inner word room) any stops_operand
   unfolding sizeof_behind
   sizeof_behind_law word room less two = record {
     good = λ s ts.
@@ -225,7 +239,8 @@ module _ (n : ℕ) (inner : Inner) (laws : Laws [] n inner) (places : InnerLaws 
         (ready_as true (sizeof_value_with inner word room) (sizeof_behind inner word room) is_number stops_operand s at (λ k h. rw (number_no_paren (kind_at k) h) refl) (value_ready word room less two s at));
   }
 
-  sizeof_good : (keyword : Keyword) (room : ℕ) → room < suc n → (s : HeldScopes) (ts : List Lexeme) → is_end (kind_at ts) ≡ false → Good true (sizeof_with inner keyword room) stops_operand s ts
+  sizeof_good : (keyword : Keyword) (room : ℕ) → room < suc n → (s : HeldScopes) (ts : List Lexeme)
+      → is_end (kind_at ts) ≡ false → Good true (sizeof_with inner keyword room) stops_operand s ts
   unfolding sizeof_with
   sizeof_good keyword room less s ts known =
       fits_good true 2 room (behind take_one (λ token. sizeof_behind inner (word_of keyword token) room)) stops_operand s ts
@@ -233,7 +248,8 @@ module _ (n : ℕ) (inner : Inner) (laws : Laws [] n inner) (places : InnerLaws 
 
   -- Forms with a keyword and parts in parentheses.
 
-  va_arg_good : (room : ℕ) → room < suc n → (s : HeldScopes) (ts : List Lexeme) → is_end (kind_at ts) ≡ false → Good true (va_arg_with inner room) stops_operand s ts
+  va_arg_good : (room : ℕ) → room < suc n → (s : HeldScopes) (ts : List Lexeme) → is_end (kind_at ts) ≡ false
+      → Good true (va_arg_with inner room) stops_operand s ts
   unfolding va_arg_with
   va_arg_good room less s ts known = fits_good true 3 room (behind take_one all) stops_operand s ts (λ fit. take_behind true all stops_operand (all_law fit) s ts known)
     where
@@ -256,7 +272,9 @@ module _ (n : ℕ) (inner : Inner) (laws : Laws [] n inner) (places : InnerLaws 
           (λ e separator. closed_falls (inner.type_name (room - 1)) is_close_paren (last keyword opening e separator) (shrinks_falls (inner.type_name (room - 1)) (laws.types.shrinks (room - 1)))
           (λ t closing. postfix_falls room (va_arg keyword opening e separator t.words t.declr closing))))
 
-  va_two_good : (make : ℕ → ℕ → Expr → ℕ → Expr → ℕ → Expr) (room : ℕ) → room < suc n → (s : HeldScopes) (ts : List Lexeme) → is_end (kind_at ts) ≡ false → Good true (va_two_with inner make room) stops_operand s ts
+  va_two_good : (make : ℕ → ℕ → Expr → ℕ → Expr → ℕ → Expr) (room : ℕ) → room < suc n
+      → (s : HeldScopes) (ts : List Lexeme) → is_end (kind_at ts) ≡ false
+      → Good true (va_two_with inner make room) stops_operand s ts
   unfolding va_two_with
   va_two_good make room less s ts known = fits_good true 2 room (behind take_one all) stops_operand s ts (λ fit. take_behind true all stops_operand (all_law fit) s ts known)
     where
@@ -281,7 +299,8 @@ module _ (n : ℕ) (inner : Inner) (laws : Laws [] n inner) (places : InnerLaws 
           (shrinks_falls (inner.expr Assigned nothing (room - 1)) (laws.exprs.shrinks Assigned nothing (room - 1))) (λ e2 closing. postfix_falls room (make keyword opening e separator e2 closing))))
 
   -- a step of an offset: a name behind a dot, or an index
-  step_good : (room : ℕ) → room < suc n → 2 ≤ room → (s : HeldScopes) (ts : List Lexeme) → begins_desig (kind_at ts) ≡ true → Good true (step_with inner room) is_close_paren s ts
+  step_good : (room : ℕ) → room < suc n → 2 ≤ room → (s : HeldScopes) (ts : List Lexeme)
+      → begins_desig (kind_at ts) ≡ true → Good true (step_with inner room) is_close_paren s ts
   unfolding step_with
   step_good room less two s ts begun =
       if_good_takes true (λ s. is_dot) (behind take_one dotted) (behind take_one indexed) is_close_paren s ts (λ is. take_behind true dotted is_close_paren dotted_law s ts (dot_no_end (kind_at ts) is))
@@ -302,7 +321,8 @@ module _ (n : ℕ) (inner : Inner) (laws : Laws [] n inner) (places : InnerLaws 
           (expr_law n inner laws places Whole room less two any is_close_bracket (λ kind h. refl) close_bracket_whole) refl close_bracket_end
           (λ e closing. ends_law true (index_desig opening e closing) any is_close_paren (λ kind h. refl)) (λ e closing. ends_falls (index_desig opening e closing))
 
-  offset_good : (room : ℕ) → room < suc n → (s : HeldScopes) (ts : List Lexeme) → is_end (kind_at ts) ≡ false → Good true (offset_with inner room) stops_operand s ts
+  offset_good : (room : ℕ) → room < suc n → (s : HeldScopes) (ts : List Lexeme) → is_end (kind_at ts) ≡ false
+      → Good true (offset_with inner room) stops_operand s ts
   unfolding offset_with
   offset_good room less s ts known = fits_good true 3 room (behind take_one all) stops_operand s ts (λ fit. take_behind true all stops_operand (all_law fit) s ts known)
     where
@@ -318,14 +338,16 @@ module _ (n : ℕ) (inner : Inner) (laws : Laws [] n inner) (places : InnerLaws 
       all : ℕ → Reader Expr
       all keyword = behind (token_at is_open_paren) (λ opening. behind (inner.type_name (room - 1)) (λ t. behind (token_at is_comma) (name_part keyword opening t)))
 
-      steps_law : 3 ≤ room → (keyword opening : ℕ) (t : TypeName) (separator : ℕ) (name : Identifier) → Law true (steps_part keyword opening t separator name) any stops_operand
+      steps_law : 3 ≤ room → (keyword opening : ℕ) (t : TypeName) (separator : ℕ) (name : Identifier)
+          → Law true (steps_part keyword opening t separator name) any stops_operand
       steps_law fit keyword opening t separator name =
           closed_law true (repeated begins_desig (step_with inner room)) is_close_paren (kinds.Punct puncts.CloseParen) any stops_operand (last keyword opening t separator name)
           (repeated_law true begins_desig (step_with inner room) (step_shrinks [] none_tokens n inner laws room) any is_close_paren (λ kind h. refl) close_paren_no_desig (λ s ts is. step_good room less (omega arith) s ts is))
           refl close_paren_end (λ steps closing. postfix_law room less (offset keyword opening t.words t.declr separator name (desigs_from steps) closing))
           (λ steps closing. postfix_falls room (offset keyword opening t.words t.declr separator name (desigs_from steps) closing))
 
-      steps_falls : (keyword opening : ℕ) (t : TypeName) (separator : ℕ) (name : Identifier) → Falls (steps_part keyword opening t separator name)
+      steps_falls : (keyword opening : ℕ) (t : TypeName) (separator : ℕ) (name : Identifier)
+          → Falls (steps_part keyword opening t separator name)
       steps_falls keyword opening t separator name =
           closed_falls (repeated begins_desig (step_with inner room)) is_close_paren (last keyword opening t separator name) (repeated_falls begins_desig (step_with inner room) (step_shrinks [] none_tokens n inner laws room))
           (λ steps closing. postfix_falls room (offset keyword opening t.words t.declr separator name (desigs_from steps) closing))
@@ -343,12 +365,15 @@ module _ (n : ℕ) (inner : Inner) (laws : Laws [] n inner) (places : InnerLaws 
               (record { good = places.types.good (room - 1) (omega arith) (omega arith); ready = places.types.ready (room - 1) (omega arith) (omega arith) })
 
   -- the name of a type inside, before some of the tokens that end one
-  type_before : (room : ℕ) → room < suc n → 3 ≤ room → (fewer : TokenKind → Bool) → ((kind : TokenKind) → fewer kind ≡ true → stops_type kind ≡ true) → Law true (inner.type_name (room - 1)) any fewer
+  type_before : (room : ℕ) → room < suc n → 3 ≤ room → (fewer : TokenKind → Bool)
+      → ((kind : TokenKind) → fewer kind ≡ true → stops_type kind ≡ true)
+      → Law true (inner.type_name (room - 1)) any fewer
   type_before room less three fewer h =
       law_before true (inner.type_name (room - 1)) is_int any stops_type fewer h (λ kind h. refl)
       (record { good = places.types.good (room - 1) (omega arith) (omega arith); ready = places.types.ready (room - 1) (omega arith) (omega arith) })
 
-  part_good : (room : ℕ) → room < suc n → (s : HeldScopes) (ts : List Lexeme) → is_end (kind_at ts) ≡ false → Good true (part_with inner room) stops_operand s ts
+  part_good : (room : ℕ) → room < suc n → (s : HeldScopes) (ts : List Lexeme) → is_end (kind_at ts) ≡ false
+      → Good true (part_with inner room) stops_operand s ts
   unfolding part_with
   part_good room less s ts known =
       fits_good true 2 room (behind take_one (λ token. behind (inner.expr Castable nothing (room - 1)) (λ e. ends (complex_part token e)))) stops_operand s ts
@@ -357,7 +382,8 @@ module _ (n : ℕ) (inner : Inner) (laws : Laws [] n inner) (places : InnerLaws 
       (expr_law n inner laws places Castable room less fit any stops_operand (λ kind h. refl) (λ kind h. h))) s ts known)
 
   -- the address of a label: in wider C, a name behind the token
-  label_good : (room : ℕ) (s : HeldScopes) (ts : List Lexeme) → is_end (kind_at ts) ≡ false → Good true (label_use_with inner room) stops_operand s ts
+  label_good : (room : ℕ) (s : HeldScopes) (ts : List Lexeme) → is_end (kind_at ts) ≡ false
+      → Good true (label_use_with inner room) stops_operand s ts
   unfolding label_use_with
   label_good room s ts known = by_wide (is_wide s) refl
     where
@@ -371,7 +397,8 @@ module _ (n : ℕ) (inner : Inner) (laws : Laws [] n inner) (places : InnerLaws 
           (fits_good true 1 room (behind take_one named) stops_operand s ts (λ fit. take_behind true named stops_operand
           (λ token. mapped_law true name_at (label_use token) any stops_operand (name_law true any stops_operand (λ name. refl))) s ts known))
 
-  compat_good : (room : ℕ) → room < suc n → (s : HeldScopes) (ts : List Lexeme) → is_end (kind_at ts) ≡ false → Good true (compat_with inner room) stops_operand s ts
+  compat_good : (room : ℕ) → room < suc n → (s : HeldScopes) (ts : List Lexeme) → is_end (kind_at ts) ≡ false
+      → Good true (compat_with inner room) stops_operand s ts
   unfolding compat_with
   compat_good room less s ts known = fits_good true 3 room (behind take_one all) stops_operand s ts (λ fit. take_behind true all stops_operand (all_law fit) s ts known)
     where
@@ -393,7 +420,8 @@ module _ (n : ℕ) (inner : Inner) (laws : Laws [] n inner) (places : InnerLaws 
           (λ t separator. closed_falls (inner.type_name (room - 1)) is_close_paren (last keyword opening t separator) (shrinks_falls (inner.type_name (room - 1)) (laws.types.shrinks (room - 1)))
           (λ t2 closing. postfix_falls room (compat keyword opening t.words t.declr separator t2.words t2.declr closing))))
 
-  choose_good : (room : ℕ) → room < suc n → (s : HeldScopes) (ts : List Lexeme) → is_end (kind_at ts) ≡ false → Good true (choose_with inner room) stops_operand s ts
+  choose_good : (room : ℕ) → room < suc n → (s : HeldScopes) (ts : List Lexeme) → is_end (kind_at ts) ≡ false
+      → Good true (choose_with inner room) stops_operand s ts
   unfolding choose_with
   choose_good room less s ts known = fits_good true 2 room (behind take_one all) stops_operand s ts (λ fit. take_behind true all stops_operand (all_law fit) s ts known)
     where
@@ -418,7 +446,8 @@ module _ (n : ℕ) (inner : Inner) (laws : Laws [] n inner) (places : InnerLaws 
       all : ℕ → Reader Expr
       all keyword = behind (token_at is_open_paren) (λ opening. behind value (λ e. behind (token_at is_comma) (second keyword opening e)))
 
-      third_falls : (keyword opening : ℕ) (e : Expr) (separator : ℕ) (e2 : Expr) (separator2 : ℕ) → Falls (third keyword opening e separator e2 separator2)
+      third_falls : (keyword opening : ℕ) (e : Expr) (separator : ℕ) (e2 : Expr) (separator2 : ℕ)
+          → Falls (third keyword opening e separator e2 separator2)
       third_falls keyword opening e separator e2 separator2 =
           closed_falls value is_close_paren (last keyword opening e separator e2 separator2) value_falls (λ e3 closing. postfix_falls room (choose keyword opening e separator e2 separator2 e3 closing))
 
@@ -438,7 +467,8 @@ module _ (n : ℕ) (inner : Inner) (laws : Laws [] n inner) (places : InnerLaws 
     default_rest : ℕ → Reader Assoc
     default_rest keyword = behind (token_at is_colon) (λ colon. behind (inner.expr Assigned nothing (room - 1)) (λ e. ends (default_assoc keyword colon e)))
 
-    value_part : 2 ≤ room → {T : Type 0} (make : Expr → T) → Law true (behind (inner.expr Assigned nothing (room - 1)) (λ e. ends (make e))) any stops_operand
+    value_part : 2 ≤ room → {T : Type 0} (make : Expr → T)
+        → Law true (behind (inner.expr Assigned nothing (room - 1)) (λ e. ends (make e))) any stops_operand
     value_part two make = mapped_law true (inner.expr Assigned nothing (room - 1)) make any stops_operand (expr_law n inner laws places Assigned room less two any stops_operand (λ kind h. refl) (λ kind h. h))
 
     default_law : 2 ≤ room → (keyword : ℕ) → Law true (default_rest keyword) any stops_operand
@@ -447,11 +477,13 @@ module _ (n : ℕ) (inner : Inner) (laws : Laws [] n inner) (places : InnerLaws 
         token_then true is_colon (kinds.Punct puncts.Colon) any stops_operand (λ colon. behind (inner.expr Assigned nothing (room - 1)) (λ e. ends (default_assoc keyword colon e))) refl refl colon_end
         (λ colon. value_part two (default_assoc keyword colon))
 
-    default_good : (s : HeldScopes) (ts : List Lexeme) → is_end (kind_at ts) ≡ false → Good true (default_assoc_with inner room) stops_operand s ts
+    default_good : (s : HeldScopes) (ts : List Lexeme) → is_end (kind_at ts) ≡ false
+        → Good true (default_assoc_with inner room) stops_operand s ts
     unfolding default_assoc_with default_rest
     default_good s ts known = fits_good true 2 room (behind take_one default_rest) stops_operand s ts (λ fit. take_behind true default_rest stops_operand (default_law fit) s ts known)
 
-    default_ready : 2 ≤ room → (s : HeldScopes) (at : ℕ) → Ready true (default_assoc_with inner room) is_default stops_operand s at
+    default_ready : 2 ≤ room → (s : HeldScopes) (at : ℕ)
+        → Ready true (default_assoc_with inner room) is_default stops_operand s at
     unfolding default_assoc_with default_rest
     default_ready two s at =
         ready_fits true 2 room (behind take_one default_rest) is_default stops_operand s at two
@@ -483,7 +515,8 @@ module _ (n : ℕ) (inner : Inner) (laws : Laws [] n inner) (places : InnerLaws 
           (ready_as true (default_assoc_with inner room) (assoc_with inner room) is_default stops_operand s at (λ k h. rw h refl) (default_ready two s at));
     }
       where
-        other_good : (s : HeldScopes) (ts : List Lexeme) → is_default (kind_at ts) ≡ false → Good true typed_or_not stops_operand s ts
+        other_good : (s : HeldScopes) (ts : List Lexeme) → is_default (kind_at ts) ≡ false
+            → Good true typed_or_not stops_operand s ts
         other_good s ts off = by_type (begins_role Naming s (kind_at ts)) refl
           where
             by_type : (b : Bool) → begins_role Naming s (kind_at ts) ≡ b → Good true typed_or_not stops_operand s ts
@@ -492,10 +525,12 @@ module _ (n : ℕ) (inner : Inner) (laws : Laws [] n inner) (places : InnerLaws 
                 good_as true (typed_assoc_with inner room) typed_or_not stops_operand s ts (λ k e. rw (kind_same k ts e, is) refl)
                 (inl (λ x e. assoc_shrinks [] none_tokens n inner laws room s ts x (now x e))) (typed_good s ts)
               where
-                now : (x : Found Assoc) → typed_assoc_with inner room s ts ≡ done x → assoc_with inner room s ts ≡ done x
+                now : (x : Found Assoc) → typed_assoc_with inner room s ts ≡ done x
+                    → assoc_with inner room s ts ≡ done x
                 now x e = rw (off, is) e
 
-  assocs_law : (room : ℕ) → room < suc n → 2 ≤ room → Law true (listed (assoc_with inner room) (next_assoc inner room)) any is_close_paren
+  assocs_law : (room : ℕ) → room < suc n → 2 ≤ room
+      → Law true (listed (assoc_with inner room) (next_assoc inner room)) any is_close_paren
   unfolding next_assoc
   assocs_law room less two =
       listed_law true (next_assoc inner room) (next_assoc_falls [] none_tokens n inner laws room) stops_operand is_close_paren paren_operand close_paren_no_comma
@@ -506,7 +541,8 @@ module _ (n : ℕ) (inner : Inner) (laws : Laws [] n inner) (places : InnerLaws 
       paren_operand : (kind : TokenKind) → is_close_paren kind ≡ true → stops_operand kind ≡ true
       paren_operand kind h = whole_operand kind (close_paren_whole kind h)
 
-  generic_good : (room : ℕ) → room < suc n → (s : HeldScopes) (ts : List Lexeme) → is_end (kind_at ts) ≡ false → Good true (generic_with inner room) stops_operand s ts
+  generic_good : (room : ℕ) → room < suc n → (s : HeldScopes) (ts : List Lexeme) → is_end (kind_at ts) ≡ false
+      → Good true (generic_with inner room) stops_operand s ts
   unfolding generic_with
   generic_good room less s ts known = fits_good true 3 room (behind take_one all) stops_operand s ts (λ fit. take_behind true all stops_operand (all_law fit) s ts known)
     where
@@ -536,7 +572,8 @@ module _ (n : ℕ) (inner : Inner) (laws : Laws [] n inner) (places : InnerLaws 
 
   -- By what an operand begins with.
 
-  name_good : (name room : ℕ) → room < suc n → (s : HeldScopes) (ts : List Lexeme) → is_end (kind_at ts) ≡ false → Good true (name_with inner name room) stops_operand s ts
+  name_good : (name room : ℕ) → room < suc n → (s : HeldScopes) (ts : List Lexeme) → is_end (kind_at ts) ≡ false
+      → Good true (name_with inner name room) stops_operand s ts
   name_good name room less s ts known = by_type (names_type s name) refl
     where
       by_type : (b : Bool) → names_type s name ≡ b → Good true (name_with inner name room) stops_operand s ts
@@ -545,7 +582,8 @@ module _ (n : ℕ) (inner : Inner) (laws : Laws [] n inner) (places : InnerLaws 
           good_as true (primary_with inner (λ token. name_use token name) room) (name_with inner name room) stops_operand s ts (λ k e. rw is refl) (inr (λ k e. rw is refl))
           (primary_good n inner laws places (λ token. name_use token name) room less s ts known)
 
-  unary_by_good : (o : Opening) (room : ℕ) → room < suc n → opens_tight o ≡ true → (s : HeldScopes) (ts : List Lexeme) → (opens o ≡ true → is_end (kind_at ts) ≡ false) → Good true (unary_by inner o room) stops_operand s ts
+  unary_by_good : (o : Opening) (room : ℕ) → room < suc n → opens_tight o ≡ true → (s : HeldScopes) (ts : List Lexeme)
+      → (opens o ≡ true → is_end (kind_at ts) ≡ false) → Good true (unary_by inner o room) stops_operand s ts
   unfolding unary_by
   unary_by_good (openings.Prefix p reach) room less tight s ts known = prefix_good p reach room less tight s ts (known refl)
   unary_by_good (openings.Sizeof keyword) room less tight s ts known = sizeof_good keyword room less s ts (known refl)
@@ -566,14 +604,16 @@ module _ (n : ℕ) (inner : Inner) (laws : Laws [] n inner) (places : InnerLaws 
   unary_by_good openings.Generic room less tight s ts known = generic_good room less s ts (known refl)
   unary_by_good openings.Nothing room less tight s ts known = refused_here true (unary_by inner openings.Nothing room) stops_operand s ts Unexpected (λ k e. refl)
 
-  pub unary_good : (room : ℕ) → room < suc n → (s : HeldScopes) (ts : List Lexeme) → Good true (unary_with inner room) stops_operand s ts
+  pub unary_good : (room : ℕ) → room < suc n → (s : HeldScopes) (ts : List Lexeme)
+      → Good true (unary_with inner room) stops_operand s ts
   unfolding unary_with
   unary_good room less s ts =
       good_choice true (unary_by inner (opening_of (kind_at ts)) room) (unary_with inner room) stops_operand s ts
       (λ k e. ap (λ (kind : TokenKind). unary_by inner (opening_of kind) room s k) (kind_same k ts e)) (unary_shrinks [] none_tokens n inner laws room)
       (unary_by_good (opening_of (kind_at ts)) room less (opening_tight (kind_at ts)) s ts (λ is. opening_no_end (kind_at ts) is))
 
-  pub cast_law_good : (room : ℕ) → room < suc n → (s : HeldScopes) (ts : List Lexeme) → Good true (cast_with inner room) stops_operand s ts
+  pub cast_law_good : (room : ℕ) → room < suc n → (s : HeldScopes) (ts : List Lexeme)
+      → Good true (cast_with inner room) stops_operand s ts
   unfolding cast_with
   cast_law_good room less s ts =
       if_good_takes true (λ s. is_open_paren) (opened_with inner true room) (unary_with inner room) stops_operand s ts (λ is. opened_good n inner laws places true room less s ts (open_paren_end (kind_at ts) is))
@@ -581,25 +621,32 @@ module _ (n : ℕ) (inner : Inner) (laws : Laws [] n inner) (places : InnerLaws 
 
   -- A number, `( 0 )` and a name are operands.
 
-  primary_is : (make : ℕ → Expr) (room : ℕ) → 1 ≤ room → (s : HeldScopes) (kind : TokenKind) (at : ℕ) (k : List Lexeme) → stops_operand (kind_at k) ≡ true →
+  primary_is : (make : ℕ → Expr) (room : ℕ) → 1 ≤ room → (s : HeldScopes) (kind : TokenKind) (at : ℕ) (k : List Lexeme)
+      → stops_operand (kind_at k) ≡ true →
       primary_with inner make room s (record { kind = kind; at = at } ∷ k) ≡ done (found (make at) s k)
   unfolding and_then
   primary_is make room one s kind at k h = fits_is 1 room (record { kind = kind; at = at } ∷ k) (postfixed inner room (make at) s k) one ∙ postfixed_ends n inner laws places room (make at) s k h
 
-  pub number_unary : (room : ℕ) → 1 ≤ room → (s : HeldScopes) (at : ℕ) (k : List Lexeme) → stops_operand (kind_at k) ≡ true → unary_with inner room s (record { kind = kinds.Number; at = at } ∷ k) ≡ done (found (number_use at) s k)
+  pub number_unary : (room : ℕ) → 1 ≤ room → (s : HeldScopes) (at : ℕ) (k : List Lexeme)
+      → stops_operand (kind_at k) ≡ true
+      → unary_with inner room s (record { kind = kinds.Number; at = at } ∷ k) ≡ done (found (number_use at) s k)
   unfolding unary_with unary_by
   number_unary room one s at k h = primary_is number_use room one s kinds.Number at k h
 
-  pub number_cast : (room : ℕ) → 1 ≤ room → (s : HeldScopes) (at : ℕ) (k : List Lexeme) → stops_operand (kind_at k) ≡ true → cast_with inner room s (record { kind = kinds.Number; at = at } ∷ k) ≡ done (found (number_use at) s k)
+  pub number_cast : (room : ℕ) → 1 ≤ room → (s : HeldScopes) (at : ℕ) (k : List Lexeme)
+      → stops_operand (kind_at k) ≡ true
+      → cast_with inner room s (record { kind = kinds.Number; at = at } ∷ k) ≡ done (found (number_use at) s k)
   unfolding cast_with
   number_cast room one s at k h = number_unary room one s at k h
 
-  pub name_unary : (room : ℕ) → 1 ≤ room → (s : HeldScopes) (name at : ℕ) → names_type s name ≡ false → (k : List Lexeme) → stops_operand (kind_at k) ≡ true →
+  pub name_unary : (room : ℕ) → 1 ≤ room → (s : HeldScopes) (name at : ℕ) → names_type s name ≡ false
+      → (k : List Lexeme) → stops_operand (kind_at k) ≡ true →
       unary_with inner room s (record { kind = kinds.Name name; at = at } ∷ k) ≡ done (found (name_use at name) s k)
   unfolding unary_with unary_by
   name_unary room one s name at no_type k h = rw no_type (primary_is (λ token. name_use token name) room one s (kinds.Name name) at k h)
 
-  pub name_cast : (room : ℕ) → 1 ≤ room → (s : HeldScopes) (name at : ℕ) → names_type s name ≡ false → (k : List Lexeme) → stops_operand (kind_at k) ≡ true →
+  pub name_cast : (room : ℕ) → 1 ≤ room → (s : HeldScopes) (name at : ℕ) → names_type s name ≡ false → (k : List Lexeme)
+      → stops_operand (kind_at k) ≡ true →
       cast_with inner room s (record { kind = kinds.Name name; at = at } ∷ k) ≡ done (found (name_use at name) s k)
   unfolding cast_with
   name_cast room one s name at no_type k h = name_unary room one s name at no_type k h
@@ -617,12 +664,14 @@ module _ (n : ℕ) (inner : Inner) (laws : Laws [] n inner) (places : InnerLaws 
             ∙ rw (o.1 (record { kind = kinds.Punct puncts.CloseParen; at = three } ∷ k) refl) (postfixed_ends n inner laws places room (paren one o.0 three) s k h)),
       )
 
-  pub opens_unary : (room : ℕ) → room < suc n → 2 ≤ room → (s : HeldScopes) (one two three : ℕ) → (e : Expr) × ((k : List Lexeme) → stops_operand (kind_at k) ≡ true →
+  pub opens_unary : (room : ℕ) → room < suc n → 2 ≤ room → (s : HeldScopes) (one two three : ℕ)
+      → (e : Expr) × ((k : List Lexeme) → stops_operand (kind_at k) ≡ true →
       unary_with inner room s (record { kind = kinds.Punct puncts.OpenParen; at = one } ∷ record { kind = kinds.Number; at = two } ∷ record { kind = kinds.Punct puncts.CloseParen; at = three } ∷ k) ≡ done (found e s k))
   unfolding unary_with unary_by paren_tokens
   opens_unary room less least s one two three = opened_is false room less least s one two three
 
-  pub opens_cast : (room : ℕ) → room < suc n → 2 ≤ room → (s : HeldScopes) (one two three : ℕ) → (e : Expr) × ((k : List Lexeme) → stops_operand (kind_at k) ≡ true →
+  pub opens_cast : (room : ℕ) → room < suc n → 2 ≤ room → (s : HeldScopes) (one two three : ℕ)
+      → (e : Expr) × ((k : List Lexeme) → stops_operand (kind_at k) ≡ true →
       cast_with inner room s (record { kind = kinds.Punct puncts.OpenParen; at = one } ∷ record { kind = kinds.Number; at = two } ∷ record { kind = kinds.Punct puncts.CloseParen; at = three } ∷ k) ≡ done (found e s k))
   unfolding cast_with paren_tokens
   opens_cast room less least s one two three = opened_is true room less least s one two three

@@ -1,2 +1,3 @@
 mod Extending
 mod Rooms
+pub mod OpRows

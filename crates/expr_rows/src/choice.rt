@@ -1,11 +1,11 @@
 //! Which operator goes on with a row.
 
-ghost use Rattle.op_rows.specs.Rows.{row_of};
+ghost use Rattle.expr_rows.specs.OpRows.Rows.{row_of};
 ghost use Rattle.expr_rows.specs.Turning.{IsChosen};
 
+use crate::op_rows::OpRow;
 use c_reading::{Fault, Infix, Reach};
 use c_tree::Lexeme;
-use op_rows::OpRow;
 use reader_base::{ReadError, infix_of, kind_at, refused, takes_assign, takes_comma};
 
 /// What the first token is between the row and a further operand, or none where the row ends.

@@ -7,12 +7,12 @@ ghost use Rattle.reader_base.specs.Looping.{IsLoop};
 ghost use Rattle.expr_rows.specs.Turning.{ReadsRow, operations_at, row_at, expr_at};
 
 use crate::choice::chosen;
+use crate::op_rows::OpRow;
 use crate::operand::operand;
 use crate::operation::operation_by;
 use c_nodes::SizedExpr;
 use c_reading::{Reach, turns_take_tokens};
 use expr_forms::unary;
-use op_rows::OpRow;
 use reader_base::{Answer, Ask, Begun, Place, ReadError};
 
 /// Each operator that is read takes a token.

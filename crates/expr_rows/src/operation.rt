@@ -3,18 +3,18 @@
 ghost use Rattle.std.specs.Prelude.{◌≡◌, ◌-◌};
 ghost use Rattle.c_tree.specs.Lists.{some_expr_from};
 ghost use Rattle.c_reading.specs.Expressing.{depth_of};
-ghost use Rattle.op_rows.specs.Rows.{settled_of, row_of, operator, least_height};
+ghost use Rattle.expr_rows.specs.OpRows.Rows.{settled_of, row_of, operator, least_height};
 ghost use Rattle.reader_base.specs.Gives.{Reads};
 ghost use Rattle.reader_base.specs.Lent.{Lends};
 ghost use Rattle.reader_base.specs.Fitting.{HasRoom};
 ghost use Rattle.expr_rows.specs.Turning.{IsListed, ReadsRow, ReadsMiddle};
 ghost use Rattle.expr_rows.specs.Turning.{operation_on, question_on, middle_at, operation_at};
 
+use crate::op_rows::{OpRow, SizedOp};
 use c_nodes::{SizedExpr, SizedSomeExpr};
 use c_ops::level_of_binary;
 use c_reading::{Fault, Infix, Reach};
 use expr_forms::cast;
-use op_rows::{OpRow, SizedOp};
 use reader_base::{
     Answer, Ask, Begun, Place, ReadError, colon, expr_inside, is_colon, kind_at, refused, room_for,
     take_one,

@@ -1,13 +1,13 @@
 -- The candidates of a selection, one association after the other.
-use Rattle.std.proofs.Common.{arith, ◌≡◌, ◌∙◌, sym, ap, refl, ℕ, zero, suc, ◌-◌, ◌<◌, Bool, true, false, not, ◌||◌, if◌then◌else◌, List, [], ◌∷◌, ◌++◌, Option, Some, append-nil, append_assoc}
+use Rattle.std.proofs.Common.{arith, ◌≡◌, ◌∙◌, sym, ap, refl, ℕ, zero, suc, ◌-◌, ◌<◌, Bool, true, false, ◌||◌, if◌then◌else◌, List, [], ◌∷◌, ◌++◌, Option, Some, append-nil, append_assoc}
 use Rattle.type_table.specs.Types.{CType}
 use Rattle.name_rules.specs.Values.{Shape, a_place, value, index_type, is_vector_index, index_shape, Candidate, Association, is_candidate, is_of_type, has_of_type, candidates_of, all_candidates, or_all, selected}
-use Rattle.shape_steps.specs.State.{State, shape_at, is_zero_at, type_at}
-use Rattle.shape_steps.specs.Steps.{twice, candidate_at, associations}
+use Rattle.name_rules.specs.ShapeSteps.State.{State, shape_at, is_zero_at, type_at}
+use Rattle.name_rules.specs.ShapeSteps.Steps.{twice, candidate_at, associations}
 use Rattle.type_table.specs.declared.row.Row.{Row}
-use Rattle.shape_values.specs.declared.shape.ExprShape.{ExprShape}
-use Rattle.shape_values.specs.Views.{shape_in}
-use Rattle.shape_values.specs.Picks.{candidate_in}
+use Rattle.expr_shapes.specs.declared.shape_values.shape.ExprShape.{ExprShape}
+use Rattle.expr_shapes.specs.ShapeValues.Views.{shape_in}
+use Rattle.expr_shapes.specs.ShapeValues.Picks.{candidate_in}
 use Rattle.expr_shapes.specs.Selecting.{with_candidate, picked_on}
 
 -- of so many associations, the first one
@@ -16,14 +16,6 @@ pub has_next : (t : Option CType) (n : ℕ) (st : State) → 0 < n →
     (is_of_type t (type_at (suc (twice (n - 1))) st) || has_of_type t (associations (n - 1) st))
 has_next t zero st lt = absurd (omega arith)
 has_next t (suc n) st lt = let e : suc n - 1 ≡ n = omega arith in rw e refl
-
-pub picked_next : (h : Bool) (t : Option CType) (all : List Candidate) (n : ℕ) (st : State) → 0 < n →
-    picked_on h t all (associations n st) ≡
-    picked_on h t
-    (with_candidate (not h || is_of_type t (type_at (suc (twice (n - 1))) st)) all (candidate_at (twice (n - 1)) st))
-    (associations (n - 1) st)
-picked_next h t all zero st lt = absurd (omega arith)
-picked_next h t all (suc n) st lt = let e : suc n - 1 ≡ n = omega arith in rw e refl
 
 with_is : (b : Bool) (all : List Candidate) (it : Candidate) →
     with_candidate b all it ≡ all ++ (if b then it ∷ [] else [])
@@ -71,7 +63,8 @@ selected_by true t all is = some_on t [] all ∙ sym (or_some t all (all_candida
 selected_by false t all is = all_on (Some t) [] all ∙ sym (or_others t all (all_candidates all) (sym is))
 
 -- all of them, by whether one is of the control's type
-pub selected_is : (h : Bool) (o : Option CType) (t : CType) (all : List Association) → o ≡ Some t → h ≡ has_of_type o all →
+pub selected_is : (h : Bool) (o : Option CType) (t : CType) (all : List Association) → o ≡ Some t
+    → h ≡ has_of_type o all →
     picked_on h o [] all ≡ selected t all
 selected_is h o t all o_is is =
     ap (λ (o : Option CType). picked_on h o [] all) o_is ∙
@@ -86,7 +79,8 @@ candidate_same rows shape is_zero n m st shape_is zero_is at =
     ap (λ (s : Shape). made s is_zero) shape_is ∙ ap (λ (b : Bool). made (shape_at n st) b) zero_is ∙
     ap (λ (k : ℕ). candidate_at k st) at
 
-pub vector_shape : (wide same : Bool) (e e2 : Shape) → wide ≡ same → is_vector_index wide e e2 ≡ true → index_shape same e e2 ≡ e
+pub vector_shape : (wide same : Bool) (e e2 : Shape) → wide ≡ same → is_vector_index wide e e2 ≡ true
+    → index_shape same e e2 ≡ e
 vector_shape wide same e e2 is vector =
     ap (λ (w : Bool). if is_vector_index w e e2 then e else a_place (index_type (value e) (value e2))) (sym is) ∙
     ap (λ (b : Bool). if b then e else a_place (index_type (value e) (value e2))) vector

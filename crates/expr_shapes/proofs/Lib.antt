@@ -1,1 +1,3 @@
 mod Choosing
+pub mod ShapeValues
+pub mod ShapeStacks

@@ -1,2 +1,4 @@
 pub mod Types
 pub mod Selecting
+pub mod ShapeValues
+pub mod ShapeStacks

@@ -3,6 +3,7 @@ use Rattle.std.specs.Prelude.{Bool, true, false, not, ◌||◌, List, [], ◌∷
 use Rattle.type_table.specs.Types.{CType}
 use Rattle.name_rules.specs.Values.{Candidate, Association, is_of_type}
 
+-- the candidates so far, and behind them one more, where it is one
 abbrev pub with_candidate : Bool → List Candidate → Candidate → List Candidate
 with_candidate true all it = all ++ it ∷ []
 with_candidate false all it = all

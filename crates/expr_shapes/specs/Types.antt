@@ -7,6 +7,7 @@ use Rattle.name_rules.specs.Values.{points_to_function, takes}
 use Rattle.name_rules.specs.Uses.{text_type}
 use Rattle.expr_shapes.specs.declared.plain.Plain.{Plain}
 
+-- the numbers of the base type, of `void` and of the type of a text are right
 pub record ArePlain (rows : List Row) (it : Plain) : Type 0 where
   pub base : type_of rows it.base ≡ base []
   pub void : type_of rows it.void ≡ void []

@@ -4,15 +4,15 @@ ghost use Rattle.std.specs.Prelude.{◌≡◌, ◌&&◌, not, List};
 ghost use Rattle.type_table.specs.declared.row.Row as row;
 ghost use Rattle.name_rules.specs.Values.{is_base_value, is_no_pointer};
 ghost use Rattle.name_rules.specs.Checks.{wants_place, is_star};
-ghost use Rattle.shape_values.specs.Views.{shape_in};
-ghost use Rattle.shape_steps.specs.State as states;
-ghost use Rattle.shape_stacks.specs.Views.{state_in};
+ghost use Rattle.expr_shapes.specs.ShapeValues.Views.{shape_in};
+ghost use Rattle.name_rules.specs.ShapeSteps.State as states;
+ghost use Rattle.expr_shapes.specs.ShapeStacks.Views.{state_in};
 ghost use Rattle.expr_shapes.specs.Types.{is_no_function, lacks_argument};
 
 use crate::forms::named_value;
+use crate::shape_stacks::Stacks;
+use crate::shape_values::ExprShape;
 use c_words::Punct;
-use shape_stacks::Stacks;
-use shape_values::ExprShape;
 use type_table::TypeTable;
 
 /// Whether an expression is a place.
@@ -84,7 +84,7 @@ pub fn has_no_pointer(stacks: &Stacks, types: &TypeTable, depth: usize) -> bool
     ensures { result ≡ is_no_pointer (states.value_at depth (state_in types.now stacks.now)) }
 {
     let value = stacks.value_at(types, depth);
-    shape_values::is_no_pointer(types, &value)
+    crate::shape_values::is_no_pointer(types, &value)
 }
 
 /// Whether neither operand of `[ ]` is a pointer, nor in wider C the left one a vector. Constant time.
@@ -93,7 +93,7 @@ pub fn index_has_no_pointer(stacks: &Stacks, types: &TypeTable, wide: bool) -> b
         && is_no_pointer (states.value_at 0 (state_in types.now stacks.now))
         && not (wide && is_base_value (states.value_at 1 (state_in types.now stacks.now)))) }
 {
-    if wide && shape_values::is_base(types, &stacks.value_at(types, 1)) {
+    if wide && crate::shape_values::is_base(types, &stacks.value_at(types, 1)) {
         return false;
     }
     if has_no_pointer(stacks, types, 1) {
@@ -108,7 +108,7 @@ pub fn calls_no_function(stacks: &Stacks, types: &TypeTable, count: u32) -> bool
     ensures { result ≡ is_no_function (states.value_at count (state_in types.now stacks.now)) }
 {
     match stacks.value_at(types, count as usize) {
-        Some(called) => !shape_values::points_to_function(types, &called),
+        Some(called) => !crate::shape_values::points_to_function(types, &called),
         None => false,
     }
 }
@@ -119,7 +119,7 @@ pub fn has_wrong_count(stacks: &Stacks, types: &TypeTable, count: u32) -> bool
         ≡ lacks_argument (states.value_at count (state_in types.now stacks.now)) count }
 {
     match stacks.value_at(types, count as usize) {
-        Some(called) => !shape_values::takes(types, &called, count),
+        Some(called) => !crate::shape_values::takes(types, &called, count),
         None => false,
     }
 }
@@ -129,5 +129,5 @@ pub fn offset_has_no_pointer(stacks: &Stacks, types: &TypeTable) -> bool
     ensures { result ≡ is_no_pointer (states.type_at 1 (state_in types.now stacks.now)) }
 {
     let value = named_value(stacks, types);
-    shape_values::is_no_pointer(types, &value)
+    crate::shape_values::is_no_pointer(types, &value)
 }

@@ -4,18 +4,18 @@ ghost use Rattle.std.specs.Prelude.{◌≡◌, ◌&&◌, ℕ, List, OnOk};
 ghost use Rattle.type_table.specs.declared.row.Row as row;
 ghost use Rattle.name_rules.specs.Spellings.{Spelling};
 ghost use Rattle.name_rules.specs.Scopes.{Names};
-ghost use Rattle.shape_values.specs.Views.{some_type, some_value_type};
-ghost use Rattle.shape_steps.specs.State as states;
-ghost use Rattle.shape_steps.specs.Steps as steps;
-ghost use Rattle.shape_stacks.specs.Views.{state_in};
+ghost use Rattle.expr_shapes.specs.ShapeValues.Views.{some_type, some_value_type};
+ghost use Rattle.name_rules.specs.ShapeSteps.State as states;
+ghost use Rattle.name_rules.specs.ShapeSteps.Steps as steps;
+ghost use Rattle.expr_shapes.specs.ShapeStacks.Views.{state_in};
 ghost use Rattle.expr_shapes.specs.Types.{ArePlain};
 ghost use Rattle.tape_ops.specs.declared.form.FormOp.TheVariants as forms;
 ghost use Rattle.name_rules.specs.Values.{some_target, is_plain_void_pointer};
 
 use crate::plain::Plain;
+use crate::shape_stacks::Stacks;
+use crate::shape_values::{ExprShape, ValueType};
 use qual_base::{NoMemory, TypeId};
-use shape_stacks::Stacks;
-use shape_values::{ExprShape, ValueType};
 use type_table::TypeTable;
 
 /// The value of a type that was named.
@@ -43,7 +43,7 @@ fn is_zero_cast(types: &TypeTable, value: &Option<ValueType>, is_zero: bool) -> 
     ensures { result ≡ (is_plain_void_pointer (some_value_type types.now value.now) && is_zero) }
 {
     if is_zero {
-        shape_values::is_plain_void_pointer(types, value)
+        crate::shape_values::is_plain_void_pointer(types, value)
     } else {
         false
     }
@@ -125,7 +125,7 @@ pub fn offset_index(stacks: &mut Stacks, types: &TypeTable) -> Result<(), NoMemo
         → state_in types.now stacks.new
         ≡ steps.form_step u s (state_in types.now stacks.old) (forms.OffsetIndex token)) }
 {
-    let ty = shape_values::target(types, &value_of(&stacks.type_at(1)));
+    let ty = crate::shape_values::target(types, &value_of(&stacks.type_at(1)));
     stacks.put_type(2, &ty)
 }
 

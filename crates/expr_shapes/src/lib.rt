@@ -1,5 +1,9 @@
-//! What each op of an expression does to the stacks, by the types of its operands. Of a name and of a member, what was found
-//! of them is given.
+//! What each op of an expression does to the stacks of shapes, by the types of its operands; what was found of a name
+//! and of a member is given.
+//!
+//! Entry: the functions of `operators`, `forms`, `picks`; `shape_values` of single types, `shape_stacks::Stacks`.
+//! Invariant: the stacks are those of the steps in `name_rules`.
+//! It does not know where names and members are found. Above: `unit_shapes`, `c_names`, `expr_types`.
 #![tactic(auto)]
 
 mod faults;
@@ -8,6 +12,8 @@ mod operands;
 mod operators;
 mod picks;
 mod plain;
+pub mod shape_stacks;
+pub mod shape_values;
 #[cfg(test)]
 mod tests;
 

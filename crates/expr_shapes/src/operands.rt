@@ -4,17 +4,17 @@ ghost use Rattle.std.specs.Prelude.{◌≡◌, ℕ, List, OnOk};
 ghost use Rattle.type_table.specs.declared.row.Row as row;
 ghost use Rattle.name_rules.specs.Spellings.{Spelling};
 ghost use Rattle.name_rules.specs.Scopes.{Names};
-ghost use Rattle.shape_values.specs.Views.{shape_in};
-ghost use Rattle.shape_steps.specs.State as states;
-ghost use Rattle.shape_steps.specs.Steps as steps;
-ghost use Rattle.shape_stacks.specs.Views.{state_in};
+ghost use Rattle.expr_shapes.specs.ShapeValues.Views.{shape_in};
+ghost use Rattle.name_rules.specs.ShapeSteps.State as states;
+ghost use Rattle.name_rules.specs.ShapeSteps.Steps as steps;
+ghost use Rattle.expr_shapes.specs.ShapeStacks.Views.{state_in};
 ghost use Rattle.expr_shapes.specs.Types.{ArePlain};
 ghost use Rattle.tape_ops.specs.declared.expression.ExprOp.TheVariants as exprs;
 
 use crate::plain::Plain;
+use crate::shape_stacks::Stacks;
+use crate::shape_values::{ExprShape, ValueType};
 use qual_base::NoMemory;
-use shape_stacks::Stacks;
-use shape_values::{ExprShape, ValueType};
 use type_table::TypeTable;
 
 /// A name, of which this was found. Constant time but for growth.

@@ -5,20 +5,20 @@ ghost use Rattle.type_table.specs.declared.row.Row as row;
 ghost use Rattle.name_rules.specs.Spellings.{Spelling};
 ghost use Rattle.name_rules.specs.Scopes.{Names};
 ghost use Rattle.name_rules.specs.Values.{a_place, cond_type, is_base_value, is_no_pointer};
-ghost use Rattle.shape_values.specs.Views.{some_type, some_value_type};
-ghost use Rattle.shape_steps.specs.State as states;
-ghost use Rattle.shape_steps.specs.Steps as steps;
-ghost use Rattle.shape_stacks.specs.Views.{state_in};
+ghost use Rattle.expr_shapes.specs.ShapeValues.Views.{some_type, some_value_type};
+ghost use Rattle.name_rules.specs.ShapeSteps.State as states;
+ghost use Rattle.name_rules.specs.ShapeSteps.Steps as steps;
+ghost use Rattle.expr_shapes.specs.ShapeStacks.Views.{state_in};
 ghost use Rattle.expr_shapes.specs.Types.{ArePlain};
 ghost use Rattle.tape_ops.specs.declared.expression.ExprOp.TheVariants as exprs;
 ghost use Rattle.tape_ops.specs.declared.form.FormOp.TheVariants as forms;
 ghost use Rattle.c_words.specs.declared.kinds.Punct.{Punct};
 
 use crate::plain::Plain;
+use crate::shape_stacks::Stacks;
+use crate::shape_values::{ExprShape, ValueType};
 use c_words::Punct;
 use qual_base::{NoMemory, TypeId};
-use shape_stacks::Stacks;
-use shape_values::{ExprShape, ValueType};
 use type_table::TypeTable;
 
 /// The comma. Constant time.
@@ -38,7 +38,7 @@ pub fn assign(stacks: &mut Stacks) -> Result<(), NoMemory>
         → state_in rows stacks.new
         ≡ steps.expr_step u s (state_in rows stacks.old) (exprs.Assign sign token first last)) }
 {
-    let shape = shape_values::assigned(&stacks.shape_at(1));
+    let shape = crate::shape_values::assigned(&stacks.shape_at(1));
     stacks.put(2, &shape, false)
 }
 
@@ -54,7 +54,7 @@ fn condition_value(stacks: &Stacks, types: &TypeTable) -> Option<ValueType>
     let second = stacks.value_at(types, 0);
     let first_is_zero = stacks.is_zero_at(1);
     let last_is_zero = stacks.is_zero_at(0);
-    shape_values::cond(types, first_is_zero, last_is_zero, &first, &second)
+    crate::shape_values::cond(types, first_is_zero, last_is_zero, &first, &second)
 }
 
 /// How many operands a condition has.
@@ -91,7 +91,7 @@ pub fn binary(
 {
     let first = stacks.value_at(types, 1);
     let second = stacks.value_at(types, 0);
-    let value = shape_values::binary(types, plain.base, sign, &first, &second);
+    let value = crate::shape_values::binary(types, plain.base, sign, &first, &second);
     stacks.put(2, &ExprShape::Value(value), false)
 }
 
@@ -107,7 +107,7 @@ pub fn prefix(
         → state_in types.now stacks.new
         ≡ steps.expr_step u s (state_in types.now stacks.old) (exprs.Prefix sign token last aims)) }
 {
-    let shape = shape_values::prefix(types, plain.base, sign, &stacks.shape_at(0));
+    let shape = crate::shape_values::prefix(types, plain.base, sign, &stacks.shape_at(0));
     stacks.put(1, &shape, false)
 }
 
@@ -131,7 +131,8 @@ fn is_vector_index(
     ensures { result ≡ (wide && (is_base_value (some_value_type types.now first.now)
         && is_no_pointer (some_value_type types.now second.now))) }
 {
-    wide && shape_values::is_base(types, first) && shape_values::is_no_pointer(types, second)
+    wide && crate::shape_values::is_base(types, first)
+        && crate::shape_values::is_no_pointer(types, second)
 }
 
 /// `[ ]`; in wider C it may be of a vector, whose element is as it is. Constant time.
@@ -146,7 +147,7 @@ pub fn index(stacks: &mut Stacks, types: &TypeTable, wide: bool) -> Result<(), N
         let shape = stacks.shape_at(1);
         return stacks.put(2, &shape, false);
     }
-    let ty = shape_values::index(types, &first, &second);
+    let ty = crate::shape_values::index(types, &first, &second);
     stacks.put(2, &ExprShape::Place(ty), false)
 }
 
@@ -157,7 +158,7 @@ pub fn call(stacks: &mut Stacks, types: &TypeTable, count: u32) -> Result<(), No
         ≡ steps.expr_step u s (state_in types.now stacks.old) (exprs.Call token count)) }
 {
     let called = stacks.value_at(types, count as usize);
-    let ty = shape_values::result(types, &called);
+    let ty = crate::shape_values::result(types, &called);
     let value = match ty {
         Some(ty) => Some(ValueType::Of(ty)),
         None => None,
@@ -172,7 +173,7 @@ pub fn arrow(stacks: &mut Stacks, types: &TypeTable) -> Result<(), NoMemory>
         ≡ steps.expr_step u s (state_in types.now stacks.old) (exprs.Arrow token first last aims)) }
 {
     let value = stacks.value_at(types, 0);
-    let ty = shape_values::target(types, &value);
+    let ty = crate::shape_values::target(types, &value);
     stacks.put(1, &ExprShape::Place(ty), false)
 }
 

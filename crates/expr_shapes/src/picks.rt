@@ -5,22 +5,22 @@ ghost use Rattle.name_rules.specs.Spellings.{Spelling};
 ghost use Rattle.name_rules.specs.Scopes.{Names};
 ghost use Rattle.name_rules.specs.Values as rules;
 ghost use Rattle.name_rules.specs.Values.{is_of_type, has_of_type};
-ghost use Rattle.shape_values.specs.Picks.{IsPicked};
+ghost use Rattle.expr_shapes.specs.ShapeValues.Picks.{IsPicked};
 ghost use Rattle.type_table.specs.declared.row.Row as row;
-ghost use Rattle.shape_values.specs.Views.{shape_in};
+ghost use Rattle.expr_shapes.specs.ShapeValues.Views.{shape_in};
 ghost use Rattle.tape_ops.specs.declared.expression.ExprOp.TheVariants as exprs;
 ghost use Rattle.type_table.specs.Types.{CType};
-ghost use Rattle.shape_steps.specs.State as states;
-ghost use Rattle.shape_steps.specs.Steps as steps;
-ghost use Rattle.shape_stacks.specs.Views.{state_in};
+ghost use Rattle.name_rules.specs.ShapeSteps.State as states;
+ghost use Rattle.name_rules.specs.ShapeSteps.Steps as steps;
+ghost use Rattle.expr_shapes.specs.ShapeStacks.Views.{state_in};
 ghost use Rattle.tape_ops.specs.declared.form.FormOp.TheVariants as forms;
 ghost use Rattle.expr_shapes.specs.Types.{ArePlain};
 ghost use Rattle.expr_shapes.specs.Selecting.{with_candidate};
 
 use crate::plain::Plain;
+use crate::shape_stacks::Stacks;
+use crate::shape_values::{ExprShape, Picked, ValueType};
 use qual_base::NoMemory;
-use shape_stacks::Stacks;
-use shape_values::{ExprShape, Picked, ValueType};
 use type_table::TypeTable;
 
 /// Twice a number.
@@ -94,7 +94,7 @@ pub fn is_of_type(stacks: &Stacks, types: &TypeTable, count: u32, behind: u32) -
 {
     let named = stacks.type_at(twice(behind) + 1);
     match stacks.value_at(types, twice(count)) {
-        Some(control) => shape_values::is_candidate(types, &control, &named),
+        Some(control) => crate::shape_values::is_candidate(types, &control, &named),
         None => false,
     }
 }

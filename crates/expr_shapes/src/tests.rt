@@ -3,9 +3,9 @@
 use crate::operands::{extension, number, text};
 use crate::operators::{condition, index, prefix};
 use crate::plain::Plain;
+use crate::shape_stacks::Stacks;
+use crate::shape_values::{ExprShape, ValueType};
 use c_words::Punct;
-use shape_stacks::Stacks;
-use shape_values::{ExprShape, ValueType};
 use std::process::Abort;
 use std::test::Fail;
 use type_table::TypeTable;

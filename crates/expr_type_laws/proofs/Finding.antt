@@ -11,11 +11,11 @@ use Rattle.name_rules.specs.Scopes.{Names, is_place}
 use Rattle.name_rules.specs.Values.{Shape}
 use Rattle.type_rules.specs.Program.{Source}
 use Rattle.type_rules.specs.Shapes.{shape_of}
-use Rattle.name_laws.specs.NameLaws.{tape_of_source}
-use Rattle.shape_steps.specs.State.{State, nothing}
-use Rattle.shape_steps.specs.Steps.{step}
-use Rattle.key_laws.specs.Tokens.{TokensAreOnce}
-use Rattle.key_laws.specs.Differing.{IsRead, UnitsDiffer, has_unit}
+use Rattle.resolve_laws.specs.NameLaws.NameLaws.{tape_of_source}
+use Rattle.name_rules.specs.ShapeSteps.State.{State, nothing}
+use Rattle.name_rules.specs.ShapeSteps.Steps.{step}
+use Rattle.row_laws.specs.KeyLaws.Tokens.{TokensAreOnce}
+use Rattle.row_laws.specs.KeyLaws.Differing.{IsRead, UnitsDiffer, has_unit}
 use Rattle.expr_types.specs.Keys.{op_key}
 use Rattle.expr_types.specs.Along.{Keyed, op_shape, keyed, shapes_along, shapes_among, first_at}
 use Rattle.expr_type_laws.specs.Standing.{expression_at, ExpressionsStand}
@@ -32,7 +32,8 @@ first_false false c is = refl
 
 -- the first of two lists
 
-ahead : (xs ys : List Keyed) (at : Place) (shape : Shape) → first_at xs at ≡ Some shape → first_at (xs ++ ys) at ≡ Some shape
+ahead : (xs ys : List Keyed) (at : Place) (shape : Shape) → first_at xs at ≡ Some shape
+    → first_at (xs ++ ys) at ≡ Some shape
 ahead [] ys at shape h = absurd cc
 ahead (x ∷ xs) ys at shape h = by_test (is_place x.at at) h (λ g. ahead xs ys at shape g)
   where
@@ -44,7 +45,8 @@ ahead (x ∷ xs) ys at shape h = by_test (is_place x.at at) h (λ g. ahead xs ys
 
 -- nothing of one unit stands in another
 
-elsewhere : (u : Spelling) (s : Names) (tape : List Op) (st : State) (ys : List Keyed) (at : Place) → nat_eq u.unit at.0 ≡ false
+elsewhere : (u : Spelling) (s : Names) (tape : List Op) (st : State) (ys : List Keyed) (at : Place)
+    → nat_eq u.unit at.0 ≡ false
     → first_at (shapes_along u s st tape ++ ys) at ≡ first_at ys at
 elsewhere u s [] st ys at other = refl
 elsewhere u s (op ∷ tape) st ys at other =

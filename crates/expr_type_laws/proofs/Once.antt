@@ -7,9 +7,9 @@ use Rattle.tape_ops.specs.declared.op.Op.TheVariants as ops
 use Rattle.name_rules.specs.Spellings.{Spelling, place}
 use Rattle.name_rules.specs.Scopes.{Names, is_place}
 use Rattle.name_rules.specs.Values.{Shape}
-use Rattle.shape_steps.specs.State.{State}
-use Rattle.shape_steps.specs.Steps.{step}
-use Rattle.key_laws.specs.Tokens.{op_token, added, counted}
+use Rattle.name_rules.specs.ShapeSteps.State.{State}
+use Rattle.name_rules.specs.ShapeSteps.Steps.{step}
+use Rattle.row_laws.specs.KeyLaws.Tokens.{op_token, added, counted}
 use Rattle.expr_types.specs.Keys.{op_key}
 use Rattle.expr_types.specs.Along.{Keyed, op_shape, keyed, shapes_along, first_at}
 

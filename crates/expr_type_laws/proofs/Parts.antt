@@ -5,8 +5,8 @@ use Rattle.c_tree.specs.Tree.{Init, init_value, init_braced, InitList, init_list
 use Rattle.c_tape.specs.Tape.{rule, rule_of_list, rule_of_items, desig_tape, desigs_tape}
 use Rattle.name_rules.specs.Spellings.{Spelling}
 use Rattle.name_rules.specs.Scopes.{Names}
-use Rattle.shape_steps.specs.State.{State}
-use Rattle.shape_steps.specs.Steps.{step, run}
+use Rattle.name_rules.specs.ShapeSteps.State.{State}
+use Rattle.name_rules.specs.ShapeSteps.Steps.{step, run}
 use Rattle.expr_types.specs.Keys.{op_key}
 use Rattle.expr_types.specs.Along.{Keyed, literal_on, op_shape, keyed, shapes_along}
 

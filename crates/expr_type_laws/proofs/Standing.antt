@@ -19,9 +19,9 @@ use Rattle.name_rules.specs.Spellings.{Spelling, place}
 use Rattle.name_rules.specs.Scopes.{Names}
 use Rattle.name_rules.specs.Values.{Shape}
 use Rattle.type_rules.specs.Shapes.{shape_of}
-use Rattle.shape_steps.specs.State.{State, shape_at}
-use Rattle.shape_steps.specs.Steps.{step, run}
-use Rattle.shape_laws.specs.Laws.{ShapesAreLeft}
+use Rattle.name_rules.specs.ShapeSteps.State.{State, shape_at}
+use Rattle.name_rules.specs.ShapeSteps.Steps.{step, run}
+use Rattle.resolve_laws.specs.ShapeLaws.Laws.{ShapesAreLeft}
 use Rattle.expr_types.specs.Keys.{op_key}
 use Rattle.expr_types.specs.Along.{Keyed, literal_on, op_shape, keyed, shapes_along}
 use Rattle.expr_type_laws.specs.Standing.{expression_at, ExpressionsStand}
@@ -47,7 +47,8 @@ operator_ends before (cond middle colon) token first last = ends before _ token 
 operator_ends before (binary p) token first last = ends before _ token refl (λ st behind. refl)
 
 -- the operand of `&` is only addressed
-prefix_ends : (token : ℕ) (p : Punct) (e : Expr) (aims : Bool) (addressed taken : List Op) → EndsAt (prefix_tape token p e aims addressed taken) token
+prefix_ends : (token : ℕ) (p : Punct) (e : Expr) (aims : Bool) (addressed taken : List Op)
+    → EndsAt (prefix_tape token p e aims addressed taken) token
 prefix_ends token signs.Ampersand e aims addressed taken = ends addressed (ops.Expr (exprs.Prefix signs.Ampersand token (last_token e) (comes_by_pointer false e))) token refl (λ st behind. refl)
 prefix_ends token p e aims addressed taken = ends taken (ops.Expr (exprs.Prefix p token (last_token e) aims)) token refl (λ st behind. refl)
 
@@ -73,14 +74,16 @@ module _ (u : Spelling) (s : Names) where
 
   -- a part of a tape
   within : (before tape behind : List Op) (st : State) (it : Keyed)
-      → Contains (shapes_along u s (run u s st before) tape) it → Contains (shapes_along u s st (before ++ tape ++ behind)) it
+      → Contains (shapes_along u s (run u s st before) tape) it
+      → Contains (shapes_along u s st (before ++ tape ++ behind)) it
   within before tape behind st it there =
       subst (λ (xs : List Keyed). Contains xs it) (sym (shapes_append u s (before ++ tape) behind st))
       (Contains-append_left (shapes_along u s st (before ++ tape)) _ it
       (subst (λ (xs : List Keyed). Contains xs it) (sym (shapes_append u s before tape st))
       (Contains-append_right (shapes_along u s st before) _ it there)))
 
-  ended_stands : (tape : List Op) (key : ℕ) (shape : Shape) (st : State) → EndsAt tape key → shape_at 0 (run u s st tape) ≡ shape
+  ended_stands : (tape : List Op) (key : ℕ) (shape : Shape) (st : State) → EndsAt tape key
+      → shape_at 0 (run u s st tape) ≡ shape
       → Contains (shapes_along u s st tape) (record { at = place u key; shape = shape })
   ended_stands tape key shape st p left =
       let at : Shape → Keyed = λ it. record { at = place u key; shape = it } in

@@ -8,8 +8,8 @@ use Rattle.name_rules.specs.Spellings.{place}
 use Rattle.name_rules.specs.Scopes.{Names}
 use Rattle.type_rules.specs.Program.{Source}
 use Rattle.type_rules.specs.Shapes.{shape_of}
-use Rattle.name_laws.specs.NameLaws.{tape_of_source}
-use Rattle.key_laws.specs.Differing.{IsRead, UnitsDiffer}
+use Rattle.resolve_laws.specs.NameLaws.NameLaws.{tape_of_source}
+use Rattle.row_laws.specs.KeyLaws.Differing.{IsRead, UnitsDiffer}
 use Rattle.expr_types.specs.Along.{shapes_among, first_at}
 
 -- of units that were read, no two of one number: where the tape of an expression is a part of that of one of them

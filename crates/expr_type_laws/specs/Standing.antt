@@ -7,7 +7,7 @@ use Rattle.c_tape.specs.Tape.{expr_tape}
 use Rattle.name_rules.specs.Spellings.{Spelling, place}
 use Rattle.name_rules.specs.Scopes.{Names}
 use Rattle.type_rules.specs.Shapes.{shape_of}
-use Rattle.shape_steps.specs.State.{State}
+use Rattle.name_rules.specs.ShapeSteps.State.{State}
 use Rattle.expr_types.specs.Along.{Keyed, shapes_along}
 
 -- an expression at its key token, with its shape

@@ -3,8 +3,8 @@
 ghost use Rattle.expr_type_laws.specs.Finding.{ShapesAreFound};
 ghost use Rattle.expr_type_laws.specs.Standing.{ExpressionsStand};
 
-use key_laws::tokens_are_once;
-use shape_laws::shapes_are_left;
+use resolve_laws::shape_laws::shapes_are_left;
+use row_laws::key_laws::tokens_are_once;
 
 /// Each expression of a tree stands at its key token along the tape, with its shape.
 pub fn expressions_stand()

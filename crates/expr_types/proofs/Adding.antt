@@ -4,9 +4,9 @@ use Rattle.tape_ops.specs.declared.op.Op.{Op}
 use Rattle.name_rules.specs.Spellings.{Spelling, Place}
 use Rattle.name_rules.specs.Scopes.{Names, is_place}
 use Rattle.name_rules.specs.Values.{Shape}
-use Rattle.shape_steps.specs.State.{State, nothing}
-use Rattle.shape_steps.specs.Steps.{step}
-use Rattle.place_map.specs.Values.{or_else}
+use Rattle.name_rules.specs.ShapeSteps.State.{State, nothing}
+use Rattle.name_rules.specs.ShapeSteps.Steps.{step}
+use Rattle.name_tables.specs.PlaceMap.Values.{or_else}
 use Rattle.unit_types.specs.declared.program.UnitTape.{UnitTape}
 use Rattle.unit_types.specs.Resolved.{tape_of, tapes_of}
 use Rattle.expr_types.specs.Along.{Keyed, op_shape, keyed, shapes_along, shapes_among, first_at}
@@ -24,7 +24,8 @@ pub or_none : {V : Type 0} (o : Option V) → or_else o None ≡ o
 or_none None = refl
 or_none (Some v) = refl
 
-pub first_append : (xs ys : List Keyed) (at : Place) → first_at (xs ++ ys) at ≡ or_else (first_at xs at) (first_at ys at)
+pub first_append : (xs ys : List Keyed) (at : Place)
+    → first_at (xs ++ ys) at ≡ or_else (first_at xs at) (first_at ys at)
 first_append [] ys at = refl
 first_append (x ∷ xs) ys at = by_test (is_place x.at at) (first_append xs ys at)
   where
@@ -55,7 +56,8 @@ module _ (u : Spelling) (s : Names) where
       let e : suc i + 1 ≡ suc (i + 1) = omega arith in rw e (next_op tape i op st is (omega arith))
 
 -- and before a unit what stands in that one and in those behind it
-pub next_unit : (s : Names) (units : List UnitTape) (i : ℕ) (it : UnitTape) → it ≡ slice_index_or units i it → i < length units
+pub next_unit : (s : Names) (units : List UnitTape) (i : ℕ) (it : UnitTape) → it ≡ slice_index_or units i it
+    → i < length units
     → shapes_along (tape_of it).spelling s nothing (tape_of it).ops ++ shapes_among s (drop (i + 1) (tapes_of units))
     ≡ shapes_among s (drop i (tapes_of units))
 next_unit s [] i it is lt = absurd (omega arith)

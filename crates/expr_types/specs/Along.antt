@@ -1,4 +1,5 @@
--- The expressions along tapes, in the order of the ops that end them, each with its key token and with what it is; and what is
+-- The expressions along tapes, in the order of the ops that end them, each with its key token and with what it is; and
+-- what is
 -- found at a token.
 use Rattle.std.specs.Prelude.{List, [], ◌∷◌, ◌++◌, ℕ, Option, None, Some, if◌then◌else◌}
 use Rattle.tape_ops.specs.declared.op.Op.{Op}
@@ -8,9 +9,9 @@ use Rattle.name_rules.specs.Spellings.{Spelling, Place, place}
 use Rattle.name_rules.specs.Scopes.{Names, is_place}
 use Rattle.name_rules.specs.Values.{Shape, a_place, value}
 use Rattle.name_rules.specs.Uses.{type_named_at}
-use Rattle.name_steps.specs.Units.{Tape}
-use Rattle.shape_steps.specs.State.{State, nothing, shape_at, type_of_operand, first_operand, operands_below}
-use Rattle.shape_steps.specs.Steps.{step}
+use Rattle.name_rules.specs.NameSteps.Units.{Tape}
+use Rattle.name_rules.specs.ShapeSteps.State.{State, nothing, shape_at, type_of_operand, first_operand, operands_below}
+use Rattle.name_rules.specs.ShapeSteps.Steps.{step}
 use Rattle.expr_types.specs.Keys.{op_key}
 
 -- an expression: its key token, and what it is
@@ -22,7 +23,8 @@ pub record Keyed : Type 0 where
 abbrev pub literal_on : State → Shape
 literal_on st = a_place (type_of_operand (first_operand (operands_below st)))
 
--- What an op that has a key ends, by what is on the stacks before and behind it. Of a compound literal that is known before it.
+-- What an op that has a key ends, by what is on the stacks before and behind it. Of a compound literal that is known
+-- before it.
 abbrev pub op_shape : State → State → Op → Shape
 op_shape before behind (ops.Expr op) = shape_at 0 behind
 op_shape before behind (ops.Form op) = shape_at 0 behind
@@ -31,15 +33,17 @@ op_shape before behind (ops.Spec op) = a_place None
 op_shape before behind (ops.Declr op) = a_place None
 op_shape before behind (ops.Stmt op) = a_place None
 
+-- an expression with its key token, where it has one
 abbrev pub keyed : Spelling → Option ℕ → Shape → List Keyed
 keyed u None shape = []
 keyed u (Some token) shape = record { at = place u token; shape = shape } ∷ []
 
+-- the expressions of a tape, from this state on
 abbrev pub shapes_along : Spelling → Names → State → List Op → List Keyed
 shapes_along u s st [] = []
 shapes_along u s st (op ∷ tape) = keyed u (op_key op) (op_shape st (step u s st op) op) ++ shapes_along u s (step u s st op) tape
 
--- of units
+-- the expressions of units, one unit behind the other
 abbrev pub shapes_among : Names → List Tape → List Keyed
 shapes_among s [] = []
 shapes_among s (it ∷ tapes) = shapes_along it.spelling s nothing it.ops ++ shapes_among s tapes

@@ -1,6 +1,7 @@
 -- The key tokens of expressions: that of the one that an op ends, a line an op.
 --
--- Of an operator that is the token of the operator, of a form that begins with `(` this one, else mostly the first token. What is
+-- Of an operator that is the token of the operator, of a form that begins with `(` this one, else mostly the first
+-- token. What is
 -- found behind `->` has its key in the `Dot` that comes next, and a compound literal in its `Literal`.
 use Rattle.std.specs.Prelude.{ℕ, Option, None, Some}
 use Rattle.tape_ops.specs.declared.op.Op.{Op}
@@ -12,6 +13,7 @@ use Rattle.tape_ops.specs.declared.form.FormOp.TheVariants as forms
 use Rattle.tape_ops.specs.declared.initialiser.InitOp.{InitOp}
 use Rattle.tape_ops.specs.declared.initialiser.InitOp.TheVariants as inits
 
+-- the key token of an expression that an op of expressions ends
 abbrev pub expr_op_key : ExprOp → Option ℕ
 expr_op_key (exprs.Name is_called token name) = Some token
 expr_op_key (exprs.Number token) = Some token
@@ -32,6 +34,7 @@ expr_op_key (exprs.Arrow token first last aims) = None
 expr_op_key (exprs.Dot token member name) = Some token
 expr_op_key (exprs.Label token) = Some token
 
+-- the key token of an expression that an op of the forms with type names ends
 abbrev pub form_op_key : FormOp → Option ℕ
 form_op_key (forms.Cast token last) = Some token
 form_op_key (forms.Sizeof token) = Some token
@@ -48,6 +51,7 @@ form_op_key forms.NoType = None
 form_op_key (forms.Choose token) = Some token
 form_op_key (forms.Generic token count) = Some token
 
+-- the key token of a compound literal
 abbrev pub init_op_key : InitOp → Option ℕ
 init_op_key (inits.Value first last) = None
 init_op_key inits.Begin = None

@@ -1,30 +1,30 @@
 //! The loop over a tape.
 
 ghost use Rattle.std.specs.Prelude.{◌≡◌, OnOk};
-ghost use Rattle.shape_steps.specs.State as states;
-ghost use Rattle.shape_steps.specs.State.{nothing};
-ghost use Rattle.shape_steps.specs.Steps.{step};
-ghost use Rattle.shape_values.specs.Views.{shape_in};
-ghost use Rattle.shape_stacks.specs.Views.{state_in};
+ghost use Rattle.name_rules.specs.ShapeSteps.State as states;
+ghost use Rattle.name_rules.specs.ShapeSteps.State.{nothing};
+ghost use Rattle.name_rules.specs.ShapeSteps.Steps.{step};
+ghost use Rattle.expr_shapes.specs.ShapeValues.Views.{shape_in};
+ghost use Rattle.expr_shapes.specs.ShapeStacks.Views.{state_in};
 ghost use Rattle.name_rules.specs.Spellings.{Place};
-ghost use Rattle.place_map.specs.Values.{or_else};
-ghost use Rattle.unit_spelling.specs.Spelled.{spelling_of};
+ghost use Rattle.name_tables.specs.PlaceMap.Values.{or_else};
+ghost use Rattle.name_tables.specs.UnitSpelling.Spelled.{spelling_of};
 ghost use Rattle.unit_shapes.specs.Views.{names_in, AreImplicit};
 ghost use Rattle.expr_types.specs.Along.{literal_on, op_shape, keyed, shapes_along, first_at};
 ghost use Rattle.expr_types.specs.Keys.{op_key};
 ghost use Rattle.expr_types.specs.Views.{found_at};
 
 use crate::keys::key;
-use found_names::FoundNames;
-use place_map::PlaceMap;
+use expr_shapes::shape_stacks::Stacks;
+use expr_shapes::shape_values::ExprShape;
+use name_state::found_names::FoundNames;
+use name_tables::place_map::PlaceMap;
+use name_tables::unit_spelling::Spelling;
 use qual_base::{NoMemory, TokenId};
-use shape_stacks::Stacks;
-use shape_values::ExprShape;
 use std::alloc::Global;
 use tape_ops::Op;
 use type_table::TypeTable;
 use unit_shapes::{ImplicitTypes, step};
-use unit_spelling::Spelling;
 
 /// The compound literal whose values are on the stack, with its type under them. Constant time.
 fn literal(types: &TypeTable, stacks: &Stacks) -> ExprShape

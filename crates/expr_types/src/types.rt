@@ -2,17 +2,17 @@
 
 ghost use Rattle.std.specs.Prelude.{◌≡◌, IfOk};
 ghost use Rattle.name_rules.specs.Spellings.{Place};
-ghost use Rattle.shape_values.specs.Views.{some_value_type};
+ghost use Rattle.expr_shapes.specs.ShapeValues.Views.{some_value_type};
 ghost use Rattle.unit_shapes.specs.Views.{names_in, AreImplicit};
 ghost use Rattle.unit_types.specs.Resolved.{tapes_of};
 ghost use Rattle.expr_types.specs.Along.{shapes_among, first_at};
 ghost use Rattle.expr_types.specs.Views.{some_shape_in, found_at, shape_of_place, type_of_place};
 
 use crate::along::find_unit;
-use found_names::FoundNames;
-use place_map::PlaceMap;
+use expr_shapes::shape_values::{ExprShape, ValueType, value};
+use name_state::found_names::FoundNames;
+use name_tables::place_map::PlaceMap;
 use qual_base::{NoMemory, TokenId, UnitNo};
-use shape_values::{ExprShape, ValueType, value};
 use std::alloc::Global;
 use std::marker::Model;
 use type_table::TypeTable;

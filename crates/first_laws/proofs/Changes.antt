@@ -19,8 +19,8 @@ use Rattle.name_rules.specs.Pieces.{is_function}
 use Rattle.name_rules.specs.Identifiers.{OldParameter, Olds, identified, number_of_identifier, old_declared, old_declared_some, old_faults}
 use Rattle.name_rules.specs.Declaring.{Numbered, begun_body, begun_in, body_entered, declared_here, declared_member, declared_param, declared_some, declared_thing, declared_typedef, declaring, found_or_new, has_word, keep, linked, or_at, owner_where, scope_kept, static_where, tag_known, the_thing, thing_where, type_named, typedef_known, unnamed_member, untagged, used}
 use Rattle.type_rules.specs.Naming.{identifiers_named, typed_by}
-use Rattle.meaning_laws.specs.Meanings.{Differ}
-use Rattle.meaning_laws.proofs.Lists.{at_more, at_new, differ_before, last_is_new, linked_is, things_map}
+use Rattle.name_rules.specs.MeaningLaws.Meanings.{Differ}
+use Rattle.name_rules.proofs.MeaningLaws.Lists.{at_more, at_new, differ_before, last_is_new, linked_is, things_map}
 use Rattle.first_laws.specs.Firsts.{HasSkeletonAt, has_skeleton}
 use Rattle.first_laws.proofs.Words.{AreOf, kind_own, kind_other, no_constant, other_way}
 use Rattle.first_laws.proofs.Growing.{Grew, Grown, one_name, same_grew}
@@ -223,7 +223,8 @@ module _ (u : Spelling) (N : ℕ → Type 0) (keys : (m n : ℕ) → N m → N n
   )
 
   bind : (p q : Option ℕ) (qs : List Level) (k : Option HeldScope) (h : HeldScopes) (s : Names) (m : ℕ) (kind : Kind)
-      (it : Meaning) (scope : HeldScope) → scope.names ≡ (with_name (held.innermost h) m kind).names → Holds u N q scope →
+      (it : Meaning) (scope : HeldScope) → scope.names ≡ (with_name (held.innermost h) m kind).names
+      → Holds u N q scope →
       N m → Agrees s.declared (Some it) (kind_in (with_name (held.innermost h) m kind).names m) → A p qs k h s →
       A q qs k (scope ∷ held.leave h) (bound (u.key m) it s)
   bind p q qs k h s m kind it scope e holds own g f = record {
@@ -283,7 +284,8 @@ module _ (u : Spelling) (N : ℕ → Type 0) (keys : (m n : ℕ) → N m → N n
 
   -- declarations of names that the innermost scope holds
 
-  release_is : (kind : Kind) (h : HeldScopes) (o : Option ℕ) → (held.innermost h).held ≡ o → release kind h ≡ release_as o kind h
+  release_is : (kind : Kind) (h : HeldScopes) (o : Option ℕ) → (held.innermost h).held ≡ o
+      → release kind h ≡ release_as o kind h
   release_is kind h o e = ap (λ (name : Option ℕ). release_as name kind h) e
 
   module _ {qs : List Level} {k : Option HeldScope} {h : HeldScopes} {s : Names} {ts : List Lexeme} where
@@ -371,7 +373,8 @@ module _ (u : Spelling) (N : ℕ → Type 0) (keys : (m n : ℕ) → N m → N n
         or_here ds None g here = here
         or_here ds (Some p) g here = g p refl
 
-        here : (owner : Option Place) → Differ (s.declared ++ as_d owner ∷ []) → HasSkeletonAt (s.declared ++ as_d owner ∷ []) at
+        here : (owner : Option Place) → Differ (s.declared ++ as_d owner ∷ [])
+            → HasSkeletonAt (s.declared ++ as_d owner ∷ []) at
         here owner differ = (as_d owner, last_found s.declared (as_d owner) differ, role_has (is_function t))
 
         linked_has : (owner : Option Place) → Differ (s.declared ++ as_d owner ∷ []) → A (Some m) qs k h s →
@@ -428,7 +431,8 @@ module _ (u : Spelling) (N : ℕ → Type 0) (keys : (m n : ℕ) → N m → N n
   more_kinds ds (Some (means_thing p)) old new g (inl h) = inl h
   more_kinds ds (Some (means_thing p)) old new g (inr h) = inr (h.0, g Constant h.1)
 
-  grown_agrees : (ds : List Declared) (names : List (ℕ × Meaning)) {kept : Bool} (scope now : HeldScope) → Grown kept scope now →
+  grown_agrees : (ds : List Declared) (names : List (ℕ × Meaning)) {kept : Bool} (scope now : HeldScope)
+      → Grown kept scope now →
       ScopeAgrees u N ds names scope → ScopeAgrees u N ds names now
   grown_agrees ds names scope now g f m n =
       more_kinds ds (meaning_in names (u.key m)) (kind_in scope.names m) (kind_in now.names m) (g.kinds m) (f m n)
@@ -438,7 +442,8 @@ module _ (u : Spelling) (N : ℕ → Type 0) (keys : (m n : ℕ) → N m → N n
   held_is (Some m) scope g = g.0
 
   one_let_go : (ds : List Declared) (q : Option ℕ) (qs : List Level) (kind : Kind) (outer : HeldScopes) (names : Scope)
-      (scopes : List Scope) (scope now : HeldScope) → Grown true scope now → OneFits u N ds q scope names → S ds qs outer scopes →
+      (scopes : List Scope) (scope now : HeldScope) → Grown true scope now → OneFits u N ds q scope names
+      → S ds qs outer scopes →
       S ds (plain None ∷ qs) (release kind (now ∷ outer)) (names ∷ scopes)
   one_let_go ds q qs kind outer names scopes scope now g one f =
       subst (λ (t : HeldScopes). S ds (plain None ∷ qs) t (names ∷ scopes)) (sym (release_is kind (now ∷ outer) q held_now)) (by q held_now)
@@ -461,7 +466,8 @@ module _ (u : Spelling) (N : ℕ → Type 0) (keys : (m n : ℕ) → N m → N n
       )
 
   scopes_let_go : (ds : List Declared) (q : Option ℕ) (qs : List Level) (kind : Kind) (h t : HeldScopes)
-      (scopes : List Scope) → Grew true h t → S ds (plain q ∷ qs) h scopes → S ds (plain None ∷ qs) (release kind t) scopes
+      (scopes : List Scope) → Grew true h t → S ds (plain q ∷ qs) h scopes
+      → S ds (plain None ∷ qs) (release kind t) scopes
   scopes_let_go ds q qs kind [] t scopes g f = absurd f
   scopes_let_go ds q qs kind (scope ∷ h) t [] g f = absurd f
   scopes_let_go ds q qs kind (scope ∷ h) t (names ∷ scopes) g f =
@@ -486,7 +492,8 @@ module _ (u : Spelling) (N : ℕ → Type 0) (keys : (m n : ℕ) → N m → N n
     pub dropped : {q : Option ℕ} (kind : Kind) → F q qs k h s ts → F None qs k (release kind h) s ts
     dropped kind f = let_go kind (same_grew h) f.names f
 
-    unnamed : {q : Option ℕ} (lets : Bool) (kind : Kind) → F q qs k h s ts → F (held_behind lets q) qs k (scopes_behind lets kind h) s ts
+    unnamed : {q : Option ℕ} (lets : Bool) (kind : Kind) → F q qs k h s ts
+        → F (held_behind lets q) qs k (scopes_behind lets kind h) s ts
     unnamed true kind f = dropped kind f
     unnamed false kind f = f
 
@@ -555,7 +562,8 @@ module _ (u : Spelling) (N : ℕ → Type 0) (keys : (m n : ℕ) → N m → N n
     pub unnamed_fits : (at : Place) (n : ℕ) (t : CType) → F q qs k h s ts → F q qs k h (unnamed_member at n t s) ts
     unnamed_fits at n t f = alike refl refl refl refl (field_fits at n _ t None f)
 
-    pub member_fits : (it : Option Named) (n : ℕ) (t : CType) → F q qs k h s ts → F q qs k h (declared_member u it n t s) ts
+    pub member_fits : (it : Option Named) (n : ℕ) (t : CType) → F q qs k h s ts
+        → F q qs k h (declared_member u it n t s) ts
     member_fits None n t f = f
     member_fits (Some it) n t f =
         sized_fits (place u it.token) t (alike refl refl refl refl (field_fits (place u it.token) n _ t None f))
@@ -679,8 +687,10 @@ module _ (u : Spelling) (N : ℕ → Type 0) (keys : (m n : ℕ) → N m → N n
           };
         }
 
-  -- The scope of parameters that are declared behind a list of identifiers. In the grammar they are declared behind the whole declarator,
-  -- in whose scope what else stands in it has declared enumerators by then. Among names nothing behind the list is known yet.
+  -- The scope of parameters that are declared behind a list of identifiers. In the grammar they are declared behind the
+  -- whole declarator,
+  -- in whose scope what else stands in it has declared enumerators by then. Among names nothing behind the list is
+  -- known yet.
 
   grown_holds : (q : Option ℕ) (scope now : HeldScope) → Grown true scope now → Holds u N q scope → Holds u N q now
   grown_holds None scope now g h = g.holds refl ∙ h

@@ -1,5 +1,7 @@
--- What is known of names, as trees' scopes see it, against scopes of names in the grammar: where a name of a scope means what has no
--- skeleton, the grammar's scope declares it as an enumerator. What is asked of declarations holds where no two are at one place.
+-- What is known of names, as trees' scopes see it, against scopes of names in the grammar: where a name of a scope
+-- means what has no
+-- skeleton, the grammar's scope declares it as an enumerator. What is asked of declarations holds where no two are at
+-- one place.
 use Rattle.std.proofs.Common.{◌≡◌, ◌⊎◌, inl, inr, ℕ, Bool, true, false, List, [], ◌∷◌, ◌++◌, Option, None, Some, refl, subst}
 use Rattle.c_tree.specs.declared.lexeme.Lexeme.{Lexeme}
 use Rattle.typedef_scope.specs.declared.kind.Kind.{Kind}
@@ -10,7 +12,7 @@ use Rattle.c_units.specs.HeldScopes as held
 use Rattle.c_units.specs.Scoping.{behind, where_true}
 use Rattle.name_rules.specs.Spellings.{Spelling, Place}
 use Rattle.name_rules.specs.Scopes.{Declared, declared_at, Meaning, means_type, means_thing, meaning_in, Names, Scope, enter, leave, outer_scopes}
-use Rattle.meaning_laws.specs.Meanings.{Differ, ThingsAre}
+use Rattle.name_rules.specs.MeaningLaws.Meanings.{Differ, ThingsAre}
 use Rattle.first_laws.specs.Firsts.{HasSkeletonAt, has_skeleton}
 use Rattle.first_laws.proofs.Words.{AreOf}
 
@@ -107,7 +109,8 @@ module _ (u : Spelling) (N : ℕ → Type 0) where
   -- scopes as declarations grow
 
   module _ {ds es : List Declared} (stay : Stay ds es) where
-    pub one_stays : (q : Option ℕ) (scope : HeldScope) (names : Scope) → OneFits ds q scope names → OneFits es q scope names
+    pub one_stays : (q : Option ℕ) (scope : HeldScope) (names : Scope) → OneFits ds q scope names
+        → OneFits es q scope names
     one_stays q scope names h =
         (h.0, λ m n. agrees_stays stay (meaning_in names.names (u.key m)) (kind_in scope.names m) (h.1 m n))
 
@@ -149,7 +152,8 @@ module _ {u : Spelling} {N : ℕ → Type 0} where
     tested true f = done f
     tested false f = record { fits = λ other e. absurd cc }
 
-    pub eat : {h : HeldScopes} {s : Names} {t : Lexeme} {ts : List Lexeme} → Fit u N q qs k h s (t ∷ ts) → Fit u N q qs k h s ts
+    pub eat : {h : HeldScopes} {s : Names} {t : Lexeme} {ts : List Lexeme} → Fit u N q qs k h s (t ∷ ts)
+        → Fit u N q qs k h s ts
     eat f = record { names = f.names.1; agree = f.agree }
 
     -- one more token behind a part, or another change
@@ -162,12 +166,14 @@ module _ {u : Spelling} {N : ℕ → Type 0} where
     ends f = also f (λ h g. eat g)
 
     -- a test before it
-    pub checked : (o : Option HeldScopes) {next : Option HeldScopes} {s : Names} {ts : List Lexeme} → Fine u N q qs k next s ts →
+    pub checked : (o : Option HeldScopes) {next : Option HeldScopes} {s : Names} {ts : List Lexeme}
+        → Fine u N q qs k next s ts →
         Fine u N q qs k (behind o (λ _. next)) s ts
     checked None f = record { fits = λ h e. absurd cc }
     checked (Some before) f = f
 
-    pub eats : (front : List Lexeme) {h : HeldScopes} {s : Names} {ts : List Lexeme} → Fit u N q qs k h s (front ++ ts) →
+    pub eats : (front : List Lexeme) {h : HeldScopes} {s : Names} {ts : List Lexeme}
+        → Fit u N q qs k h s (front ++ ts) →
         Fit u N q qs k h s ts
     eats [] f = f
     eats (t ∷ front) f = eats front (eat f)

@@ -1,4 +1,5 @@
--- Scopes of names in the grammar grow through each part of a tree: what surrounds the innermost scope stays as it is, each name that it
+-- Scopes of names in the grammar grow through each part of a tree: what surrounds the innermost scope stays as it is,
+-- each name that it
 -- declares keeps its kind, and inside of what declares no name but enumerators it holds the name that it held.
 use Rattle.std.proofs.Common.{◌≡◌, ℕ, nat_eq, Bool, true, false, List, [], ◌∷◌, Option, None, Some, refl, sym, ◌∙◌, subst}
 use Rattle.std.specs.Prelude.{◌&&◌, not, if◌then◌else◌}
@@ -38,7 +39,8 @@ pub record Grows (kept : Bool) (h : HeldScopes) (o : Option HeldScopes) : Type 0
 unchanged : {kept : Bool} (scope : HeldScope) → Grown kept scope scope
 unchanged scope = record { kinds = λ m kind e. e; holds = λ want. refl; same = λ want m e. refl }
 
-grown_on : {kept : Bool} {scope now next : HeldScope} → Grown kept scope now → Grown kept now next → Grown kept scope next
+grown_on : {kept : Bool} {scope now next : HeldScope} → Grown kept scope now → Grown kept now next
+    → Grown kept scope next
 grown_on g more = record {
   kinds = λ m kind e. more.kinds m kind (g.kinds m kind e);
   holds = λ want. more.holds want ∙ g.holds want;
@@ -77,12 +79,14 @@ grew_on f g scope outer e =
 
 -- a change of the innermost scope
 at_innermost : {kept : Bool} {h : HeldScopes} (part : HeldScopes → Option HeldScopes) →
-    ((scope : HeldScope) (outer t : HeldScopes) → part (scope ∷ outer) ≡ Some t → AreGrown kept scope outer t) → Grows kept h (part h)
+    ((scope : HeldScope) (outer t : HeldScopes) → part (scope ∷ outer) ≡ Some t → AreGrown kept scope outer t)
+    → Grows kept h (part h)
 at_innermost part g = record {
   grows = λ t e scope outer is. g scope outer t (subst (λ (now : HeldScopes). part now ≡ Some t) is e);
 }
 
-now_is : {kept : Bool} (scope now : HeldScope) (outer t : HeldScopes) → Grown kept scope now → Some (now ∷ outer) ≡ Some t →
+now_is : {kept : Bool} (scope now : HeldScope) (outer t : HeldScopes) → Grown kept scope now
+    → Some (now ∷ outer) ≡ Some t →
     AreGrown kept scope outer t
 now_is scope now outer t g e = let same : now ∷ outer ≡ t = cc in record { now = now; are = sym same; grown = g }
 
@@ -125,7 +129,8 @@ module _ {kept : Bool} {h : HeldScopes} where
   either_way false f g one other = other
 
 -- a base word declares nothing
-base_or : {kept : Bool} {h : HeldScopes} {o : Option HeldScopes} (b : Bool) → Grows kept h o → Grows kept h (if b then Some h else o)
+base_or : {kept : Bool} {h : HeldScopes} {o : Option HeldScopes} (b : Bool) → Grows kept h o
+    → Grows kept h (if b then Some h else o)
 base_or true g = still
 base_or false g = g
 
@@ -142,7 +147,8 @@ declared {kept} m kind h =
         kind_other scope m kind n (other_way n m apart)
 
     by : (scope : HeldScope) (outer t : HeldScopes) (b c : Bool) → is_name scope.held m ≡ b →
-        (if b then None else if c then Some (with_name scope m kind ∷ outer) else None) ≡ Some t → AreGrown kept scope outer t
+        (if b then None else if c then Some (with_name scope m kind ∷ outer) else None) ≡ Some t
+        → AreGrown kept scope outer t
     by scope outer t true c free e = absurd cc
     by scope outer t false false free e = absurd cc
     by scope outer t false true free e =

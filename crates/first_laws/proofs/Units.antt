@@ -1,4 +1,5 @@
--- Scopes of names fit those of the grammar through functions, units and sources, and so what was declared first has a skeleton.
+-- Scopes of names fit those of the grammar through functions, units and sources, and so what was declared first has a
+-- skeleton.
 use Rattle.std.proofs.Common.{◌≡◌, ℕ, Bool, true, false, List, [], ◌∷◌, Option, None, Some, refl, sym, ◌∙◌, ap, subst}
 use Rattle.std.specs.Prelude.{All, not, if◌then◌else◌, ◌&&◌}
 use Rattle.std.proofs.lemmas.List.Elements.{All-head, All-tail}
@@ -32,7 +33,7 @@ use Rattle.name_rules.specs.Units.{no_names, unit_begun}
 use Rattle.type_rules.specs.Tokens.{declared_name, is_bare, have_values}
 use Rattle.type_rules.specs.Naming.{Pieced, declr_named, function_by, item_named, items_named, said_words, words_named, Typed, auto_declrs_named, has_untagged, identifiers_named, is_tag_alone, old_declaration_named, old_declarations_named, old_declr_named, old_declrs_named, old_function_by}
 use Rattle.type_rules.specs.Program.{Source, names_of, sources_named}
-use Rattle.meaning_laws.specs.Meanings.{Differ, ThingsAre}
+use Rattle.name_rules.specs.MeaningLaws.Meanings.{Differ, ThingsAre}
 use Rattle.first_laws.specs.Firsts.{FirstsOfScopedHaveSkeletons, HasSkeletonAt, IsScoped, has_name, has_skeleton}
 use Rattle.first_laws.proofs.Words.{AreOf, of_each}
 use Rattle.first_laws.proofs.Growing as grow
@@ -172,7 +173,8 @@ listing_name all (base_name token) formed e = absurd cc
 
 -- parts that have scopes behind them
 
-behind_some : (o : Option HeldScopes) (next : HeldScopes → Option HeldScopes) (v : HeldScopes) → behind o next ≡ Some v →
+behind_some : (o : Option HeldScopes) (next : HeldScopes → Option HeldScopes) (v : HeldScopes)
+    → behind o next ≡ Some v →
     (t : HeldScopes) × (o ≡ Some t) × (next t ≡ Some v)
 behind_some None next v e = absurd cc
 behind_some (Some t) next v e = (t, refl, e)
@@ -188,7 +190,8 @@ same_identified (it ∷ names) t v e =
     let one = behind_some (where_true (not (held.names_type t it.name)) t) (identifiers_scopes names) v e in
     same_where (not (held.names_type t it.name)) t one.0 one.1 ∙ same_identified names one.0 v one.2
 
-held_cons : (name : ℕ) (h v : HeldScopes) → hold name Value h ≡ Some v → (scope : HeldScope) × (v ≡ scope ∷ held.leave h)
+held_cons : (name : ℕ) (h v : HeldScopes) → hold name Value h ≡ Some v
+    → (scope : HeldScope) × (v ≡ scope ∷ held.leave h)
 held_cons name h v e = by (may_declare (innermost h) name Value) e
   where
     by : (b : Bool) → (if b then Some (record (innermost h) { held = Some name } ∷ held.leave h) else None) ≡ Some v →
@@ -220,7 +223,8 @@ module _ (u : Spelling) (N : ℕ → Type 0) (keys : (m n : ℕ) → N m → N n
 
   -- a function's declarator, which keeps the scope of its own parameters
   own_declr_fits : (d : Declr) (above : Bool) (owner : Place) {q : Option ℕ} {qs : List Level} {s : Names} {ts : List Lexeme}
-      (h w : HeldScopes) → is_round_name d above ≡ true → own_scope (own_params d) h ≡ Some w → F q qs None h s (declr_text all d ts) →
+      (h w : HeldScopes) → is_round_name d above ≡ true → own_scope (own_params d) h ≡ Some w
+      → F q qs None h s (declr_text all d ts) →
       Fine u N (holding (declared_name d) q) qs (Some (innermost w)) (declr_scopes (Some Value) d h)
       (declr_named u (Some owner) d s).names ts
   own_declr_fits (declr_name token name) above owner h w round e f = absurd cc
@@ -324,7 +328,8 @@ module _ (u : Spelling) (N : ℕ → Type 0) (keys : (m n : ℕ) → N m → N n
           (λ h g. alike u N keys refl refl refl refl g))
 
   function_fits : (ws : SpecWords) (d : Declr) (attrs : List Attr) (opening closing : ℕ) (items : BlockItems)
-      (o : Option Named) {s : Names} {ts : List Lexeme} (h : HeldScopes) → declares_function d ≡ true → declared_name d ≡ o →
+      (o : Option Named) {s : Names} {ts : List Lexeme} (h : HeldScopes) → declares_function d ≡ true
+      → declared_name d ≡ o →
       F None [] None h s (spec_words_text all ws (declr_text all d (attrs_text all attrs (sign_text OpenBrace opening
       (block_items_text all items (sign_text CloseBrace closing ts)))))) →
       Fine u N None [] None (function_scopes ws d items h) (function_by u o ws d items s) ts
@@ -414,7 +419,8 @@ module _ (u : Spelling) (N : ℕ → Type 0) (keys : (m n : ℕ) → N m → N n
       found : Typed
       found = words_named u (is_tag_alone ws ds) ws (base []) [] it.names
 
-      by : (b c : Bool) (h : HeldScopes) → F None qs k h found.names (init_declrs_text all ds (sign_text Semicolon semi ts)) →
+      by : (b c : Bool) (h : HeldScopes)
+          → F None qs k h found.names (init_declrs_text all ds (sign_text Semicolon semi ts)) →
           Fine u N None qs k ((if b then auto_declrs_scopes ds else init_declrs_scopes (declared_kind ws) ds) h)
           (if b && c
           then record it { names = auto_declrs_named u (said_words ws) (has_untagged ws) semi found.type ds found.names }
@@ -435,7 +441,8 @@ module _ (u : Spelling) (N : ℕ → Type 0) (keys : (m n : ℕ) → N m → N n
   old_declarations_fit (d ∷ ds) own it h f =
       step (old_declaration_fits d own it h f) (λ h g. old_declarations_fit ds own _ h g)
 
-  -- A function's declarator with a list of identifiers, whose parameters are declared behind the whole declarator: they stand round
+  -- A function's declarator with a list of identifiers, whose parameters are declared behind the whole declarator: they
+  -- stand round
   -- the scopes there. What stands behind the declarations is known too.
 
   -- names behind the declarations of a list, in the parameters' scope

@@ -88,7 +88,8 @@ module _ {u : Spelling} {N : ℕ → Type 0} {q : Option ℕ} {qs : List Level} 
     attrs_past [] f = f
     attrs_past (a ∷ attrs) f = attrs_past attrs (attr_past a f)
 
-    pub label_past : (l : Option AsmLabel) {ts : List Lexeme} → Fit u N q qs k h s (label_text all l ts) → Fit u N q qs k h s ts
+    pub label_past : (l : Option AsmLabel) {ts : List Lexeme} → Fit u N q qs k h s (label_text all l ts)
+        → Fit u N q qs k h s ts
     label_past None f = f
     label_past (Some l) f = group_past l.group (eat f)
 
@@ -100,11 +101,13 @@ module _ {u : Spelling} {N : ℕ → Type 0} {q : Option ℕ} {qs : List Level} 
     qual_past (quals.Element token) f = eats (tokens_between all token token) f
     qual_past (quals.Index token) f = eat f
 
-    quals_past : (qs2 : List Qual) {ts : List Lexeme} → Fit u N q qs k h s (quals_text all qs2 ts) → Fit u N q qs k h s ts
+    quals_past : (qs2 : List Qual) {ts : List Lexeme} → Fit u N q qs k h s (quals_text all qs2 ts)
+        → Fit u N q qs k h s ts
     quals_past [] f = f
     quals_past (qual ∷ qs2) f = quals_past qs2 (qual_past qual f)
 
-    pub pointer_words_past : (ws : List PointerWord) {ts : List Lexeme} → Fit u N q qs k h s (pointer_words_text all ws ts) →
+    pub pointer_words_past : (ws : List PointerWord) {ts : List Lexeme}
+        → Fit u N q qs k h s (pointer_words_text all ws ts) →
         Fit u N q qs k h s ts
     pointer_words_past [] f = f
     pointer_words_past (pointer_words.Qual qual ∷ ws) f = pointer_words_past ws (qual_past qual f)
@@ -116,7 +119,8 @@ module _ {u : Spelling} {N : ℕ → Type 0} {q : Option ℕ} {qs : List Level} 
     array_words_past (array_words.Static token ∷ ws) f = array_words_past ws (eat f)
     array_words_past (array_words.Qual qual ∷ ws) f = array_words_past ws (qual_past qual f)
 
-    pub dots_past : (dots : Option Dots) {ts : List Lexeme} → Fit u N q qs k h s (dots_text all dots ts) → Fit u N q qs k h s ts
+    pub dots_past : (dots : Option Dots) {ts : List Lexeme} → Fit u N q qs k h s (dots_text all dots ts)
+        → Fit u N q qs k h s ts
     dots_past None f = f
     dots_past (Some dots) f = eat (quals_past dots.quals (eat f))
 
@@ -155,7 +159,8 @@ module _ {u : Spelling} {N : ℕ → Type 0} where
 
   -- identifiers of a list are no typedef names
   pub identifiers_tested : {q : Option ℕ} {qs : List Level} {k : Option HeldScope} {s : Names} {ts : List Lexeme}
-      (names : List Identifier) (h : HeldScopes) → Fit u N q qs k h s ts → Fine u N q qs k (identifiers_scopes names h) s ts
+      (names : List Identifier) (h : HeldScopes) → Fit u N q qs k h s ts
+      → Fine u N q qs k (identifiers_scopes names h) s ts
   identifiers_tested [] h f = done f
   identifiers_tested (it ∷ names) h f =
       step (tested (not (held.names_type h it.name)) f) (λ h g. identifiers_tested names h g)
@@ -223,7 +228,8 @@ module _ (u : Spelling) (N : ℕ → Type 0) (keys : (m n : ℕ) → N m → N n
           (g.fits mid refl).names f)
 
   -- what stands in the place of the name behind `__auto_type`: a base word declares nothing
-  pub base_or : (d : Declr) {qs : List Level} {k : Option HeldScope} {s : Names} {ts : List Lexeme} (h : HeldScopes) → F None qs k h s (declr_text all d ts) →
+  pub base_or : (d : Declr) {qs : List Level} {k : Option HeldScope} {s : Names} {ts : List Lexeme} (h : HeldScopes)
+      → F None qs k h s (declr_text all d ts) →
       Fine u N (held_then (Some Value) (declared_name d) None) qs k (declr_scopes (Some Value) d h) (declr_named u None d s).names ts →
       Fine u N (held_then (Some Value) (declared_name d) None) qs k (if is_base d then Some h else declr_scopes (Some Value) d h) (declr_named u None d s).names ts
   base_or (base_name token) h f g = done (eat f)
@@ -604,7 +610,8 @@ module _ (u : Spelling) (N : ℕ → Type 0) (keys : (m n : ℕ) → N m → N n
         (some_fits u N keys true kind _ (declared_name d) words _ (attrs_past all attrs2 (label_past all asm_label g)))))
         (other_init_declrs_fit kind ds words false t want)
 
-    -- a name of the type of its initialiser; lists of initialisers, which names are not gone through in, declare nothing of it
+    -- a name of the type of its initialiser; lists of initialisers, which names are not gone through in, declare
+    -- nothing of it
     pub auto_fits : (init : SomeInit) (it : Option Named) (words : List Keyword) (is_untagged : Bool) (semi : ℕ) (t : CType)
         {qs : List Level} {k : Option HeldScope} {s : Names} {ts : List Lexeme} (h : HeldScopes) →
         F (holding it None) qs k h s (some_init_text all init ts) →

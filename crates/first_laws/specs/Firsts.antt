@@ -7,7 +7,7 @@ use Rattle.c_units.specs.Units.{IsWellFormed}
 use Rattle.name_rules.specs.Spellings.{Place, Spelling}
 use Rattle.name_rules.specs.Scopes.{Role, typedef_role, object_role, function_role, parameter_role, field_role, enumerator_role, Declared, declared_at}
 use Rattle.type_rules.specs.Program.{Source, names_of}
-use Rattle.meaning_laws.specs.Meanings.{Differ}
+use Rattle.name_rules.specs.MeaningLaws.Meanings.{Differ}
 
 -- whether a declaration has a skeleton: those of types' names and of enumerators have none
 abbrev pub has_skeleton : Role → Bool
@@ -39,6 +39,7 @@ is_named (kinds.Qual lattice element) name = false
 is_named kinds.Index name = false
 is_named kinds.End name = false
 
+-- whether a name of this number is among the tokens
 abbrev pub has_name : List Lexeme → ℕ → Bool
 has_name [] name = false
 has_name (it ∷ all) name = if is_named it.kind name then true else has_name all name

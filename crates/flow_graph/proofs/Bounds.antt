@@ -6,7 +6,8 @@ use Rattle.flow_graph.specs.declared.constraint.Link.TheVariants.{Le, Const, Bou
 use Rattle.flow_graph.specs.System.{System, IsWithin, AllWithin, AllBelow, highest, vars_of_link, vars_of}
 
 -- an item of a longer list is one of the list, or the new one
-pub item_of_pushed : {A : Type 0} (xs : List A) (y : A) (n : ℕ) (x : A) → slice_get (xs ++ y ∷ []) n ≡ Some x → (slice_get xs n ≡ Some x) ⊎ (y ≡ x)
+pub item_of_pushed : {A : Type 0} (xs : List A) (y : A) (n : ℕ) (x : A) → slice_get (xs ++ y ∷ []) n ≡ Some x
+    → (slice_get xs n ≡ Some x) ⊎ (y ≡ x)
 item_of_pushed [] y zero x is = inr cc
 item_of_pushed [] y (suc n) x is = inl is
 item_of_pushed (z ∷ xs) y zero x is = inl is
@@ -20,13 +21,15 @@ within_more few many h (Enter s u v) w = (omega (arith, h, w.0), w.1, w.2)
 within_more few many h (Leave s u v) w = (omega (arith, h, w.0), w.1, w.2)
 
 -- more sites keep each constraint within the limits
-pub all_within-sites : (one other : System) → one.constraints ≡ other.constraints → length one.sites ≤ length other.sites → AllWithin one → AllWithin other
+pub all_within-sites : (one other : System) → one.constraints ≡ other.constraints
+    → length one.sites ≤ length other.sites → AllWithin one → AllWithin other
 all_within-sites one other same h all n link has =
     within_more (length one.sites) (length other.sites) h link
     (all n link (record { constraint = has.constraint; there = ap (λ cs. slice_get cs n) same ∙ has.there; link_is = has.link_is }))
 
 -- so does one more constraint that is within them
-pub all_within-push : (one other : System) (c : Constraint) → other.constraints ≡ one.constraints ++ c ∷ [] → one.sites ≡ other.sites →
+pub all_within-push : (one other : System) (c : Constraint) → other.constraints ≡ one.constraints ++ c ∷ []
+    → one.sites ≡ other.sites →
     IsWithin (length one.sites) c.link → AllWithin one → AllWithin other
 all_within-push one other c longer same new all n link has =
     let sites : length one.sites ≡ length other.sites = ap length same in
@@ -36,7 +39,8 @@ all_within-push one other c longer same new all n link has =
       | inr is ↦ let Fits : Link → Type 0 = λ k. IsWithin (length one.sites) k in subst Fits (ap (λ (d : Constraint). d.link) is ∙ has.link_is) new
     ])
 
-pub below-highest : (cs : List Constraint) (n : ℕ) (c : Constraint) → slice_get cs n ≡ Some c → vars_of_link c.link ≤ highest cs
+pub below-highest : (cs : List Constraint) (n : ℕ) (c : Constraint) → slice_get cs n ≡ Some c
+    → vars_of_link c.link ≤ highest cs
 below-highest [] n c is = absurd cc
 below-highest (d ∷ cs) zero c is =
     let first : d ≡ c = cc in

@@ -21,7 +21,8 @@ each_owned sys owned n (Bound v l e) has = tt
 each_owned sys owned n (Enter s u v) has = owned.enter n s u v has
 each_owned sys owned n (Leave s u v) has = owned.leave n s u v has
 
-pub all_named : (sys : System) (lattice : ℕ) (order : Order) → ((n : ℕ) → n < length sys.constraints → IsNamedAt sys lattice order n) → NamesElementsIn sys lattice order
+pub all_named : (sys : System) (lattice : ℕ) (order : Order)
+    → ((n : ℕ) → n < length sys.constraints → IsNamedAt sys lattice order n) → NamesElementsIn sys lattice order
 all_named sys lattice order all = record {
   const = λ n e v stands. all n (slice_get_within sys.constraints n stands.constraint stands.there) (Const lattice e v)
       (record { constraint = stands.constraint; there = stands.there; link_is = stands.link_is }) refl;
@@ -29,7 +30,8 @@ all_named sys lattice order all = record {
       (record { constraint = stands.constraint; there = stands.there; link_is = stands.link_is }) refl;
 }
 
-pub each_named : (sys : System) (lattice : ℕ) (order : Order) → NamesElementsIn sys lattice order → (n : ℕ) → IsNamedAt sys lattice order n
+pub each_named : (sys : System) (lattice : ℕ) (order : Order) → NamesElementsIn sys lattice order → (n : ℕ)
+    → IsNamedAt sys lattice order n
 each_named sys lattice order named n (Le u v) has = tt
 each_named sys lattice order named n (Const l e v) has = λ is. named.const n e v
     (record { constraint = has.constraint; there = has.there; link_is = has.link_is ∙ ap (λ k. Const k e v) is; carried = refl })

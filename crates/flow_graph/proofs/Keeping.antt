@@ -5,7 +5,8 @@ use Rattle.flow_graph.specs.System.{highest}
 use Rattle.flow_graph.specs.Held.{IsHeld, system_of}
 use Rattle.flow_graph.proofs.Bounds.{all_within-sites}
 
-pub held_on : (one other : Inside) → one.constraints.items ≡ other.constraints.items → length one.sites.items ≤ length other.sites.items →
+pub held_on : (one other : Inside) → one.constraints.items ≡ other.constraints.items
+    → length one.sites.items ≤ length other.sites.items →
     length other.sites.items < 2 ^ 32 → one.owners ≡ other.owners → one.highest ≡ other.highest → IsHeld one → IsHeld other
 held_on one other same more few owners high held =
     let count : length one.constraints.items ≡ length other.constraints.items = ap length same in

@@ -30,7 +30,8 @@ owner-set_other old new at u cell same other =
     owner_at (set new at cell) u ∙ ap owner_in (get_or-set_other new at u cell 0 other ∙ same) ∙ sym (owner_at old u)
 
 -- a graph's fields keep what is true of them where the table of owners is not too long
-pub held_owners : (one other : Inside) → one.constraints.items ≡ other.constraints.items → one.sites.items ≡ other.sites.items → one.highest ≡ other.highest →
+pub held_owners : (one other : Inside) → one.constraints.items ≡ other.constraints.items
+    → one.sites.items ≡ other.sites.items → one.highest ≡ other.highest →
     length other.owners ≤ 2 ^ 24 → IsHeld one → IsHeld other
 held_owners one other same sites high few held =
     let count : length one.constraints.items ≡ length other.constraints.items = ap length same in

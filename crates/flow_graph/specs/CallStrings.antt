@@ -12,7 +12,8 @@ IsCallString sys owner [] = Unit {0}
 IsCallString sys owner (site ∷ []) = (outer : Owner) × Calls sys site outer owner
 IsCallString sys owner (site ∷ before ∷ sites) = (outer : Owner) × Calls sys site outer owner × IsCallString sys outer (before ∷ sites)
 
--- The copies of an owner at a depth are its call strings of at most that many sites. What belongs to nobody is there once.
+-- The copies of an owner at a depth are its call strings of at most that many sites. What belongs to nobody is there
+-- once.
 abbrev pub IsCopy : System → ℕ → Owner → List ℕ → Type 0
 IsCopy sys depth Nobody sites = sites ≡ []
 IsCopy sys depth (Function f) sites = IsCallString sys (Function f) sites × (length sites ≤ depth)

@@ -14,6 +14,7 @@ IsOwned sys (Bound v l e) = Unit {0}
 IsOwned sys (Enter s u v) = Calls sys s (owner_of sys u) (owner_of sys v)
 IsOwned sys (Leave s u v) = Calls sys s (owner_of sys v) (owner_of sys u)
 
+-- the constraint of this number, where there is one, joins variables of the owners that it may
 abbrev pub IsOwnedAt : System → ℕ → Type 0
 IsOwnedAt sys n = (link : Link) → Has sys n link → IsOwned sys link
 
@@ -25,5 +26,6 @@ IsInOrder lattice order (Bound v named e) = named ≡ lattice → e < size order
 IsInOrder lattice order (Enter s u v) = Unit {0}
 IsInOrder lattice order (Leave s u v) = Unit {0}
 
+-- the constraint of this number, where it is a constant or a bound of the lattice, names an element of the order
 abbrev pub IsNamedAt : System → ℕ → Order → ℕ → Type 0
 IsNamedAt sys lattice order n = (link : Link) → Has sys n link → IsInOrder lattice order link

@@ -12,19 +12,23 @@ use Rattle.flow_graph.specs.Parts.{settled}
 
 -- A constraint of the unfolding at a depth leads from a variable in a copy to a variable in a copy.
 pub data Leap (sys : System) (lattice depth : ℕ) : ℕ → List ℕ → ℕ → List ℕ → Type 0 where
-  ByFlow : (n u v : ℕ) (sites : List ℕ) → Stands sys lattice n (Le u v) → IsCopy sys depth (either (owner_of sys u) (owner_of sys v)) sites →
+  ByFlow : (n u v : ℕ) (sites : List ℕ) → Stands sys lattice n (Le u v)
+      → IsCopy sys depth (either (owner_of sys u) (owner_of sys v)) sites →
       Leap sys lattice depth u (seen_from (owner_of sys u) sites) v (seen_from (owner_of sys v) sites)
-  ByEnter : (n s u v : ℕ) (site : Site) (sites : List ℕ) → Stands sys lattice n (Enter s u v) → slice_get sys.sites s ≡ Some site →
+  ByEnter : (n s u v : ℕ) (site : Site) (sites : List ℕ) → Stands sys lattice n (Enter s u v)
+      → slice_get sys.sites s ≡ Some site →
       IsCopy sys depth site.owner sites → length (s ∷ sites) ≤ depth →
       Leap sys lattice depth u (seen_from (owner_of sys u) sites) v (seen_from (owner_of sys v) (s ∷ sites))
-  ByLeave : (n s u v : ℕ) (site : Site) (sites : List ℕ) → Stands sys lattice n (Leave s u v) → slice_get sys.sites s ≡ Some site →
+  ByLeave : (n s u v : ℕ) (site : Site) (sites : List ℕ) → Stands sys lattice n (Leave s u v)
+      → slice_get sys.sites s ≡ Some site →
       IsCopy sys depth site.owner sites → length (s ∷ sites) ≤ depth →
       Leap sys lattice depth u (seen_from (owner_of sys u) (s ∷ sites)) v (seen_from (owner_of sys v) sites)
 
 -- none or more of them do
 pub data Onto (sys : System) (lattice depth : ℕ) : ℕ → List ℕ → ℕ → List ℕ → Type 0 where
   Stays : (u : ℕ) (sites : List ℕ) → Onto sys lattice depth u sites u sites
-  Further : (u x v : ℕ) (one two three : List ℕ) → Onto sys lattice depth u one x two → Leap sys lattice depth x two v three → Onto sys lattice depth u one v three
+  Further : (u x v : ℕ) (one two three : List ℕ) → Onto sys lattice depth u one x two
+      → Leap sys lattice depth x two v three → Onto sys lattice depth u one v three
 
 -- At some depth a copy of one variable leads to a copy of another.
 pub record Leads (sys : System) (lattice u v : ℕ) : Type 0 where
@@ -35,17 +39,21 @@ pub record Leads (sys : System) (lattice u v : ℕ) : Type 0 where
   pub to_copy : IsCopy sys depth (owner_of sys v) to
   pub onto : Onto sys lattice depth u from v to
 
--- A path from a variable in phases: in the second a call is open. The order of calls starts anew at a variable of nobody.
+-- A path from a variable in phases: in the second a call is open. The order of calls starts anew at a variable of
+-- nobody.
 pub data Goes (sys : System) (lattice start : ℕ) : Phase → ℕ → Type 0 where
   Begins : Goes sys lattice start First start
-  Flows : (p : Phase) (u v n : ℕ) (q : Phase) → q ≡ settled (owner_of sys v) p → Goes sys lattice start p u → Stands sys lattice n (Le u v) →
+  Flows : (p : Phase) (u v n : ℕ) (q : Phase) → q ≡ settled (owner_of sys v) p → Goes sys lattice start p u
+      → Stands sys lattice n (Le u v) →
       Goes sys lattice start q v
-  Returns : (u v s n : ℕ) → Goes sys lattice start First u → Stands sys lattice n (Leave s u v) → Goes sys lattice start First v
-  Enters : (p : Phase) (u v s n : ℕ) (q : Phase) → q ≡ settled (owner_of sys v) Second → Goes sys lattice start p u → Stands sys lattice n (Enter s u v) →
+  Returns : (u v s n : ℕ) → Goes sys lattice start First u → Stands sys lattice n (Leave s u v)
+      → Goes sys lattice start First v
+  Enters : (p : Phase) (u v s n : ℕ) (q : Phase) → q ≡ settled (owner_of sys v) Second → Goes sys lattice start p u
+      → Stands sys lattice n (Enter s u v) →
       Goes sys lattice start q v
   Rounds : (p : Phase) (u a b v s g n m : ℕ) (q : Phase) → q ≡ settled (owner_of sys v) p → Goes sys lattice start p u →
       Stands sys lattice n (Enter s u a) → Matches sys lattice g a b → Stands sys lattice m (Leave s b v) → Goes sys lattice start q v
 
--- in some phase it does
+-- a path leads from one variable to another, in some phase
 abbrev pub GoesTo : System → ℕ → ℕ → ℕ → Type 0
 GoesTo sys lattice u v = (p : Phase) × Goes sys lattice u p v

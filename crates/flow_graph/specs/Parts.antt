@@ -20,14 +20,17 @@ settled (Function f) phase = phase
 -- sub-path, and a Leave of the same site.
 pub data Part (sys : System) (lattice : ℕ) (subs : List (List PathStep)) : ℕ → ℕ → List PathStep → Type 0 where
   Flow : (u v n : ℕ) → Stands sys lattice n (Le u v) → Part sys lattice subs u v (Take n 0 ∷ [])
-  Empty : (u a v s n m : ℕ) → Stands sys lattice n (Enter s u a) → Stands sys lattice m (Leave s a v) → Part sys lattice subs u v (Take n 0 ∷ Take m 0 ∷ [])
-  Full : (u a b v s n m k : ℕ) → Stands sys lattice n (Enter s u a) → look sys subs (Sub k 0) ≡ Through a b → Stands sys lattice m (Leave s b v) →
+  Empty : (u a v s n m : ℕ) → Stands sys lattice n (Enter s u a) → Stands sys lattice m (Leave s a v)
+      → Part sys lattice subs u v (Take n 0 ∷ Take m 0 ∷ [])
+  Full : (u a b v s n m k : ℕ) → Stands sys lattice n (Enter s u a) → look sys subs (Sub k 0) ≡ Through a b
+      → Stands sys lattice m (Leave s b v) →
       Part sys lattice subs u v (Take n 0 ∷ Sub k 0 ∷ Take m 0 ∷ [])
 
 -- These steps are parts inside one function.
 pub data Inside (sys : System) (lattice : ℕ) (subs : List (List PathStep)) (f : ℕ) : ℕ → ℕ → List PathStep → Type 0 where
   Done : (v : ℕ) → Inside sys lattice subs f v v []
-  More : (u x v : ℕ) (front rest : List PathStep) → Part sys lattice subs u x front → owner_of sys u ≡ Function f → owner_of sys x ≡ Function f →
+  More : (u x v : ℕ) (front rest : List PathStep) → Part sys lattice subs u x front → owner_of sys u ≡ Function f
+      → owner_of sys x ≡ Function f →
       Inside sys lattice subs f x v rest → Inside sys lattice subs f u v (front ++ rest)
 
 -- These steps are a sub-path from a variable to another: one or more parts inside one function.
@@ -45,7 +48,8 @@ pub record IsSub (sys : System) (lattice : ℕ) (subs : List (List PathStep)) (u
 -- Each of these is a sub-path, and names only earlier ones.
 pub data AreSubs (sys : System) (lattice : ℕ) : List (List PathStep) → Type 0 where
   None : AreSubs sys lattice []
-  Next : (subs : List (List PathStep)) (u v : ℕ) (steps : List PathStep) → AreSubs sys lattice subs → IsSub sys lattice subs u v steps →
+  Next : (subs : List (List PathStep)) (u v : ℕ) (steps : List PathStep) → AreSubs sys lattice subs
+      → IsSub sys lattice subs u v steps →
       AreSubs sys lattice (subs ++ steps ∷ [])
 
 -- Where steps lead to: a bound, which is their last step, or a variable.
@@ -53,7 +57,8 @@ pub data Goal : Type 0 where
   ToBound : ℕ → Goal
   ToVariable : ℕ → Goal
 
--- These steps lead on from a variable in a phase to a goal: parts, Leaves as long as no call is open, Enters, and the bound, if it
+-- These steps lead on from a variable in a phase to a goal: parts, Leaves as long as no call is open, Enters, and the
+-- bound, if it
 -- is one.
 pub data Onward (sys : System) (lattice : ℕ) (subs : List (List PathStep)) : Goal → Phase → ℕ → List PathStep → Type 0 where
   Ends : (bound : ℕ) (p : Phase) (v limit : ℕ) → Stands sys lattice bound (Bound v lattice limit) →

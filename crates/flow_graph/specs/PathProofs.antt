@@ -21,17 +21,21 @@ use Rattle.flow_graph.specs.declared.place.Place.{Place}
 use Rattle.flow_graph.specs.System.{System, owner_of}
 use Rattle.flow_graph.specs.PathRules.{begins, ends, is_unmatched_enter, is_bound, rule_at}
 
+-- the first of a list, where it has one
 abbrev pub first_of : {A : Type 0} → List A → Option A
 first_of [] = None
 first_of (x ∷ xs) = Some x
 
+-- the second of a list, where it has two
 abbrev pub second_of : {A : Type 0} → List A → Option A
 second_of [] = None
 second_of (x ∷ xs) = first_of xs
 
+-- the last of a list, where it has one
 abbrev pub last_of : {A : Type 0} → List A → Option A
 last_of xs = slice_get xs (length xs - 1)
 
+-- the line of a report at which a step stands
 abbrev pub line_of : PathStep → ℕ
 line_of (Take edge line) = line
 line_of (SubStep number line) = line
@@ -46,10 +50,12 @@ abbrev pub edge_at : System → PathStep → Seen
 edge_at sys (Take edge line) = edge_or (slice_get sys.constraints edge)
 edge_at sys (SubStep number line) = NoSub
 
+-- a sub-path that joins two variables; where one of them is not there, no sub-path
 abbrev pub through : Option ℕ → Option ℕ → Seen
 through (Some u) (Some v) = Through u v
 through _ _ = NoSub
 
+-- what is said of what a step names, where there is a step
 abbrev pub of_step : System → Option PathStep → (Seen → Option ℕ) → Option ℕ
 of_step sys (Some s) f = f (edge_at sys s)
 of_step sys None f = None
@@ -74,6 +80,7 @@ abbrev pub is_nobodys : Owner → Bool
 is_nobodys Nobody = true
 is_nobodys (Function f) = false
 
+-- whether there is a variable, and it belongs to nobody
 abbrev pub ends_with_nobody : System → Option ℕ → Bool
 ends_with_nobody sys (Some v) = is_nobodys (owner_of sys v)
 ends_with_nobody sys None = false
@@ -103,16 +110,19 @@ module _ (sys : System) (path : Path) (lattice elem : ℕ) where
   abbrev pub place : List Seen → Seen → List Seen → Place
   place before step after = place_with (in_call_at before (step ∷ after)) before step after
 
+-- the rule that fails at this line, or else what fails later
 abbrev pub fault_or : Option Why → ℕ → Option BadStep → Option BadStep
 fault_or (Some why) line rest = Some (record { line = line; why = why })
 fault_or None line rest = rest
 
+-- the first of two faults that is there
 abbrev pub or_else : Option BadStep → Option BadStep → Option BadStep
 or_else (Some b) other = Some b
 or_else None other = other
 
 -- the first step of a path that fails, of those that come behind others
-abbrev pub first_failing : System → Order → Path → ℕ → ℕ → (PathStep → Seen) → List Seen → List PathStep → Option BadStep
+abbrev pub first_failing : System → Order → Path → ℕ → ℕ → (PathStep → Seen) → List Seen → List PathStep
+    → Option BadStep
 first_failing sys order path lattice elem see before [] = None
 first_failing sys order path lattice elem see before (s ∷ steps) =
     fault_or (rule_at sys order (place sys path lattice elem before (see s) (map see steps))) (line_of s)
@@ -123,6 +133,7 @@ abbrev pub owner_at : System → Option ℕ → Owner
 owner_at sys (Some v) = owner_of sys v
 owner_at sys None = Nobody
 
+-- the owner of a sub-path: that of its first variable
 abbrev pub home_of : System → List PathStep → Owner
 home_of sys steps = owner_at sys (of_step sys (first_of steps) begins)
 
@@ -137,6 +148,7 @@ abbrev pub ends_in_bound : System → Option PathStep → Bool
 ends_in_bound sys (Some s) = is_bound (edge_at sys s)
 ends_in_bound sys None = false
 
+-- a main path that does not end in a bound fails at its end
 abbrev pub end_fault : System → List PathStep → ℕ → Option BadStep
 end_fault sys main end = if ends_in_bound sys (last_of main) then None else Some (record { line = end; why = B1 })
 
@@ -145,11 +157,13 @@ abbrev pub start_of_link : Link → ℕ × ℕ
 start_of_link (Const l e v) = (l, e)
 start_of_link _ = (0, 0)
 
+-- the lattice and the element of the constant that a step names
 abbrev pub start_of : Seen → ℕ × ℕ
 start_of (Edge c) = start_of_link c.link
 start_of _ = (0, 0)
 
--- The steps are looked at in this order: the first step of the main path, the sub-paths in order, the main path and its end.
+-- The steps are looked at in this order: the first step of the main path, the sub-paths in order, the main path and its
+-- end.
 abbrev pub main_fault : System → Order → ℕ → ℕ → List (List PathStep) → PathStep → List PathStep → ℕ → Option BadStep
 main_fault sys order lattice elem subs first main end =
     or_else (fault_or (rule_at sys order (place sys Main lattice elem [] (look sys subs first) (map (look sys subs) main))) (line_of first) None)
@@ -160,7 +174,8 @@ main_fault sys order lattice elem subs first main end =
 abbrev pub no_order : Order
 no_order = record { above = [] }
 
--- The first step that fails, with the first of its rules. Each constraint is read in the lattice of the main path's first
+-- The first step that fails, with the first of its rules. Each constraint is read in the lattice of the main path's
+-- first
 -- step. A main path without a step fails at its end before all else.
 abbrev pub first_fault : System → List Order → List (List PathStep) → List PathStep → ℕ → Option BadStep
 first_fault sys orders subs [] end = Some (record { line = end; why = B1 })

@@ -26,13 +26,15 @@ IsInLattice lattice (Bound v named e) mask = named ≡ lattice
 IsInLattice lattice (Enter s u v) mask = bit_at mask lattice ≡ 1
 IsInLattice lattice (Leave s u v) mask = bit_at mask lattice ≡ 1
 
--- what a link is not
+-- a link is no call
 abbrev pub IsNoEnter : Link → Type 0
 IsNoEnter link = (s u v : ℕ) → link ≡ Enter s u v → ⊥
 
+-- a link is no return
 abbrev pub IsNoLeave : Link → Type 0
 IsNoLeave link = (s u v : ℕ) → link ≡ Leave s u v → ⊥
 
+-- a link is no bound of this lattice
 abbrev pub IsNoBound : Link → ℕ → Type 0
 IsNoBound link lattice = (v e : ℕ) → link ≡ Bound v lattice e → ⊥
 
@@ -62,10 +64,11 @@ pub record IsWellOwned (sys : System) : Type 0 where
   pub enter : (n s u v : ℕ) → Has sys n (Enter s u v) → Calls sys s (owner_of sys u) (owner_of sys v)
   pub leave : (n s u v : ℕ) → Has sys n (Leave s u v) → Calls sys s (owner_of sys v) (owner_of sys u)
 
--- the most constraints that a system may have, and the most variables
+-- the most constraints that a system may have
 abbrev pub most_constraints : ℕ
 most_constraints = 67108864
 
+-- the most variables that a system may have
 abbrev pub most_variables : ℕ
 most_variables = 16777216
 
@@ -77,6 +80,7 @@ vars_of_link (Bound v l e) = v + 1
 vars_of_link (Enter s u v) = max (u + 1) (v + 1)
 vars_of_link (Leave s u v) = max (u + 1) (v + 1)
 
+-- one more than the highest variable number of constraints, 0 where there are none
 abbrev pub highest : List Constraint → ℕ
 highest [] = 0
 highest (c ∷ cs) = max (vars_of_link c.link) (highest cs)

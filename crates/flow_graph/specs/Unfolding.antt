@@ -17,26 +17,34 @@ abbrev pub seen_from : Owner → List ℕ → List ℕ
 seen_from Nobody sites = []
 seen_from (Function f) sites = sites
 
+-- the element of a variable in the copy that is met from a copy of a function
 abbrev pub at : System → Assignment → ℕ → List ℕ → ℕ
 at sys map v sites = map v (seen_from (owner_of sys v) sites)
 
--- The assignment is one of lattice elements, and rises along each constraint of the unfolding at a depth but the bounds.
--- A flow or a constant stands once in each copy of the function that owns one of its ends, and once where nobody owns any.
+-- The assignment is one of lattice elements, and rises along each constraint of the unfolding at a depth but the
+-- bounds.
+-- A flow or a constant stands once in each copy of the function that owns one of its ends, and once where nobody owns
+-- any.
 -- An Enter of a site leads from a copy of the site's owner to the copy with that site behind, and a Leave leads back,
--- wherever both call strings have at most as many sites as the depth. Where nobody owns the site, the outer end is there
+-- wherever both call strings have at most as many sites as the depth. Where nobody owns the site, the outer end is
+-- there
 -- once, and the inner end is in the copy whose call string is the site alone.
 pub record Rises (sys : System) (lattice : ℕ) (order : Order) (depth : ℕ) (map : Assignment) : Type 0 where
   pub elements : (v : ℕ) (sites : List ℕ) → map v sites < size order
-  pub le : (n u v : ℕ) (sites : List ℕ) → Stands sys lattice n (Le u v) → IsCopy sys depth (either (owner_of sys u) (owner_of sys v)) sites →
+  pub le : (n u v : ℕ) (sites : List ℕ) → Stands sys lattice n (Le u v)
+      → IsCopy sys depth (either (owner_of sys u) (owner_of sys v)) sites →
       leq order (at sys map u sites) (at sys map v sites) ≡ true
-  pub const : (n e v : ℕ) (sites : List ℕ) → Stands sys lattice n (Const lattice e v) → IsCopy sys depth (owner_of sys v) sites →
+  pub const : (n e v : ℕ) (sites : List ℕ) → Stands sys lattice n (Const lattice e v)
+      → IsCopy sys depth (owner_of sys v) sites →
       leq order e (at sys map v sites) ≡ true
-  pub enter : (n s u v : ℕ) (site : Site) (sites : List ℕ) → Stands sys lattice n (Enter s u v) → slice_get sys.sites s ≡ Some site →
+  pub enter : (n s u v : ℕ) (site : Site) (sites : List ℕ) → Stands sys lattice n (Enter s u v)
+      → slice_get sys.sites s ≡ Some site →
       IsCopy sys depth site.owner sites → length (s ∷ sites) ≤ depth → leq order (at sys map u sites) (at sys map v (s ∷ sites)) ≡ true
-  pub leave : (n s u v : ℕ) (site : Site) (sites : List ℕ) → Stands sys lattice n (Leave s u v) → slice_get sys.sites s ≡ Some site →
+  pub leave : (n s u v : ℕ) (site : Site) (sites : List ℕ) → Stands sys lattice n (Leave s u v)
+      → slice_get sys.sites s ≡ Some site →
       IsCopy sys depth site.owner sites → length (s ∷ sites) ≤ depth → leq order (at sys map u (s ∷ sites)) (at sys map v sites) ≡ true
 
--- it is at or below a bound in each copy
+-- the assignment is at or below a bound in each copy
 abbrev pub Keeps : System → ℕ → Order → ℕ → Assignment → ℕ → Type 0
 Keeps sys lattice order depth map n = (e v : ℕ) (sites : List ℕ) → Stands sys lattice n (Bound v lattice e) → IsCopy sys depth (owner_of sys v) sites →
     leq order (at sys map v sites) e ≡ true
@@ -79,5 +87,7 @@ pub record NamesElementsIn (sys : System) (lattice : ℕ) (order : Order) : Type
 
 -- each constant and bound names a lattice of the list and an element of it
 pub record NamesElements (sys : System) (orders : List Order) : Type 0 where
-  pub const : (n lattice e v : ℕ) → Has sys n (Const lattice e v) → (order : Order) × (slice_get orders lattice ≡ Some order) × (e < size order)
-  pub bound : (n lattice e v : ℕ) → Has sys n (Bound v lattice e) → (order : Order) × (slice_get orders lattice ≡ Some order) × (e < size order)
+  pub const : (n lattice e v : ℕ) → Has sys n (Const lattice e v)
+      → (order : Order) × (slice_get orders lattice ≡ Some order) × (e < size order)
+  pub bound : (n lattice e v : ℕ) → Has sys n (Bound v lattice e)
+      → (order : Order) × (slice_get orders lattice ≡ Some order) × (e < size order)

@@ -22,10 +22,12 @@ use Rattle.flow_graph.specs.Parts.{Onward, ToVariable, settled}
 abbrev pub IsWalk : System → ℕ → List (List PathStep) → ℕ → ℕ → List PathStep → Type 0
 IsWalk sys lattice subs from to steps = Onward sys lattice subs (ToVariable to) (settled (owner_of sys from) First) from steps
 
--- A walk stands behind a constant to its first variable, which it does not name. (Its element and its span play no part.)
+-- A walk stands behind a constant to its first variable, which it does not name. (Its element and its span play no
+-- part.)
 abbrev pub no_span : Span
 no_span = record { unit = 0; from = 0; to = 0 }
 
+-- the constant that stands before a walk
 abbrev pub constant_to : ℕ → ℕ → Constraint
 constant_to lattice from = record { link = Const lattice 0 from; lattices = 0; span = no_span }
 
@@ -45,17 +47,19 @@ abbrev pub walk_ends : System → ℕ → Option PathStep → Option ℕ
 walk_ends sys from None = Some from
 walk_ends sys from (Some s) = ends (edge_at sys s)
 
--- rule B2 at the end
+-- where a walk does not end at the variable that it should lead to, rule B2 fails at its end
 abbrev pub walk_end_fault : System → ℕ → ℕ → List PathStep → ℕ → Option BadStep
 walk_end_fault sys from to steps end = if agree (walk_ends sys from (last_of steps)) (Some to) then None else Some (record { line = end; why = B2 })
 
--- The first step that fails, with the first of its rules: of the sub-paths in order, of the walk, and of its end. Each constraint is
+-- The first step that fails, with the first of its rules: of the sub-paths in order, of the walk, and of its end. Each
+-- constraint is
 -- read in the lattice.
 abbrev pub walk_fault : System → ℕ → ℕ → ℕ → List (List PathStep) → List PathStep → ℕ → Option BadStep
 walk_fault sys lattice from to subs steps end =
     or_else (subs_fault sys no_order lattice 0 [] subs)
     (or_else (first_failing_walk sys lattice (look sys subs) (Edge (constant_to lattice from) ∷ []) steps) (walk_end_fault sys from to steps end))
 
+-- the first step of a walk that fails, or its end
 abbrev pub walk_fault_of : System → ℕ → ℕ → ℕ → Walk → Option BadStep
 walk_fault_of sys lattice from to walk = walk_fault sys lattice from to (steps_of walk.subs.items) walk.steps.items walk.end
 

@@ -1,5 +1,9 @@
 //! Constraints between qualifier variables, and what they mean: the unfolding over call strings, the assignments that
 //! meet it, paths whose calls and returns match, and when a path proof holds.
+//!
+//! Entry: `FlowGraph`; `specs/Unfolding.antt` (`IsAccepted`), `specs/PathRules.antt`. Invariant: constraints are added
+//! at the end alone, up to a most.
+//! It does not know where constraints come from. Above: the analysis, and all laws of systems.
 #![tactic(auto)]
 
 mod adjacency;

@@ -24,7 +24,8 @@ copies_stand sys lattice order reached lat names is =
 module _ (sys : System) (lattice : ℕ) (order : Order) (solution : ℕ → ℕ) (copies : Assignment) (owned : IsWellOwned sys)
     (least : IsSolution sys lattice order solution) (in_copies : IsLeastInCopies sys lattice order copies) where
   -- what reaches one copy reaches another
-  raised : (u v : ℕ) (one other : List ℕ) → ((e : ℕ) → Reaches sys lattice e u one → Reaches sys lattice e v other) → leq order (copies u one) (copies v other) ≡ true
+  raised : (u v : ℕ) (one other : List ℕ) → ((e : ℕ) → Reaches sys lattice e u one → Reaches sys lattice e v other)
+      → leq order (copies u one) (copies v other) ≡ true
   raised u v one other h = (in_copies u one).least (copies v other) (in_copies v other).element (λ e r. (in_copies v other).upper e (h e r))
 
   rising : (depth : ℕ) → Rises sys lattice order depth copies
@@ -49,7 +50,8 @@ pub kept_is_accepted : KeptIsAccepted
 kept_is_accepted sys lattice order solution copies owned ordered least in_copies keeps depth = (copies, met sys lattice order solution copies owned least in_copies ordered keeps depth)
 
 -- what leads to a variable is at or below what it can stay at
-below_stay : (sys : System) (lattice : ℕ) (order : Order) → IsWellOwned sys → IsOrder order → (e v q : ℕ) → Lead sys lattice e v → CanStay sys lattice order v q → leq order e q ≡ true
+below_stay : (sys : System) (lattice : ℕ) (order : Order) → IsWellOwned sys → IsOrder order → (e v q : ℕ)
+    → Lead sys lattice e v → CanStay sys lattice order v q → leq order e q ≡ true
 below_stay sys lattice order owned ordered e v q lead can =
     let f = leads_force sys lattice order owned ordered e v lead in
     let stays = can f.depth in

@@ -21,7 +21,8 @@ module _ (sys : System) (lattice : ℕ) (order : Order) (tests : PathTests) (own
   copies : (copies : Assignment) × IsLeastInCopies sys lattice order copies
   copies = let reached = reached_is_tested sys lattice tests.returned tests.matched exact.returned exact.matched in copies_stand sys lattice order reached.0 lat names reached.1
 
-  exceeds : (n v b : ℕ) → Stands sys lattice n (Bound v lattice b) → leq order (solution.0 v) b ≡ false → IsExceeded sys lattice order n
+  exceeds : (n v b : ℕ) → Stands sys lattice n (Bound v lattice b) → leq order (solution.0 v) b ≡ false
+      → IsExceeded sys lattice order n
   exceeds n v b st over = over_is_exceeded sys lattice order solution.0 tests.leads owned lat.ordered solution.1 exact.leads n v b st over
 
   keeps : ExceedsNone sys lattice order → KeepsBounds sys lattice order solution.0
@@ -53,7 +54,8 @@ module _ (sys : System) (lattice : ℕ) (order : Order) (tests : PathTests) (own
       }
 
   -- an element that leads to a bound and is not at or below it exceeds the bound
-  over : (n v b e : ℕ) → Stands sys lattice n (Bound v lattice b) → Lead sys lattice e v → leq order e b ≡ false → IsExceeded sys lattice order n
+  over : (n v b e : ℕ) → Stands sys lattice n (Bound v lattice b) → Lead sys lattice e v → leq order e b ≡ false
+      → IsExceeded sys lattice order n
   over n v b e st lead not_below = by_test (leq order (solution.0 v) b) refl
     where
       by_test : (t : Bool) → leq order (solution.0 v) b ≡ t → IsExceeded sys lattice order n
@@ -61,7 +63,8 @@ module _ (sys : System) (lattice : ℕ) (order : Order) (tests : PathTests) (own
       by_test true is = let below : leq order e b ≡ true = lat.ordered.through e (solution.0 v) b ((solution.1 v).upper e lead) is in absurd cc
 
   -- a bound that is at or above all that leads to it is not exceeded
-  under : (n v b : ℕ) → Stands sys lattice n (Bound v lattice b) → ((e : ℕ) → Lead sys lattice e v → leq order e b ≡ true) → IsExceeded sys lattice order n → ⊥
+  under : (n v b : ℕ) → Stands sys lattice n (Bound v lattice b)
+      → ((e : ℕ) → Lead sys lattice e v → leq order e b ≡ true) → IsExceeded sys lattice order n → ⊥
   under n v b st all exceeded =
       let below : leq order (solution.0 v) b ≡ true = (solution.1 v).least b (names.bound n v b st) all in
       let not_below : leq order (solution.0 v) b ≡ false = exceeded_is_over sys lattice order solution.0 copies.0 owned lat.ordered solution.1 copies.1 n v b st exceeded in

@@ -42,24 +42,29 @@ pub edge_same : (sys : System) (s : PathStep) → edge_at sys (without_line s) �
 edge_same sys (Take n line) = refl
 edge_same sys (SubStep n line) = refl
 
-step_same : (sys : System) (o : Option PathStep) (f : Seen → Option ℕ) → of_step sys (option_map without_line o) f ≡ of_step sys o f
+step_same : (sys : System) (o : Option PathStep) (f : Seen → Option ℕ)
+    → of_step sys (option_map without_line o) f ≡ of_step sys o f
 step_same sys (Some s) f = ap f (edge_same sys s)
 step_same sys None f = refl
 
-first_same : (sys : System) (steps : List PathStep) (f : Seen → Option ℕ) → of_step sys (first_of (without_lines steps)) f ≡ of_step sys (first_of steps) f
+first_same : (sys : System) (steps : List PathStep) (f : Seen → Option ℕ)
+    → of_step sys (first_of (without_lines steps)) f ≡ of_step sys (first_of steps) f
 first_same sys steps f = ap (λ o. of_step sys o f) (first_map without_line steps) ∙ step_same sys (first_of steps) f
 
-last_same : (sys : System) (steps : List PathStep) (f : Seen → Option ℕ) → of_step sys (last_of (without_lines steps)) f ≡ of_step sys (last_of steps) f
+last_same : (sys : System) (steps : List PathStep) (f : Seen → Option ℕ)
+    → of_step sys (last_of (without_lines steps)) f ≡ of_step sys (last_of steps) f
 last_same sys steps f = ap (λ o. of_step sys o f) (last_map without_line steps) ∙ step_same sys (last_of steps) f
 
-pub span_same : (sys : System) (steps : List PathStep) → span_of sys (Some (without_lines steps)) ≡ span_of sys (Some steps)
+pub span_same : (sys : System) (steps : List PathStep)
+    → span_of sys (Some (without_lines steps)) ≡ span_of sys (Some steps)
 span_same sys steps = ap (λ x. through x (of_step sys (last_of (without_lines steps)) ends)) (first_same sys steps begins) ∙ ap (through (of_step sys (first_of steps) begins)) (last_same sys steps ends)
 
 span_of_same : (sys : System) (o : Option (List PathStep)) → span_of sys (option_map without_lines o) ≡ span_of sys o
 span_of_same sys (Some steps) = span_same sys steps
 span_of_same sys None = refl
 
-pub look_same : (sys : System) (subs : List (List PathStep)) (s : PathStep) → look sys (map without_lines subs) (without_line s) ≡ look sys subs s
+pub look_same : (sys : System) (subs : List (List PathStep)) (s : PathStep)
+    → look sys (map without_lines subs) (without_line s) ≡ look sys subs s
 look_same sys subs (Take n line) = refl
 look_same sys subs (SubStep n line) =
     ap (λ x. if n == 0 then NoSub else x) (ap (span_of sys) (map_get without_lines subs (n - 1)) ∙ span_of_same sys (slice_get subs (n - 1)))
@@ -68,7 +73,8 @@ home_same : (sys : System) (steps : List PathStep) → home_of sys (without_line
 home_same sys steps = ap (owner_at sys) (first_same sys steps begins)
 
 module _ (sys : System) (order : Order) (lattice elem : ℕ) where
-  seen_same : (subs : List (List PathStep)) (steps : List PathStep) → map (look sys (map without_lines subs)) (without_lines steps) ≡ map (look sys subs) steps
+  seen_same : (subs : List (List PathStep)) (steps : List PathStep)
+      → map (look sys (map without_lines subs)) (without_lines steps) ≡ map (look sys subs) steps
   seen_same subs [] = refl
   seen_same subs (s ∷ steps) = ap (λ x. x ∷ map (look sys (map without_lines subs)) (without_lines steps)) (look_same sys subs s) ∙ ap (λ xs. look sys subs s ∷ xs) (seen_same subs steps)
 
@@ -76,7 +82,8 @@ module _ (sys : System) (order : Order) (lattice elem : ℕ) where
   abbrev fails_at : Path → List Seen → Seen → List Seen → Option Why
   fails_at path before step after = rule_at sys order (place sys path lattice elem before step after)
 
-  pub both_pass : (why : Option Why) (line : ℕ) (rest : Option BadStep) → why ≡ None → rest ≡ None → fault_or why line rest ≡ None
+  pub both_pass : (why : Option Why) (line : ℕ) (rest : Option BadStep) → why ≡ None → rest ≡ None
+      → fault_or why line rest ≡ None
   both_pass why line rest first second = ap (λ w. fault_or w line rest) first ∙ second
 
   pub rule_same : (subs : List (List PathStep)) (path : Path) (before : List Seen) (s : PathStep) (steps : List PathStep) →
@@ -95,7 +102,8 @@ module _ (sys : System) (order : Order) (lattice elem : ℕ) where
       both_pass _ (line_of s) _ (sym (rule_same subs path before s steps) ∙ parts.0)
       (failing_same subs path (look sys subs s ∷ before) steps (subst Rest (look_same sys subs s) parts.1))
 
-  pub subs_same : (earlier subs : List (List PathStep)) → subs_fault sys order lattice elem (map without_lines earlier) (map without_lines subs) ≡ None →
+  pub subs_same : (earlier subs : List (List PathStep))
+      → subs_fault sys order lattice elem (map without_lines earlier) (map without_lines subs) ≡ None →
       subs_fault sys order lattice elem earlier subs ≡ None
   subs_same earlier [] e = refl
   subs_same earlier (s ∷ subs) e =

@@ -34,7 +34,8 @@ module _ (sys : System) (orders : List Order) (subs : List (List PathStep)) (fir
   Formed lattice = LeadsOver sys lattice (order_at lattice) (map without_lines subs) (without_lines (first ∷ main))
 
   -- the first step is a constant
-  const_first : (lattice elem : ℕ) (x : Seen) → edge_at sys first ≡ x → main_fault sys (order_at lattice) lattice elem subs first main end ≡ None → is_const x ≡ true
+  const_first : (lattice elem : ℕ) (x : Seen) → edge_at sys first ≡ x
+      → main_fault sys (order_at lattice) lattice elem subs first main end ≡ None → is_const x ≡ true
   const_first lattice elem x is e =
       let head = nothing _ _ e in
       let k = clear sys (order_at lattice) _ (no_fault _ (line_of first) None head.0).0 in
@@ -81,7 +82,8 @@ module _ (sys : System) (orders : List Order) (subs : List (List PathStep)) (mai
   by_const (Take n line) l e v m p is h = by_number sys orders subs main end n line l e v m p is h
   by_const (SubStep n line) l e v m p is h = absurd cc
 
-  not_const : (first : PathStep) (x : Seen) → is_const x ≡ false → edge_at sys first ≡ x → main_fault sys (order_at sys orders subs first main end 0) 0 0 subs first main end ≡ None → ⊥
+  not_const : (first : PathStep) (x : Seen) → is_const x ≡ false → edge_at sys first ≡ x
+      → main_fault sys (order_at sys orders subs first main end 0) 0 0 subs first main end ≡ None → ⊥
   not_const first x other is h = let clash : false ≡ true = sym other ∙ const_first sys orders subs first main end 0 0 x is h in cc
 
   by_link : (first : PathStep) (l : Link) (m : ℕ) (p : Span) → edge_at sys first ≡ edge l m p →
@@ -101,7 +103,8 @@ module _ (sys : System) (orders : List Order) (subs : List (List PathStep)) (mai
   by_start first NoSub is h = absurd (not_const first _ refl is h)
   by_start first NoEdge is h = absurd (not_const first _ refl is h)
 
-formed : (sys : System) (orders : List Order) (subs : List (List PathStep)) (main : List PathStep) (end : ℕ) → first_fault sys orders subs main end ≡ None →
+formed : (sys : System) (orders : List Order) (subs : List (List PathStep)) (main : List PathStep) (end : ℕ)
+    → first_fault sys orders subs main end ≡ None →
     (lattice : ℕ) × LeadsOver sys lattice (unwrap_or (slice_get orders lattice) no_order) (map without_lines subs) (without_lines main)
 formed sys orders subs [] end e = absurd cc
 formed sys orders subs (first ∷ main) end e = by_start sys orders subs main end first (edge_at sys first) refl e

@@ -16,13 +16,15 @@ use Rattle.flow_laws.proofs.Owners.{seen_is, seen_twice, seen_within, copy_on, f
 
 module _ (sys : System) (lattice : ℕ) (order : Order) (owned : IsWellOwned sys) (ordered : IsOrder order) where
   -- a call leads on from each copy of the variable outside, and a return leads back into each
-  pub enters : (depth : ℕ) (map : Assignment) (n s u v : ℕ) (sites : List ℕ) → Rises sys lattice order depth map → Stands sys lattice n (Enter s u v) → IsCopy sys depth (owner_of sys u) sites →
+  pub enters : (depth : ℕ) (map : Assignment) (n s u v : ℕ) (sites : List ℕ) → Rises sys lattice order depth map
+      → Stands sys lattice n (Enter s u v) → IsCopy sys depth (owner_of sys u) sites →
       length (s ∷ sites) ≤ depth → leq order (at sys map u sites) (at sys map v (s ∷ sites)) ≡ true
   enters depth map n s u v sites rises st copy fits =
       let call = entering sys lattice owned n s u v st in
       rises.enter n s u v call.it sites st call.there (subst (λ o. IsCopy sys depth o sites) call.outer_is copy) fits
 
-  pub leaves : (depth : ℕ) (map : Assignment) (n s u v : ℕ) (sites : List ℕ) → Rises sys lattice order depth map → Stands sys lattice n (Leave s u v) → IsCopy sys depth (owner_of sys v) sites →
+  pub leaves : (depth : ℕ) (map : Assignment) (n s u v : ℕ) (sites : List ℕ) → Rises sys lattice order depth map
+      → Stands sys lattice n (Leave s u v) → IsCopy sys depth (owner_of sys v) sites →
       length (s ∷ sites) ≤ depth → leq order (at sys map u (s ∷ sites)) (at sys map v sites) ≡ true
   leaves depth map n s u v sites rises st copy fits =
       let call = leaving sys lattice owned n s u v st in
@@ -34,7 +36,8 @@ module _ (sys : System) (lattice : ℕ) (order : Order) (owned : IsWellOwned sys
       leq order (at sys map u sites) (at sys map v sites) ≡ true
 
   -- a group raises what stands outside it
-  pub group_raises : (n m s u a b v room : ℕ) → Stands sys lattice n (Enter s u a) → Raises a b room → Stands sys lattice m (Leave s b v) → Raises u v (room + 1)
+  pub group_raises : (n m s u a b v room : ℕ) → Stands sys lattice n (Enter s u a) → Raises a b room
+      → Stands sys lattice m (Leave s b v) → Raises u v (room + 1)
   group_raises n m s u a b v room st inside st2 depth map sites rises copy fits =
       let deeper : IsCopy sys depth (owner_of sys a) (s ∷ sites) = copy_on sys depth (owner_of sys u) (owner_of sys a) s sites copy (entering sys lattice owned n s u a st) (omega arith) in
       let home : IsCopy sys depth (owner_of sys v) sites = subst (λ o. IsCopy sys depth o sites) (same_outer sys lattice owned n m s u a b v st st2) copy in
@@ -52,7 +55,8 @@ module _ (sys : System) (lattice : ℕ) (order : Order) (owned : IsWellOwned sys
         (raises f u x m depth map sites rises copy (omega arith))
         (part_raises f x v p (end_owner sys lattice f u x m) depth map sites rises (subst (λ o. IsCopy sys depth o sites) same copy) (omega arith))
 
-    part_raises : (f x v : ℕ) (p : Part sys lattice f x v) → owner_of sys x ≡ Function f → Raises x v (depth_of_part sys lattice f x v p)
+    part_raises : (f x v : ℕ) (p : Part sys lattice f x v) → owner_of sys x ≡ Function f
+        → Raises x v (depth_of_part sys lattice f x v p)
     part_raises f x v (flow _ _ _ n st is) own depth map sites rises copy fits =
         rises.le n x v sites st (subst (λ o. IsCopy sys depth (either o (owner_of sys v)) sites) (sym own) (subst (λ o. IsCopy sys depth o sites) own copy))
     part_raises f x v (group _ _ a b _ s g n m st q st2 is) own depth map sites rises copy fits =
@@ -174,7 +178,8 @@ paths_refute sys lattice order owned ordered e v n b lead stands over =
 
 -- at the depth of the path
 pub refuted_at : (sys : System) (lattice : ℕ) (order : Order) (owned : IsWellOwned sys) (ordered : IsOrder order) (e v n b : ℕ) (lead : Lead sys lattice e v) (stands : Stands sys lattice n (Bound v lattice b))
-    (over : leq order e b ≡ false) → (paths_refute sys lattice order owned ordered e v n b lead stands over).depth ≡ depth_of sys lattice e v lead
+    (over : leq order e b ≡ false)
+    → (paths_refute sys lattice order owned ordered e v n b lead stands over).depth ≡ depth_of sys lattice e v lead
 unfolding paths_refute leads_force
 refuted_at sys lattice order owned ordered e v n b (inl p) stands over = refl
 refuted_at sys lattice order owned ordered e v n b (inr c) stands over = refl

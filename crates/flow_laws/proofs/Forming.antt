@@ -53,7 +53,8 @@ module _ (sys : System) (order : Order) (lattice elem : ℕ) (named : List (List
   onward c d u v rest steps goes (bound, x, limit, st, over, on) =
       (bound, x, limit, st, over, goes bound (subst (λ p. Onward sys lattice named (ToBound bound) p v rest) (sym (settled_is (owner_of sys v) c)) on))
 
-  main_empty : (c : Bool) (u a v s n m : ℕ) (rest : List PathStep) → Stands sys lattice n (Enter s u a) → Stands sys lattice m (Leave s a v) → (o : Owner) → owner_of sys a ≡ o →
+  main_empty : (c : Bool) (u a v s n m : ℕ) (rest : List PathStep) → Stands sys lattice n (Enter s u a)
+      → Stands sys lattice m (Leave s a v) → (o : Owner) → owner_of sys a ≡ o →
       MainOn (settle sys v (not (is_nobodys o) && c)) v rest → MainOn c u (Take n 0 ∷ Take m 0 ∷ rest)
   main_empty c u a v s n m rest st ts Nobody is r =
       onward false c u v rest (Take n 0 ∷ Take m 0 ∷ rest)
@@ -95,12 +96,14 @@ module _ (sys : System) (order : Order) (lattice elem : ℕ) (named : List (List
     bound = λ main c v b n st over. no_main main;
   }
 
-  inside_sub : (f u w : ℕ) (steps : List PathStep) → Inside sys lattice named f u w steps → (s : PathStep) (rest : List PathStep) → steps ≡ s ∷ rest → IsSub sys lattice named u w steps
+  inside_sub : (f u w : ℕ) (steps : List PathStep) → Inside sys lattice named f u w steps
+      → (s : PathStep) (rest : List PathStep) → steps ≡ s ∷ rest → IsSub sys lattice named u w steps
   inside_sub f u _ _ (Done _) s rest is = absurd cc
   inside_sub f u w _ (More _ x _ front more part from to on) s rest is =
       record { function = f; next = x; front = front; rest = more; part = part; from_is = from; next_is = to; more = on; steps_are = refl }
 
-  inside_owner : (f u w : ℕ) (steps : List PathStep) → Inside sys lattice named f u w steps → owner_of sys u ≡ Function f → owner_of sys w ≡ Function f
+  inside_owner : (f u w : ℕ) (steps : List PathStep) → Inside sys lattice named f u w steps
+      → owner_of sys u ≡ Function f → owner_of sys w ≡ Function f
   inside_owner f u _ _ (Done _) is = is
   inside_owner f u w _ (More _ x _ front more part from to on) is = inside_owner f x w more on to
 
@@ -108,7 +111,8 @@ module _ (sys : System) (order : Order) (lattice elem : ℕ) (named : List (List
     abbrev Passes : Owner → List PathStep → Type 0
     Passes home steps = first_failing sys order (Sub home) lattice elem (look sys subs) [] steps ≡ None
 
-    sub_from : (u : ℕ) (s : PathStep) (steps : List PathStep) → begins (look sys subs s) ≡ Some u → (o : Owner) → owner_of sys u ≡ o → Passes o (s ∷ steps) →
+    sub_from : (u : ℕ) (s : PathStep) (steps : List PathStep) → begins (look sys subs s) ≡ Some u → (o : Owner)
+        → owner_of sys u ≡ o → Passes o (s ∷ steps) →
         (w : ℕ) × IsSub sys lattice named u w (without_lines (s ∷ steps))
     sub_from u s steps first Nobody is e = absurd (nobody_fails sys order lattice elem _ _ (clear sys order _ (no_fault _ (line_of s) _ e).0))
     sub_from u s steps first (Function f) is e =
@@ -116,7 +120,8 @@ module _ (sys : System) (order : Order) (lattice elem : ℕ) (named : List (List
         let on = parsed sys order lattice elem (Sub (Function f)) named (SubOn f) (sub_builds f) (look sys subs) names [] (s ∷ steps) false u [] begun e (λ c v unbound no_sub. (v, Done v)) in
         (on.0, inside_sub f u on.0 (without_lines (s ∷ steps)) on.1 (without_line s) (without_lines steps) refl)
 
-    sub_begins : (s : PathStep) (steps : List PathStep) (b : Option ℕ) → of_step sys (first_of (s ∷ steps)) begins ≡ b → Passes (home_of sys (s ∷ steps)) (s ∷ steps) →
+    sub_begins : (s : PathStep) (steps : List PathStep) (b : Option ℕ) → of_step sys (first_of (s ∷ steps)) begins ≡ b
+        → Passes (home_of sys (s ∷ steps)) (s ∷ steps) →
         (u : ℕ) × (w : ℕ) × IsSub sys lattice named u w (without_lines (s ∷ steps))
     sub_begins s steps None is e =
         let home : home_of sys (s ∷ steps) ≡ Nobody = ap (owner_at sys) is in
@@ -135,19 +140,22 @@ module _ (sys : System) (order : Order) (lattice elem : ℕ) where
   if_owned true x owned = tt
   if_owned false x owned = owned
 
-  pub names_of : (subs : List (List PathStep)) → Known sys lattice subs → (s : PathStep) → Names sys (map without_lines subs) s (look sys subs s)
+  pub names_of : (subs : List (List PathStep)) → Known sys lattice subs → (s : PathStep)
+      → Names sys (map without_lines subs) s (look sys subs s)
   names_of subs known (Take n line) = refl
   names_of subs known (SubStep n line) =
       (look_sub sys order lattice elem subs n line, look_same sys subs (SubStep n line), if_owned (n == 0) (span_of sys (slice_get subs (n - 1))) (known.owned (n - 1)))
 
-  owned_more : (subs : List (List PathStep)) (s : List PathStep) → ((n : ℕ) → AreOwned sys (span_of sys (slice_get subs n))) → AreOwned sys (span_of sys (Some s)) →
+  owned_more : (subs : List (List PathStep)) (s : List PathStep)
+      → ((n : ℕ) → AreOwned sys (span_of sys (slice_get subs n))) → AreOwned sys (span_of sys (Some s)) →
       (n : ℕ) → AreOwned sys (span_of sys (slice_get (subs ++ s ∷ []) n))
   owned_more [] s all owned zero = owned
   owned_more [] s all owned (suc n) = tt
   owned_more (x ∷ subs) s all owned zero = all 0
   owned_more (x ∷ subs) s all owned (suc n) = owned_more subs s (λ n. all (suc n)) owned n
 
-  known_more : (subs : List (List PathStep)) (s : List PathStep) → Known sys lattice subs → first_failing sys order (Sub (home_of sys s)) lattice elem (look sys subs) [] s ≡ None →
+  known_more : (subs : List (List PathStep)) (s : List PathStep) → Known sys lattice subs
+      → first_failing sys order (Sub (home_of sys s)) lattice elem (look sys subs) [] s ≡ None →
       Known sys lattice (subs ++ s ∷ [])
   known_more subs [] known e = record {
     owned = owned_more subs [] known.owned tt;
@@ -165,14 +173,16 @@ module _ (sys : System) (order : Order) (lattice elem : ℕ) where
         paths = subst (AreSubPaths sys lattice) (sym (map_more without_lines subs ((s ∷ steps) ∷ []))) (Stepped named sub.0 sub.1 (without_lines (s ∷ steps)) known.paths it);
       }
 
-  pub all_known : (earlier subs : List (List PathStep)) → Known sys lattice earlier → subs_fault sys order lattice elem earlier subs ≡ None → Known sys lattice (earlier ++ subs)
+  pub all_known : (earlier subs : List (List PathStep)) → Known sys lattice earlier
+      → subs_fault sys order lattice elem earlier subs ≡ None → Known sys lattice (earlier ++ subs)
   all_known earlier [] known e = rw (append-nil earlier) known
   all_known earlier (s ∷ subs) known e =
       let parts = nothing _ _ e in
       subst (Known sys lattice) (append_assoc earlier (s ∷ []) subs) (all_known (earlier ++ s ∷ []) subs (known_more earlier s known parts.0) parts.1)
 
   -- the steps behind a constant
-  pub main_on : (subs : List (List PathStep)) → Known sys lattice subs → (main : List PathStep) (l e v m : ℕ) (p : Span) →
+  pub main_on : (subs : List (List PathStep)) → Known sys lattice subs
+      → (main : List PathStep) (l e v m : ℕ) (p : Span) →
       first_failing sys order Main lattice elem (look sys subs) (edge (Const l e v) m p ∷ []) main ≡ None →
       Stops sys order lattice elem Main (map without_lines subs) (MainOn sys order lattice elem (map without_lines subs)) (main_builds sys order lattice elem (map without_lines subs)) (last_seen (look sys subs) (edge (Const l e v) m p ∷ []) main) →
       MainOn sys order lattice elem (map without_lines subs) (settle sys v false) v (without_lines main)

@@ -5,7 +5,8 @@ use Rattle.flow_laws.specs.Least.{IsLeastOver}
 use Rattle.flow_laws.proofs.Search.{last_or}
 
 -- an element at or below each of the first k
-below_first : (order : Order) → IsLattice order → (k : ℕ) → k ≤ size order → (b : ℕ) × (b < size order) × ((a : ℕ) → a < k → leq order b a ≡ true)
+below_first : (order : Order) → IsLattice order → (k : ℕ) → k ≤ size order
+    → (b : ℕ) × (b < size order) × ((a : ℕ) → a < k → leq order b a ≡ true)
 below_first order lat zero fits = (0, lat.inhabited, λ a low. absurd (omega (arith, low)))
 below_first order lat (suc k) fits =
     let before = below_first order lat k (omega (arith, fits)) in
@@ -24,7 +25,8 @@ record IsLeastOfFirst (order : Order) (set : ℕ → Bool) (k j : ℕ) : Type 0 
   upper : (a : ℕ) → a < k → set a ≡ true → leq order a j ≡ true
   least : (d : ℕ) → d < size order → ((a : ℕ) → a < k → set a ≡ true → leq order a d ≡ true) → leq order j d ≡ true
 
-without : (order : Order) (set : ℕ → Bool) (k j : ℕ) → set k ≡ false → IsLeastOfFirst order set k j → IsLeastOfFirst order set (suc k) j
+without : (order : Order) (set : ℕ → Bool) (k j : ℕ) → set k ≡ false → IsLeastOfFirst order set k j
+    → IsLeastOfFirst order set (suc k) j
 without order set k j out before = record {
   element = before.element;
   upper = λ a low is. elim (last_or a k low) [
@@ -34,7 +36,8 @@ without order set k j out before = record {
   least = λ d is above. before.least d is (λ a less in_set. above a (omega (arith, less)) in_set);
 }
 
-joined_with : (order : Order) (set : ℕ → Bool) (k j c : ℕ) → IsOrder order → set k ≡ true → IsLeastOfFirst order set k j → IsLeastUpper order j k c →
+joined_with : (order : Order) (set : ℕ → Bool) (k j c : ℕ) → IsOrder order → set k ≡ true → IsLeastOfFirst order set k j
+    → IsLeastUpper order j k c →
     IsLeastOfFirst order set (suc k) c
 joined_with order set k j c ordered is before join = record {
   element = (ordered.inside k c join.right).1;
@@ -45,20 +48,23 @@ joined_with order set k j c ordered is before join = record {
   least = λ d element above. join.least d (before.least d element (λ a less in_set. above a (omega (arith, less)) in_set)) (above k (omega arith) is);
 }
 
-least_of_first : (order : Order) → IsLattice order → (set : ℕ → Bool) (k : ℕ) → k ≤ size order → (j : ℕ) × IsLeastOfFirst order set k j
+least_of_first : (order : Order) → IsLattice order → (set : ℕ → Bool) (k : ℕ) → k ≤ size order
+    → (j : ℕ) × IsLeastOfFirst order set k j
 least_of_first order lat set zero fits =
     let low = below_first order lat (size order) (omega arith) in
     (low.0, record { element = low.1; upper = λ a less in_set. absurd (omega (arith, less)); least = λ d is above. low.2 d is })
 least_of_first order lat set (suc k) fits = by_test (set k) refl (least_of_first order lat set k (omega (arith, fits)))
   where
-    by_test : (t : Bool) → set k ≡ t → (j : ℕ) × IsLeastOfFirst order set k j → (j : ℕ) × IsLeastOfFirst order set (suc k) j
+    by_test : (t : Bool) → set k ≡ t → (j : ℕ) × IsLeastOfFirst order set k j
+        → (j : ℕ) × IsLeastOfFirst order set (suc k) j
     by_test false out before = (before.0, without order set k before.0 out before.1)
     by_test true is before =
         let join = lat.joins before.0 k before.1.element (omega (arith, fits)) in
         (join.0, joined_with order set k before.0 join.0 lat.ordered is before.1 join.1)
 
 -- a set whose members are those of a test, and elements
-pub least_over : (order : Order) (In : ℕ → Type 0) (set : ℕ → Bool) → IsLattice order → ((e : ℕ) → In e → (set e ≡ true) × (e < size order)) → ((e : ℕ) → set e ≡ true → In e) →
+pub least_over : (order : Order) (In : ℕ → Type 0) (set : ℕ → Bool) → IsLattice order
+    → ((e : ℕ) → In e → (set e ≡ true) × (e < size order)) → ((e : ℕ) → set e ≡ true → In e) →
     (r : ℕ) × IsLeastOver order In r
 least_over order In set lat to of =
     let first = least_of_first order lat set (size order) (omega arith) in (

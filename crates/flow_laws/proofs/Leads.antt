@@ -20,21 +20,24 @@ root sys depth (Function f) = (tt, omega arith)
 
 -- each path begins at a constant
 mutual
-  pub start_of_returning : (sys : System) (lattice e v : ℕ) → Returning sys lattice e v → (w : ℕ) × (n : ℕ) × Stands sys lattice n (Const lattice e w)
+  pub start_of_returning : (sys : System) (lattice e v : ℕ) → Returning sys lattice e v
+      → (w : ℕ) × (n : ℕ) × Stands sys lattice n (Const lattice e w)
   start_of_returning sys lattice e v (start _ n st) = (v, n, st)
   start_of_returning sys lattice e v (flows u _ n p st) = start_of_returning sys lattice e u p
   start_of_returning sys lattice e v (returns u _ s n p st) = start_of_returning sys lattice e u p
   start_of_returning sys lattice e v (grouped u a b _ s g n m p st q st2) = start_of_returning sys lattice e u p
   start_of_returning sys lattice e v (anew _ c is) = start_of_calling sys lattice e v c
 
-  pub start_of_calling : (sys : System) (lattice e v : ℕ) → Calling sys lattice e v → (w : ℕ) × (n : ℕ) × Stands sys lattice n (Const lattice e w)
+  pub start_of_calling : (sys : System) (lattice e v : ℕ) → Calling sys lattice e v
+      → (w : ℕ) × (n : ℕ) × Stands sys lattice n (Const lattice e w)
   start_of_calling sys lattice e v (calls u _ s n p st) = start_of_returning sys lattice e u p
   start_of_calling sys lattice e v (calls_on u _ s n c st) = start_of_calling sys lattice e u c
   start_of_calling sys lattice e v (flows_on u _ n c st) = start_of_calling sys lattice e u c
   start_of_calling sys lattice e v (grouped_on u a b _ s g n m c st q st2) = start_of_calling sys lattice e u c
 
 -- what leads anywhere is an element
-pub lead_element : (sys : System) (lattice : ℕ) (order : Order) → NamesElementsIn sys lattice order → (e v : ℕ) → Lead sys lattice e v → e < size order
+pub lead_element : (sys : System) (lattice : ℕ) (order : Order) → NamesElementsIn sys lattice order → (e v : ℕ)
+    → Lead sys lattice e v → e < size order
 lead_element sys lattice order names e v (inl p) = let s = start_of_returning sys lattice e v p in names.const s.1 e s.0 s.2
 lead_element sys lattice order names e v (inr c) = let s = start_of_calling sys lattice e v c in names.const s.1 e s.0 s.2
 

@@ -29,10 +29,12 @@ enter_outer e = cc
 pub enter_inner : {s t u x a b : ℕ} → Enter s u a ≡ Enter t x b → a ≡ b
 enter_inner e = cc
 
-pub link_at : (sys : System) (lattice n : ℕ) (c : Constraint) (link : Link) → slice_get sys.constraints n ≡ Some c → Stands sys lattice n link → c.link ≡ link
+pub link_at : (sys : System) (lattice n : ℕ) (c : Constraint) (link : Link) → slice_get sys.constraints n ≡ Some c
+    → Stands sys lattice n link → c.link ≡ link
 link_at sys lattice n c link is st = ap (λ (c : Constraint). c.link) (some_is (sym is ∙ st.there)) ∙ st.link_is
 
-pub one_bound : (sys : System) (lattice n v b x d : ℕ) → Stands sys lattice n (Bound v lattice b) → Stands sys lattice n (Bound x lattice d) → (v ≡ x) × (b ≡ d)
+pub one_bound : (sys : System) (lattice n v b x d : ℕ) → Stands sys lattice n (Bound v lattice b)
+    → Stands sys lattice n (Bound x lattice d) → (v ≡ x) × (b ≡ d)
 one_bound sys lattice n v b x d one other =
     let same : Bound v lattice b ≡ Bound x lattice d = sym one.link_is ∙ ap (λ (c : Constraint). c.link) (some_is (sym one.there ∙ other.there)) ∙ other.link_is in
     (bound_var same, bound_elem same)

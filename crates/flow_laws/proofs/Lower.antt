@@ -6,7 +6,8 @@ use Rattle.flow_graph.specs.System.{System, owner_of}
 use Rattle.flow_graph.specs.CallStrings.{IsCopy, either}
 use Rattle.flow_laws.specs.Laws.{LowerIsMet}
 
-copy_is_deeper : (sys : System) (depth : ℕ) (owner : Owner) (sites : List ℕ) → IsCopy sys depth owner sites → IsCopy sys (depth + 1) owner sites
+copy_is_deeper : (sys : System) (depth : ℕ) (owner : Owner) (sites : List ℕ) → IsCopy sys depth owner sites
+    → IsCopy sys (depth + 1) owner sites
 copy_is_deeper sys depth Nobody sites h = h
 copy_is_deeper sys depth (Function f) sites h = (h.0, omega (arith, h.1))
 

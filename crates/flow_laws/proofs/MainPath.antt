@@ -26,14 +26,16 @@ use Rattle.flow_laws.proofs.Erasing.{map_length, last_map}
 use Rattle.flow_laws.proofs.Showing.{sub_span, path_last}
 use Rattle.flow_laws.proofs.Exact.{holds_exactly}
 
--- What leads to where the main path has come, with some of its steps left. It is no deeper than the steps of the sub-paths,
+-- What leads to where the main path has come, with some of its steps left. It is no deeper than the steps of the
+-- sub-paths,
 -- which are `most`, and the steps so far, and with a group of a sub-path it is not either.
 module _ (sys : System) (lattice elem most total : ℕ) where
   abbrev Led : ℕ → Bool → ℕ → Type 0
   Led left true v = (c : Calling sys lattice elem v) × (depth_calling sys lattice elem v c + left ≤ total) × (open_calls sys lattice elem v c + (most + 1) + left ≤ total)
   Led left false v = (p : Returning sys lattice elem v) × (depth_returning sys lattice elem v p + left ≤ total) × (most + 1 + left ≤ total)
 
-  either_led : (c : Bool) (v : ℕ) → Led 0 c v → (lead : Lead sys lattice elem v) × (depth_of sys lattice elem v lead ≤ total)
+  either_led : (c : Bool) (v : ℕ) → Led 0 c v
+      → (lead : Lead sys lattice elem v) × (depth_of sys lattice elem v lead ≤ total)
   either_led true v h = (inr h.0, omega (arith, h.1))
   either_led false v h = (inl h.0, omega (arith, h.1))
 
@@ -53,12 +55,14 @@ module _ (sys : System) (lattice elem most total : ℕ) where
   flow_led left true u v n h st = (flows_on u v n h.0 st, omega (arith, h.1), omega (arith, h.2))
   flow_led left false u v n h st = (flows u v n h.0 st, omega (arith, h.1), omega (arith, h.2))
 
-  group_led : (left : ℕ) (c : Bool) (u a b v s g n m : ℕ) → Led (suc left) c u → Stands sys lattice n (Enter s u a) → (q : Matches sys lattice g a b) → depth_inside sys lattice g a b q ≤ most →
+  group_led : (left : ℕ) (c : Bool) (u a b v s g n m : ℕ) → Led (suc left) c u → Stands sys lattice n (Enter s u a)
+      → (q : Matches sys lattice g a b) → depth_inside sys lattice g a b q ≤ most →
       Stands sys lattice m (Leave s b v) → Led left c v
   group_led left true u a b v s g n m h st q low st2 = (grouped_on u a b v s g n m h.0 st q st2, omega (arith, h.1, h.2, low), omega (arith, h.2))
   group_led left false u a b v s g n m h st q low st2 = (grouped u a b v s g n m h.0 st q st2, omega (arith, h.1, h.2, low), omega (arith, h.2))
 
-  call_led : (left : ℕ) (c : Bool) (u v s n : ℕ) → Led (suc left) c u → Stands sys lattice n (Enter s u v) → Led left true v
+  call_led : (left : ℕ) (c : Bool) (u v s n : ℕ) → Led (suc left) c u → Stands sys lattice n (Enter s u v)
+      → Led left true v
   call_led left true u v s n h st = (calls_on u v s n h.0 st, omega (arith, h.1), omega (arith, h.2))
   call_led left false u v s n h st = (calls u v s n h.0 st, omega (arith, h.1), omega (arith, h.2))
 
@@ -84,10 +88,12 @@ module _ (sys : System) (lattice : ℕ) (owned : IsWellOwned sys) where
   abbrev AllJoin : ℕ → List (List PathStep) → Type 0
   AllJoin most subs = (n : ℕ) → Joins most (span_of sys (slice_get subs n))
 
-  named_joins : (most : ℕ) (subs : List (List PathStep)) → AllJoin most subs → (k a b : ℕ) → look sys subs (SubStep k 0) ≡ Through a b → Joins most (Through a b)
+  named_joins : (most : ℕ) (subs : List (List PathStep)) → AllJoin most subs → (k a b : ℕ)
+      → look sys subs (SubStep k 0) ≡ Through a b → Joins most (Through a b)
   named_joins most subs all k a b is = subst (Joins most) is (if_joins most (k == 0) (span_of sys (slice_get subs (k - 1))) (all (k - 1)))
 
-  one_more : (most : ℕ) (subs : List (List PathStep)) (s : List PathStep) → AllJoin most subs → Joins most (span_of sys (Some s)) → AllJoin most (subs ++ s ∷ [])
+  one_more : (most : ℕ) (subs : List (List PathStep)) (s : List PathStep) → AllJoin most subs
+      → Joins most (span_of sys (Some s)) → AllJoin most (subs ++ s ∷ [])
   one_more most [] s all joins zero = joins
   one_more most [] s all joins (suc n) = tt
   one_more most (x ∷ subs) s all joins zero = all 0
@@ -106,10 +112,12 @@ module _ (sys : System) (lattice : ℕ) (owned : IsWellOwned sys) where
 
     -- a path inside a function with a part more
     further : (f w u x : ℕ) (front : List PathStep) → Part sys lattice subs u x front → owner_of sys x ≡ Function f →
-        (p : Matches sys lattice f w u) × (depth_inside sys lattice f w u p ≤ suc most) → (p : Matches sys lattice f w x) × (depth_inside sys lattice f w x p ≤ suc most)
+        (p : Matches sys lattice f w u) × (depth_inside sys lattice f w u p ≤ suc most)
+        → (p : Matches sys lattice f w x) × (depth_inside sys lattice f w x p ≤ suc most)
     further f w u x front part is m = let q = piece f u x front part is in (longer f w u x m.0 q.0, omega (arith, m.1, q.1))
 
-    inside_match : (f w u v : ℕ) (steps : List PathStep) → Inside sys lattice subs f u v steps → (p : Matches sys lattice f w u) × (depth_inside sys lattice f w u p ≤ suc most) →
+    inside_match : (f w u v : ℕ) (steps : List PathStep) → Inside sys lattice subs f u v steps
+        → (p : Matches sys lattice f w u) × (depth_inside sys lattice f w u p ≤ suc most) →
         (p : Matches sys lattice f w v) × (depth_inside sys lattice f w v p ≤ suc most)
     inside_match f w u _ _ (Done _) m = m
     inside_match f w u v _ (More _ x _ front rest part from to on) m = inside_match f w x v rest on (further f w u x front part to m)
@@ -120,7 +128,8 @@ module _ (sys : System) (lattice : ℕ) (owned : IsWellOwned sys) where
         let m = inside_match f u sub.next v sub.rest sub.more (further f u u sub.next sub.front sub.part sub.next_is (stay f u sub.from_is, omega arith)) in
         (f, m.0, m.1)
 
-  part_long : (subs : List (List PathStep)) (u v : ℕ) (front rest : List PathStep) → Part sys lattice subs u v front → 1 ≤ length (front ++ rest)
+  part_long : (subs : List (List PathStep)) (u v : ℕ) (front rest : List PathStep) → Part sys lattice subs u v front
+      → 1 ≤ length (front ++ rest)
   part_long subs u v _ rest (Flow _ _ n st) = omega arith
   part_long subs u v _ rest (Empty _ a _ s n m st ts) = omega arith
   part_long subs u v _ rest (Full _ a b _ s n m k st looks ts) = omega arith
@@ -157,7 +166,8 @@ module _ (sys : System) (lattice elem most total : ℕ) (owned : IsWellOwned sys
   At = Led sys lattice elem most total
 
   -- a part leads on
-  part_led : (c : Bool) (u v : ℕ) (front rest : List PathStep) → Part sys lattice subs u v front → At (length (front ++ rest)) c u → At (length rest) c v
+  part_led : (c : Bool) (u v : ℕ) (front rest : List PathStep) → Part sys lattice subs u v front
+      → At (length (front ++ rest)) c u → At (length rest) c v
   part_led c u v _ rest (Flow _ _ n st) led = flow_led sys lattice elem most total (length rest) c u v n led st
   part_led c u v _ rest (Empty _ a _ s n m st ts) led =
       let q = inner sys lattice owned most n s u a st in
@@ -175,10 +185,12 @@ module _ (sys : System) (lattice elem most total : ℕ) (owned : IsWellOwned sys
     lead : Lead sys lattice elem var
     low : depth_of sys lattice elem var lead ≤ total
 
-  settled_at : (left : ℕ) (p : Phase) (v : ℕ) → At left (is_second p) v → At left (is_second (settled (owner_of sys v) p)) v
+  settled_at : (left : ℕ) (p : Phase) (v : ℕ) → At left (is_second p) v
+      → At left (is_second (settled (owner_of sys v) p)) v
   settled_at left p v led = subst (λ c. At left c v) (sym (second_on (owner_of sys v) p)) (settle_led sys lattice elem most total left (is_second p) v led)
 
-  reached : (bound : ℕ) (p : Phase) (u : ℕ) (steps : List PathStep) → Onward sys lattice subs (ToBound bound) p u steps → At (length steps) (is_second p) u → Reached bound
+  reached : (bound : ℕ) (p : Phase) (u : ℕ) (steps : List PathStep) → Onward sys lattice subs (ToBound bound) p u steps
+      → At (length steps) (is_second p) u → Reached bound
   reached bound p u _ (Ends _ _ _ limit st) led =
       let end = either_led sys lattice elem most total (is_second p) u (later_led sys lattice elem most total 0 (is_second p) u led) in
       record { var = u; limit = limit; stands = st; lead = end.0; low = end.1 }
@@ -196,7 +208,8 @@ path_reaches sys lattice elem bound most owned subs all steps path =
     reached sys lattice elem most (length steps + most) owned subs all bound (settled (owner_of sys path.from) First) path.from path.rest path.onward
     (settled_at sys lattice elem most (length steps + most) owned subs all (length path.rest) First path.from (start path.from path.start path.constant, omega (arith, count), omega (arith, count)))
 
-taken_last : (bound : ℕ) (o : Option PathStep) → option_map without_line o ≡ Some (Take bound 0) → (line : ℕ) × (o ≡ Some (Take bound line))
+taken_last : (bound : ℕ) (o : Option PathStep) → option_map without_line o ≡ Some (Take bound 0)
+    → (line : ℕ) × (o ≡ Some (Take bound line))
 taken_last bound (Some (Take n line)) e = (line, let same : n ≡ bound = cc in ap (λ n. Some (Take n line)) same)
 taken_last bound (Some (SubStep n line)) e = absurd cc
 taken_last bound None e = absurd cc
@@ -211,7 +224,8 @@ record LeadsWithin (sys : System) (orders : List Order) (main : List PathStep) (
   low : depth_of sys leads.lattice leads.element leads.var leads.lead ≤ total
 
 -- how deep the path leads
-leads_within : (sys : System) (orders : List Order) (proof : PathProof) → IsWellOwned sys → NamesElements sys orders → Holds sys orders proof → LeadsWithin sys orders proof.main.items (steps_in_proof proof)
+leads_within : (sys : System) (orders : List Order) (proof : PathProof) → IsWellOwned sys → NamesElements sys orders
+    → Holds sys orders proof → LeadsWithin sys orders proof.main.items (steps_in_proof proof)
 leads_within sys orders proof owned names holds =
     let shows = (holds_exactly sys orders proof names).0 holds in
     let shown = shows.shown in

@@ -17,7 +17,8 @@ site_is : {x y : Site} → Some x ≡ Some y → x ≡ y
 site_is e = cc
 
 -- what is seen in a copy of the variable is that copy
-pub seen_is : (sys : System) (depth : ℕ) (owner : Owner) (sites : List ℕ) → IsCopy sys depth owner sites → seen_from owner sites ≡ sites
+pub seen_is : (sys : System) (depth : ℕ) (owner : Owner) (sites : List ℕ) → IsCopy sys depth owner sites
+    → seen_from owner sites ≡ sites
 seen_is sys depth Nobody sites h = sym h
 seen_is sys depth (Function f) sites h = refl
 
@@ -29,16 +30,19 @@ pub seen_within : (owner : Owner) (sites : List ℕ) → length (seen_from owner
 seen_within Nobody sites = omega arith
 seen_within (Function f) sites = omega arith
 
-pub string_of : (sys : System) (depth : ℕ) (owner : Owner) (sites : List ℕ) → IsCopy sys depth owner sites → IsCallString sys owner sites
+pub string_of : (sys : System) (depth : ℕ) (owner : Owner) (sites : List ℕ) → IsCopy sys depth owner sites
+    → IsCallString sys owner sites
 string_of sys depth Nobody sites h = subst (IsCallString sys Nobody) (sym h) tt
 string_of sys depth (Function f) sites h = h.0
 
 -- a call string with one more site
-string_on : (sys : System) (s : ℕ) (outer inner : Owner) (sites : List ℕ) → IsCallString sys outer sites → Calls sys s outer inner → IsCallString sys inner (s ∷ sites)
+string_on : (sys : System) (s : ℕ) (outer inner : Owner) (sites : List ℕ) → IsCallString sys outer sites
+    → Calls sys s outer inner → IsCallString sys inner (s ∷ sites)
 string_on sys s outer inner [] h call = (outer, call)
 string_on sys s outer inner (t ∷ sites) h call = (outer, call, h)
 
-pub copy_on : (sys : System) (depth : ℕ) (outer inner : Owner) (s : ℕ) (sites : List ℕ) → IsCopy sys depth outer sites → Calls sys s outer inner → length sites + 1 ≤ depth →
+pub copy_on : (sys : System) (depth : ℕ) (outer inner : Owner) (s : ℕ) (sites : List ℕ) → IsCopy sys depth outer sites
+    → Calls sys s outer inner → length sites + 1 ≤ depth →
     IsCopy sys depth inner (s ∷ sites)
 copy_on sys depth outer inner s sites copy call fits =
     let string = string_on sys s outer (Function call.it.target) sites (string_of sys depth outer sites copy) (subst (Calls sys s outer) call.inner_is call) in
@@ -49,7 +53,8 @@ abbrev pub SameFunction : Owner → Owner → Type 0
 SameFunction one other = (f g : ℕ) → one ≡ Function f → other ≡ Function g → f ≡ g
 
 -- to each copy of the variable behind a flow leads a copy of the one before
-pub flow_to : (sys : System) (depth : ℕ) (one other : Owner) (sites : List ℕ) → SameFunction one other → IsCopy sys depth other sites →
+pub flow_to : (sys : System) (depth : ℕ) (one other : Owner) (sites : List ℕ) → SameFunction one other
+    → IsCopy sys depth other sites →
     (from : List ℕ) × IsCopy sys depth (either one other) from × IsCopy sys depth one (seen_from one from) × (seen_from other from ≡ seen_from other sites)
     × (length (seen_from one from) ≤ length sites)
 flow_to sys depth Nobody Nobody sites same copy = (sites, copy, refl, refl, omega arith)
@@ -60,7 +65,8 @@ flow_to sys depth (Function f) (Function g) sites same copy =
     (sites, own, own, refl, omega arith)
 
 -- and from each copy of the one before leads one to a copy of the variable behind
-pub flow_from : (sys : System) (depth : ℕ) (one other : Owner) (sites : List ℕ) → SameFunction one other → IsCopy sys depth one sites →
+pub flow_from : (sys : System) (depth : ℕ) (one other : Owner) (sites : List ℕ) → SameFunction one other
+    → IsCopy sys depth one sites →
     IsCopy sys depth other (seen_from other sites) × IsCopy sys depth (either one other) sites
 flow_from sys depth Nobody Nobody sites same copy = (refl, copy)
 flow_from sys depth Nobody (Function g) sites same copy =
@@ -93,7 +99,8 @@ module _ (sys : System) (lattice : ℕ) (owned : IsWellOwned sys) where
   same_function n u v st f g p q = owned.le n u v f g (has_of sys lattice n (Le u v) st) p q
 
   -- both ends outside a group have the owner of its site
-  pub same_outer : (n m s u a b v : ℕ) → Stands sys lattice n (Enter s u a) → Stands sys lattice m (Leave s b v) → owner_of sys u ≡ owner_of sys v
+  pub same_outer : (n m s u a b v : ℕ) → Stands sys lattice n (Enter s u a) → Stands sys lattice m (Leave s b v)
+      → owner_of sys u ≡ owner_of sys v
   same_outer n m s u a b v st st2 =
       let one = entering n s u a st in
       let other = leaving m s b v st2 in

@@ -52,28 +52,38 @@ no_site one next none x is = (rw none (and_false (is_sub x)), rw none refl)
 
 -- `R c v steps` says that steps go on from a variable, with a call open or not. It is so built from parts.
 pub record Builds (sys : System) (order : Order) (lattice elem : ℕ) (path : Path) (named : List (List PathStep)) (R : Bool → ℕ → List PathStep → Type 0) : Type 0 where
-  pub flow : (c : Bool) (u v n : ℕ) (rest : List PathStep) → Stands sys lattice n (Le u v) → is_foreign_link sys path (Le u v) ≡ false → R (settle sys v c) v rest →
+  pub flow : (c : Bool) (u v n : ℕ) (rest : List PathStep) → Stands sys lattice n (Le u v)
+      → is_foreign_link sys path (Le u v) ≡ false → R (settle sys v c) v rest →
       R c u (Take n 0 ∷ rest)
-  pub empty : (c : Bool) (u a v s n m : ℕ) (rest : List PathStep) → Stands sys lattice n (Enter s u a) → Stands sys lattice m (Leave s a v) → lacks sys path u ≡ false →
+  pub empty : (c : Bool) (u a v s n m : ℕ) (rest : List PathStep) → Stands sys lattice n (Enter s u a)
+      → Stands sys lattice m (Leave s a v) → lacks sys path u ≡ false →
       lacks sys path v ≡ false → R (settle sys v (settle sys a c)) v rest → R c u (Take n 0 ∷ Take m 0 ∷ rest)
-  pub full : (c : Bool) (u a b v s n k m : ℕ) (rest : List PathStep) → Stands sys lattice n (Enter s u a) → look sys named (SubStep k 0) ≡ Through a b →
+  pub full : (c : Bool) (u a b v s n k m : ℕ) (rest : List PathStep) → Stands sys lattice n (Enter s u a)
+      → look sys named (SubStep k 0) ≡ Through a b →
       Stands sys lattice m (Leave s b v) → lacks sys path u ≡ false → lacks sys path v ≡ false → R (settle sys v c) v rest →
       R c u (Take n 0 ∷ SubStep k 0 ∷ Take m 0 ∷ rest)
-  pub call : is_main path ≡ true → (c : Bool) (u v s n : ℕ) (rest : List PathStep) → Stands sys lattice n (Enter s u v) → R (settle sys v true) v rest → R c u (Take n 0 ∷ rest)
-  pub back : is_main path ≡ true → (u v s n : ℕ) (rest : List PathStep) → Stands sys lattice n (Leave s u v) → R (settle sys v false) v rest → R false u (Take n 0 ∷ rest)
-  pub bound : is_main path ≡ true → (c : Bool) (v b n : ℕ) → Stands sys lattice n (Bound v lattice b) → leq order elem b ≡ false → R c v (Take n 0 ∷ [])
+  pub call : is_main path ≡ true → (c : Bool) (u v s n : ℕ) (rest : List PathStep) → Stands sys lattice n (Enter s u v)
+      → R (settle sys v true) v rest → R c u (Take n 0 ∷ rest)
+  pub back : is_main path ≡ true → (u v s n : ℕ) (rest : List PathStep) → Stands sys lattice n (Leave s u v)
+      → R (settle sys v false) v rest → R false u (Take n 0 ∷ rest)
+  pub bound : is_main path ≡ true → (c : Bool) (v b n : ℕ) → Stands sys lattice n (Bound v lattice b)
+      → leq order elem b ≡ false → R c v (Take n 0 ∷ [])
 
 module _ (sys : System) (order : Order) (lattice elem : ℕ) (path : Path) (named : List (List PathStep)) (R : Bool → ℕ → List PathStep → Type 0)
     (builds : Builds sys order lattice elem path named R) where
   -- The steps of a part that has begun, at the variable where it did, and what is known before a step to come.
   pub data Begun (c : Bool) (two one next : Option Seen) : Bool → ℕ → List PathStep → Type 0 where
-    between : (v : ℕ) → (is_main path && not (is_there one)) ≡ false → holds_of one is_bound ≡ false → NoGroup one next → holds_of one is_sub ≡ false →
+    between : (v : ℕ) → (is_main path && not (is_there one)) ≡ false → holds_of one is_bound ≡ false → NoGroup one next
+        → holds_of one is_sub ≡ false →
         (end_of one ≡ Some v) ⊎ ((x : Seen) → next ≡ Some x → begins x ≡ Some v) → Begun c two one next c v []
-    entered : (held : Bool) (x a s n k : ℕ) (p : Span) → Stands sys lattice n (Enter s x a) → lacks sys path x ≡ false → c ≡ settle sys a held →
+    entered : (held : Bool) (x a s n k : ℕ) (p : Span) → Stands sys lattice n (Enter s x a) → lacks sys path x ≡ false
+        → c ≡ settle sys a held →
         one ≡ Some (edge (Enter s x a) k p) → begins_group (edge (Enter s x a) k p) next ≡ true → Begun c two one next held x (Take n 0 ∷ [])
-    within : (held : Bool) (x a b s n k j : ℕ) (p : Span) → Stands sys lattice n (Enter s x a) → lacks sys path x ≡ false → c ≡ held → two ≡ Some (edge (Enter s x a) k p) →
+    within : (held : Bool) (x a b s n k j : ℕ) (p : Span) → Stands sys lattice n (Enter s x a)
+        → lacks sys path x ≡ false → c ≡ held → two ≡ Some (edge (Enter s x a) k p) →
         one ≡ Some (Through a b) → look sys named (SubStep j 0) ≡ Through a b → is_there next ≡ true → Begun c two one next held x (Take n 0 ∷ SubStep j 0 ∷ [])
-    ended : (held : Bool) (v b n k : ℕ) (p : Span) → Stands sys lattice n (Bound v lattice b) → one ≡ Some (edge (Bound v lattice b) k p) → leq order elem b ≡ false →
+    ended : (held : Bool) (v b n k : ℕ) (p : Span) → Stands sys lattice n (Bound v lattice b)
+        → one ≡ Some (edge (Bound v lattice b) k p) → leq order elem b ≡ false →
         is_main path ≡ true → Begun c two one next held v (Take n 0 ∷ [])
 
   -- one step more, of a part that goes on or a next one
@@ -96,7 +106,8 @@ module _ (sys : System) (order : Order) (lattice elem : ℕ) (path : Path) (name
     goes = λ rest r. goes rest (subst (λ c. R c v rest) is r);
   }
 
-  at : (l : Link) (k : ℕ) (p : Span) (n : ℕ) → edge_or (slice_get sys.constraints n) ≡ edge l k p → is_outside lattice (edge l k p) ≡ false → Stands sys lattice n l
+  at : (l : Link) (k : ℕ) (p : Span) (n : ℕ) → edge_or (slice_get sys.constraints n) ≡ edge l k p
+      → is_outside lattice (edge l k p) ≡ false → Stands sys lattice n l
   at l k p n is carried = record {
     constraint = record { link = l; lattices = k; span = p };
     there = edge_there (slice_get sys.constraints n) (record { link = l; lattices = k; span = p }) is;
@@ -119,7 +130,8 @@ module _ (sys : System) (order : Order) (lattice elem : ℕ) (path : Path) (name
       (no_site (Some (edge (Leave t u v) k p)) next refl) refl refl (goes v back clear.own)
   leaves_group x b s m line two one next c held to steps _ k p is clear site from goes = absurd cc
 
-  on_entered : (held : Bool) (x a s n j : ℕ) (q : Span) (two one next : Option Seen) (c : Bool) → Stands sys lattice n (Enter s x a) → lacks sys path x ≡ false → c ≡ settle sys a held →
+  on_entered : (held : Bool) (x a s n j : ℕ) (q : Span) (two one next : Option Seen) (c : Bool)
+      → Stands sys lattice n (Enter s x a) → lacks sys path x ≡ false → c ≡ settle sys a held →
       one ≡ Some (edge (Enter s x a) j q) → (taken : PathStep) (step : Seen) → begins_group (edge (Enter s x a) j q) (Some step) ≡ true → Names sys named taken step →
       Clear sys order (here path lattice elem two one step next c) → Turn two one step next c held x (Take n 0 ∷ []) (without_line taken)
   unfolding begins_group fails_b3
@@ -145,7 +157,8 @@ module _ (sys : System) (order : Order) (lattice elem : ℕ) (path : Path) (name
   on_entered held x a s n j q two one next c st own is_c is taken NoSub group names clear = absurd (let wrong : true ≡ false = clear.there in cc)
   on_entered held x a s n j q two one next c st own is_c is taken NoEdge group names clear = absurd (let wrong : true ≡ false = clear.known in cc)
 
-  on_within : (held : Bool) (x a b s n k j : ℕ) (q : Span) (two one next : Option Seen) (c : Bool) → Stands sys lattice n (Enter s x a) → lacks sys path x ≡ false → c ≡ held →
+  on_within : (held : Bool) (x a b s n k j : ℕ) (q : Span) (two one next : Option Seen) (c : Bool)
+      → Stands sys lattice n (Enter s x a) → lacks sys path x ≡ false → c ≡ held →
       two ≡ Some (edge (Enter s x a) k q) → one ≡ Some (Through a b) → look sys named (SubStep j 0) ≡ Through a b → (taken : PathStep) (step : Seen) → Names sys named taken step →
       Clear sys order (here path lattice elem two one step next c) → Turn two one step next c held x (Take n 0 ∷ SubStep j 0 ∷ []) (without_line taken)
   unfolding fails_b3 is_after_sub
@@ -163,7 +176,8 @@ module _ (sys : System) (order : Order) (lattice elem : ℕ) (path : Path) (name
   on_within held x a b s n k j q two one next c st own is_c is was looks taken NoEdge names clear = absurd (let wrong : true ≡ false = clear.known in cc)
 
   -- an Enter begins a group, or opens a call
-  on_enter : (two one next : Option Seen) (c : Bool) (x s u v n k : ℕ) (p : Span) → x ≡ u → holds_of one is_sub ≡ false → Stands sys lattice n (Enter s u v) →
+  on_enter : (two one next : Option Seen) (c : Bool) (x s u v n k : ℕ) (p : Span) → x ≡ u → holds_of one is_sub ≡ false
+      → Stands sys lattice n (Enter s u v) →
       Clear sys order (here path lattice elem two one (edge (Enter s u v) k p) next c) → (g : Bool) → begins_group (edge (Enter s u v) k p) next ≡ g →
       Turn two one (edge (Enter s u v) k p) next c c x [] (Take n 0)
   unfolding is_unmatched_enter
@@ -186,7 +200,8 @@ module _ (sys : System) (order : Order) (lattice elem : ℕ) (path : Path) (name
       ends_part two one (edge (Enter s u v) k p) next c c x v [] (Take n 0) (settle sys v true) opened refl no_group refl refl
       (λ rest r. subst (λ x. R c x (Take n 0 ∷ rest)) (sym first) (builds.call main c u v s n rest st r))
 
-  on_link : (two one next : Option Seen) (c : Bool) (x n : ℕ) → (is_main path && not (is_there one)) ≡ false → holds_of one is_sub ≡ false → (l : Link) (k : ℕ) (p : Span) →
+  on_link : (two one next : Option Seen) (c : Bool) (x n : ℕ) → (is_main path && not (is_there one)) ≡ false
+      → holds_of one is_sub ≡ false → (l : Link) (k : ℕ) (p : Span) →
       NoGroup one (Some (edge l k p)) → (end_of one ≡ Some x) ⊎ ((y : Seen) → Some (edge l k p) ≡ Some y → begins y ≡ Some x) →
       edge_or (slice_get sys.constraints n) ≡ edge l k p → Clear sys order (here path lattice elem two one (edge l k p) next c) →
       Turn two one (edge l k p) next c c x [] (Take n 0)
@@ -222,7 +237,8 @@ module _ (sys : System) (order : Order) (lattice elem : ℕ) (path : Path) (name
       (λ rest r. subst (λ x. R c x (Take n 0 ∷ rest)) (sym first) (subst (λ c. R c u (Take n 0 ∷ rest)) (sym closed)
       (builds.back main u v s n rest st (subst (λ c. R (settle sys v c) v rest) closed r))))
 
-  on_between : (two one next : Option Seen) (c : Bool) (x : ℕ) → (is_main path && not (is_there one)) ≡ false → (taken : PathStep) (step : Seen) → NoGroup one (Some step) →
+  on_between : (two one next : Option Seen) (c : Bool) (x : ℕ) → (is_main path && not (is_there one)) ≡ false
+      → (taken : PathStep) (step : Seen) → NoGroup one (Some step) →
       holds_of one is_sub ≡ false → (end_of one ≡ Some x) ⊎ ((y : Seen) → Some step ≡ Some y → begins y ≡ Some x) → Names sys named taken step →
       Clear sys order (here path lattice elem two one step next c) → Turn two one step next c c x [] (without_line taken)
   on_between two one next c x begun (Take n line) (Edge e) none no_sub from names clear = on_link two one next c x n begun no_sub e.link e.lattices e.span none from names clear
@@ -231,12 +247,14 @@ module _ (sys : System) (order : Order) (lattice elem : ℕ) (path : Path) (name
   on_between two one next c x begun taken NoSub none no_sub from names clear = absurd (let wrong : true ≡ false = clear.there in cc)
   on_between two one next c x begun taken NoEdge none no_sub from names clear = absurd (let wrong : true ≡ false = clear.known in cc)
 
-  after_bound : (two one next : Option Seen) (c : Bool) (step : Seen) (v b k : ℕ) (p : Span) → one ≡ Some (edge (Bound v lattice b) k p) →
+  after_bound : (two one next : Option Seen) (c : Bool) (step : Seen) (v b k : ℕ) (p : Span)
+      → one ≡ Some (edge (Bound v lattice b) k p) →
       follows_bound (here path lattice elem two one step next c) ≡ false → ⊥
   unfolding follows_bound
   after_bound two one next c step v b k p is none = let wrong : true ≡ false = rw is at none in cc
 
-  advance : (two one next : Option Seen) (c held : Bool) (x : ℕ) (steps : List PathStep) (taken : PathStep) (step : Seen) → Begun c two one (Some step) held x steps →
+  advance : (two one next : Option Seen) (c held : Bool) (x : ℕ) (steps : List PathStep) (taken : PathStep) (step : Seen)
+      → Begun c two one (Some step) held x steps →
       Names sys named taken step → rule_at sys order (here path lattice elem two one step next c) ≡ None → Turn two one step next c held x steps (without_line taken)
   advance two one next c _ _ _ taken step (between v begun unbound none no_sub from) names passed =
       on_between two one next c v begun taken step none no_sub from names (clear sys order (here path lattice elem two one step next c) passed)
@@ -251,14 +269,16 @@ module _ (sys : System) (order : Order) (lattice elem : ℕ) (path : Path) (name
   abbrev pub Stops : Option Seen → Type 0
   Stops one = (c : Bool) (v : ℕ) → holds_of one is_bound ≡ false → holds_of one is_sub ≡ false → R c v []
 
-  at_end : (two one : Option Seen) (c held : Bool) (x : ℕ) (steps : List PathStep) → Begun c two one None held x steps → Stops one → R held x (steps ++ [])
+  at_end : (two one : Option Seen) (c held : Bool) (x : ℕ) (steps : List PathStep) → Begun c two one None held x steps
+      → Stops one → R held x (steps ++ [])
   unfolding begins_group
   at_end two one c _ _ _ (between v begun unbound none no_sub from) stops = stops c v unbound no_sub
   at_end two one c _ _ _ (entered held x a s n j q st own is_c is group) stops = absurd cc
   at_end two one c _ _ _ (within held x a b s n k j q st own is_c is was looks some) stops = absurd cc
   at_end two one c _ _ _ (ended held v b n k p st is over main) stops = builds.bound main held v b n st over
 
-  pub parsed : (see : PathStep → Seen) → ((s : PathStep) → Names sys named s (see s)) → (before : List Seen) (steps : List PathStep) (held : Bool) (x : ℕ) (pending : List PathStep) →
+  pub parsed : (see : PathStep → Seen) → ((s : PathStep) → Names sys named s (see s))
+      → (before : List Seen) (steps : List PathStep) (held : Bool) (x : ℕ) (pending : List PathStep) →
       Begun (in_call_at sys path lattice elem before (map see steps)) (second_of before) (first_of before) (first_of (map see steps)) held x pending →
       first_failing sys order path lattice elem see before steps ≡ None → Stops (last_seen see before steps) → R held x (pending ++ without_lines steps)
   parsed see names before [] held x pending begun e stops = at_end _ _ _ held x pending begun stops

@@ -48,7 +48,8 @@ module _ (sys : System) (lattice : ℕ) where
     | inr c ↦ calling_on e g a v (calls_on u a s n c st) m
   ])
 
-  along : (e f x v : ℕ) (sites : List ℕ) → Reaches sys lattice e x sites → Matches sys lattice f x v → Reaches sys lattice e v sites
+  along : (e f x v : ℕ) (sites : List ℕ) → Reaches sys lattice e x sites → Matches sys lattice f x v
+      → Reaches sys lattice e v sites
   along e f x v [] p m = returning_on e f x v p m
   along e f x v (s ∷ sites) (inl p) m = inl (returning_on e f x v p m)
   along e f x v (s ∷ sites) (inr (u, a, g, n, st, r, q)) m =
@@ -56,31 +57,37 @@ module _ (sys : System) (lattice : ℕ) where
       inr (u, a, f, n, st, r, joined f a x v (subst (λ h. Matches sys lattice h a x) same q) m)
 
   -- what reaches a variable of nobody in any copy has no call open there
-  homed : (e v : ℕ) (sites : List ℕ) → owner_of sys v ≡ Nobody → Reaches sys lattice e v sites → Returning sys lattice e v
+  homed : (e v : ℕ) (sites : List ℕ) → owner_of sys v ≡ Nobody → Reaches sys lattice e v sites
+      → Returning sys lattice e v
   homed e v sites is r = elim (leads e v sites r) [ inl p ↦ p | inr c ↦ anew v c is ]
 
   -- a variable's own copy has what reaches it in another
-  pub at_home : (e v : ℕ) (sites : List ℕ) → Reaches sys lattice e v sites → Reaches sys lattice e v (seen_from (owner_of sys v) sites)
+  pub at_home : (e v : ℕ) (sites : List ℕ) → Reaches sys lattice e v sites
+      → Reaches sys lattice e v (seen_from (owner_of sys v) sites)
   at_home e v sites r = by_owner (owner_of sys v) refl
     where
       by_owner : (o : Owner) → owner_of sys v ≡ o → Reaches sys lattice e v (seen_from o sites)
       by_owner Nobody is = homed e v sites is r
       by_owner (Function f) is = r
 
-  pub from_home : (e v : ℕ) (sites : List ℕ) → Reaches sys lattice e v (seen_from (owner_of sys v) sites) → Reaches sys lattice e v sites
+  pub from_home : (e v : ℕ) (sites : List ℕ) → Reaches sys lattice e v (seen_from (owner_of sys v) sites)
+      → Reaches sys lattice e v sites
   from_home e v sites r = by_owner (owner_of sys v) refl r
     where
-      by_owner : (o : Owner) → owner_of sys v ≡ o → Reaches sys lattice e v (seen_from o sites) → Reaches sys lattice e v sites
+      by_owner : (o : Owner) → owner_of sys v ≡ o → Reaches sys lattice e v (seen_from o sites)
+          → Reaches sys lattice e v sites
       by_owner Nobody is r = anywhere e v sites r
       by_owner (Function f) is r = r
 
 module _ (sys : System) (lattice : ℕ) (owned : IsWellOwned sys) where
-  pub entered : (e s n u v : ℕ) (sites : List ℕ) → Stands sys lattice n (Enter s u v) → Reaches sys lattice e u sites → Reaches sys lattice e v (s ∷ sites)
+  pub entered : (e s n u v : ℕ) (sites : List ℕ) → Stands sys lattice n (Enter s u v) → Reaches sys lattice e u sites
+      → Reaches sys lattice e v (s ∷ sites)
   entered e s n u v sites st r =
       let call = entering sys lattice owned n s u v st in
       inr (u, v, call.it.target, n, st, r, stay call.it.target v call.inner_is)
 
-  pub flowed : (e n u v : ℕ) (sites : List ℕ) → Stands sys lattice n (Le u v) → Reaches sys lattice e u sites → Reaches sys lattice e v sites
+  pub flowed : (e n u v : ℕ) (sites : List ℕ) → Stands sys lattice n (Le u v) → Reaches sys lattice e u sites
+      → Reaches sys lattice e v sites
   flowed e n u v sites st r = by_owner (owner_of sys u) (owner_of sys v) refl refl
     where
       ended : owner_of sys v ≡ Nobody → Lead sys lattice e u → Returning sys lattice e v
@@ -94,7 +101,8 @@ module _ (sys : System) (lattice : ℕ) (owned : IsWellOwned sys) where
           let same : f ≡ g = same_function sys lattice owned n u v st f g p q in
           along sys lattice e f u v sites r (one_part sys lattice f u v p (flow f u v n st (q ∙ ap (λ f. Function f) (sym same))))
 
-  pub left : (e s m b v : ℕ) (sites : List ℕ) → Stands sys lattice m (Leave s b v) → Reaches sys lattice e b (s ∷ sites) → Reaches sys lattice e v sites
+  pub left : (e s m b v : ℕ) (sites : List ℕ) → Stands sys lattice m (Leave s b v) → Reaches sys lattice e b (s ∷ sites)
+      → Reaches sys lattice e v sites
   left e s m b v sites st2 (inl p) = anywhere sys lattice e v sites (returns b v s m p st2)
   left e s m b v sites st2 (inr (u, a, g, n, st, r, q)) = by_owner (owner_of sys u) refl
     where

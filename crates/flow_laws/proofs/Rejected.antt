@@ -25,13 +25,15 @@ module _ (sys : System) (lattice : ℕ) (order : Order) (solution : ℕ → ℕ)
   bound_tells n = by_constraint (slice_get sys.constraints n) refl
     where
       -- a bound in the lattice
-      by_order : (c : Constraint) (v b : ℕ) → slice_get sys.constraints n ≡ Some c → c.link ≡ Bound v lattice b → (t : Bool) → leq order (solution v) b ≡ t → KeepsAt n ⊎ OverAt n
+      by_order : (c : Constraint) (v b : ℕ) → slice_get sys.constraints n ≡ Some c → c.link ≡ Bound v lattice b
+          → (t : Bool) → leq order (solution v) b ≡ t → KeepsAt n ⊎ OverAt n
       by_order c v b is link_is true fits = inl (λ x d st.
           let same : Bound v lattice b ≡ Bound x lattice d = sym link_is ∙ link_at sys lattice n c (Bound x lattice d) is st in
           rw (← bound_var same, ← bound_elem same) fits)
       by_order c v b is link_is false over = inr (v, b, record { constraint = c; there = is; link_is = link_is; carried = refl }, over)
 
-      by_link : (c : Constraint) → slice_get sys.constraints n ≡ Some c → (link : Link) → c.link ≡ link → KeepsAt n ⊎ OverAt n
+      by_link : (c : Constraint) → slice_get sys.constraints n ≡ Some c → (link : Link) → c.link ≡ link
+          → KeepsAt n ⊎ OverAt n
       by_link c is (Le u v) link_is = inl (λ x d st. let wrong : Le u v ≡ Bound x lattice d = sym link_is ∙ link_at sys lattice n c (Bound x lattice d) is st in absurd cc)
       by_link c is (Const l e v) link_is = inl (λ x d st. let wrong : Const l e v ≡ Bound x lattice d = sym link_is ∙ link_at sys lattice n c (Bound x lattice d) is st in absurd cc)
       by_link c is (Enter s u v) link_is = inl (λ x d st. let wrong : Enter s u v ≡ Bound x lattice d = sym link_is ∙ link_at sys lattice n c (Bound x lattice d) is st in absurd cc)

@@ -18,7 +18,8 @@ use Rattle.flow_graph.specs.PathProofs.{fault_or, first_of, last_of, edge_at, th
 use Rattle.flow_laws.proofs.Clear.{Clear}
 use Rattle.flow_laws.proofs.Places.{not_false, edge, here}
 
-pub no_fault : (r : Option Why) (line : ℕ) (rest : Option BadStep) → fault_or r line rest ≡ None → (r ≡ None) × (rest ≡ None)
+pub no_fault : (r : Option Why) (line : ℕ) (rest : Option BadStep) → fault_or r line rest ≡ None
+    → (r ≡ None) × (rest ≡ None)
 no_fault (Some w) line rest e = absurd cc
 no_fault None line rest e = (refl, e)
 
@@ -36,21 +37,25 @@ last_on s t steps =
     let count : length (s ∷ t ∷ steps) - 1 ≡ suc (length (t ∷ steps) - 1) = omega arith in
     rw count refl
 
-last_there : (see : PathStep → Seen) (before : List Seen) (s : PathStep) (steps : List PathStep) → last_seen see before (s ∷ steps) ≡ None → ⊥
+last_there : (see : PathStep → Seen) (before : List Seen) (s : PathStep) (steps : List PathStep)
+    → last_seen see before (s ∷ steps) ≡ None → ⊥
 last_there see before s [] e = cc
 last_there see before s (t ∷ steps) e = last_there see (see s ∷ before) t steps e
 
-pub last_is : (see : PathStep → Seen) (before : List Seen) (s : PathStep) (steps : List PathStep) → last_seen see before (s ∷ steps) ≡ option_map see (last_of (s ∷ steps))
+pub last_is : (see : PathStep → Seen) (before : List Seen) (s : PathStep) (steps : List PathStep)
+    → last_seen see before (s ∷ steps) ≡ option_map see (last_of (s ∷ steps))
 last_is see before s [] = refl
 last_is see before s (t ∷ steps) = last_is see (see s ∷ before) t steps ∙ ap (option_map see) (sym (last_on s t steps))
 
 module _ (sys : System) (order : Order) (lattice elem : ℕ) where
   -- a sub-path that nobody owns fails at its first step
-  pub nobody_fails : (next : Option Seen) (step : Seen) → Clear sys order (here (Sub Nobody) lattice elem None None step next false) → ⊥
+  pub nobody_fails : (next : Option Seen) (step : Seen)
+      → Clear sys order (here (Sub Nobody) lattice elem None None step next false) → ⊥
   unfolding is_late_const is_stray_bound is_loose_sub is_after_sub
   nobody_fails next (Edge e) k = on_link e.link e.lattices e.span k
     where
-      on_link : (l : Link) (m : ℕ) (p : Span) → Clear sys order (here (Sub Nobody) lattice elem None None (edge l m p) next false) → ⊥
+      on_link : (l : Link) (m : ℕ) (p : Span)
+          → Clear sys order (here (Sub Nobody) lattice elem None None (edge l m p) next false) → ⊥
       on_link (Le u v) m p k = let wrong : true ≡ false = k.own in cc
       on_link (Const l e v) m p k = let wrong : true ≡ false = k.no_const in cc
       on_link (Bound u l b) m p k = let wrong : true ≡ false = k.no_bound in cc
@@ -74,14 +79,17 @@ module _ (sys : System) (order : Order) (lattice elem : ℕ) where
   span_sub None = refl
 
   -- a sub-path's number is looked at as one
-  pub look_sub : (earlier : List (List PathStep)) (number line : ℕ) → is_sub (look sys earlier (SubStep number line)) ≡ true
+  pub look_sub : (earlier : List (List PathStep)) (number line : ℕ)
+      → is_sub (look sys earlier (SubStep number line)) ≡ true
   look_sub earlier number line = if_sub (number == 0) _ (span_sub (slice_get earlier (number - 1)))
 
-  pub look_edge : (earlier : List (List PathStep)) (s : PathStep) → is_sub (look sys earlier s) ≡ false → look sys earlier s ≡ edge_at sys s
+  pub look_edge : (earlier : List (List PathStep)) (s : PathStep) → is_sub (look sys earlier s) ≡ false
+      → look sys earlier s ≡ edge_at sys s
   look_edge earlier (Take e line) no_sub = refl
   look_edge earlier (SubStep number line) no_sub = let both : true ≡ false = sym (look_sub earlier number line) ∙ no_sub in absurd cc
 
-pub headed : (lattice elem : ℕ) (next : Option Seen) (step : Seen) → is_headless (here Main lattice elem None None step next false) ≡ false → is_const step ≡ true
+pub headed : (lattice elem : ℕ) (next : Option Seen) (step : Seen)
+    → is_headless (here Main lattice elem None None step next false) ≡ false → is_const step ≡ true
 unfolding is_headless
 headed lattice elem next step e = not_false (is_const step) e
 
@@ -96,11 +104,13 @@ if_none true x e = refl
 if_none false x e = absurd cc
 
 module _ (sys : System) (order : Order) (lattice elem : ℕ) where
-  pub const_edge : (subs : List (List PathStep)) (s : PathStep) → is_const (look sys subs s) ≡ true → is_const (edge_at sys s) ≡ true
+  pub const_edge : (subs : List (List PathStep)) (s : PathStep) → is_const (look sys subs s) ≡ true
+      → is_const (edge_at sys s) ≡ true
   const_edge subs (Take n line) is = is
   const_edge subs (SubStep n line) is = absurd (both _ (look_sub sys order lattice elem subs n line) is)
 
-  pub ends_bound : (subs : List (List PathStep)) (o : Option PathStep) (seen : Option Seen) → seen ≡ option_map (look sys subs) o → holds_of seen is_sub ≡ false → holds_of seen is_bound ≡ false →
+  pub ends_bound : (subs : List (List PathStep)) (o : Option PathStep) (seen : Option Seen)
+      → seen ≡ option_map (look sys subs) o → holds_of seen is_sub ≡ false → holds_of seen is_bound ≡ false →
       ends_in_bound sys o ≡ true → ⊥
   ends_bound subs (Some s) seen is no_sub unbound end =
       let same = look_edge sys order lattice elem subs s (rw is at no_sub) in

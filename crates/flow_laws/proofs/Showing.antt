@@ -38,10 +38,12 @@ or_both a b first second = ap (λ x. or_else x b) first ∙ second
 
 module _ (sys : System) (lattice : ℕ) (subs : List (List PathStep)) where
   -- where a step that takes a constraint begins and ends
-  begins_at : (n : ℕ) (link : Link) (st : Stands sys lattice n link) → begins (edge_at sys (Take n 0)) ≡ begins (edge link st.constraint.lattices st.constraint.span)
+  begins_at : (n : ℕ) (link : Link) (st : Stands sys lattice n link)
+      → begins (edge_at sys (Take n 0)) ≡ begins (edge link st.constraint.lattices st.constraint.span)
   begins_at n link st = ap begins (seen sys lattice n link st)
 
-  ends_at : (n : ℕ) (link : Link) (st : Stands sys lattice n link) → ends (edge_at sys (Take n 0)) ≡ ends (edge link st.constraint.lattices st.constraint.span)
+  ends_at : (n : ℕ) (link : Link) (st : Stands sys lattice n link)
+      → ends (edge_at sys (Take n 0)) ≡ ends (edge link st.constraint.lattices st.constraint.span)
   ends_at n link st = ap ends (seen sys lattice n link st)
 
   -- the end of the last of some steps
@@ -52,14 +54,16 @@ module _ (sys : System) (lattice : ℕ) (subs : List (List PathStep)) where
   end_more x y rest v is = ap (λ s. of_step sys s ends) (last_more x y rest) ∙ is
 
   -- a part in front of steps that may be empty
-  part_end : (u x v : ℕ) (front rest : List PathStep) → Part sys lattice subs u x front → ((s : PathStep) → ends (edge_at sys s) ≡ Some x → end_is (s ∷ rest) v) →
+  part_end : (u x v : ℕ) (front rest : List PathStep) → Part sys lattice subs u x front
+      → ((s : PathStep) → ends (edge_at sys s) ≡ Some x → end_is (s ∷ rest) v) →
       end_is (front ++ rest) v
   part_end u x v _ rest (Flow _ _ n st) more = more (Take n 0) (ends_at n (Le u x) st)
   part_end u x v _ rest (Empty _ a _ s n m st ts) more = end_more (Take n 0) (Take m 0) rest v (more (Take m 0) (ends_at m (Leave s a x) ts))
   part_end u x v _ rest (Full _ a b _ s n m k st is ts) more =
       end_more (Take n 0) (Sub k 0) (Take m 0 ∷ rest) v (end_more (Sub k 0) (Take m 0) rest v (more (Take m 0) (ends_at m (Leave s b x) ts)))
 
-  part_more : (u x v : ℕ) (front rest : List PathStep) → Part sys lattice subs u x front → ((s : PathStep) → ends (edge_at sys s) ≡ Some x → end_is (s ∷ rest) v) →
+  part_more : (u x v : ℕ) (front rest : List PathStep) → Part sys lattice subs u x front
+      → ((s : PathStep) → ends (edge_at sys s) ≡ Some x → end_is (s ∷ rest) v) →
       (s : PathStep) → end_is (s ∷ (front ++ rest)) v
   part_more u x v _ rest (Flow _ _ n st) more s = end_more s (Take n 0) rest v (more (Take n 0) (ends_at n (Le u x) st))
   part_more u x v _ rest (Empty _ a _ t n m st ts) more s =
@@ -68,20 +72,24 @@ module _ (sys : System) (lattice : ℕ) (subs : List (List PathStep)) where
       end_more s (Take n 0) (Sub k 0 ∷ Take m 0 ∷ rest) v
       (end_more (Take n 0) (Sub k 0) (Take m 0 ∷ rest) v (end_more (Sub k 0) (Take m 0) rest v (more (Take m 0) (ends_at m (Leave t b x) ts))))
 
-  inside_end : (f u v : ℕ) (steps : List PathStep) → Inside sys lattice subs f u v steps → (s : PathStep) → ends (edge_at sys s) ≡ Some u → end_is (s ∷ steps) v
+  inside_end : (f u v : ℕ) (steps : List PathStep) → Inside sys lattice subs f u v steps → (s : PathStep)
+      → ends (edge_at sys s) ≡ Some u → end_is (s ∷ steps) v
   inside_end f u _ _ (Done _) s is = is
   inside_end f u v _ (More _ x _ front rest part from to more) s is = part_more u x v front rest part (inside_end f x v rest more) s
 
-  part_begin : (u x : ℕ) (front rest : List PathStep) → Part sys lattice subs u x front → of_step sys (first_of (front ++ rest)) begins ≡ Some u
+  part_begin : (u x : ℕ) (front rest : List PathStep) → Part sys lattice subs u x front
+      → of_step sys (first_of (front ++ rest)) begins ≡ Some u
   part_begin u x _ rest (Flow _ _ n st) = begins_at n (Le u x) st
   part_begin u x _ rest (Empty _ a _ s n m st ts) = begins_at n (Enter s u a) st
   part_begin u x _ rest (Full _ a b _ s n m k st is ts) = begins_at n (Enter s u a) st
 
   -- a sub-path begins and ends at its variables
-  pub sub_begin : (u v : ℕ) (steps : List PathStep) → IsSub sys lattice subs u v steps → of_step sys (first_of steps) begins ≡ Some u
+  pub sub_begin : (u v : ℕ) (steps : List PathStep) → IsSub sys lattice subs u v steps
+      → of_step sys (first_of steps) begins ≡ Some u
   sub_begin u v steps sub = ap (λ xs. of_step sys (first_of xs) begins) sub.steps_are ∙ part_begin u sub.next sub.front sub.rest sub.part
 
-  pub sub_span : (u v : ℕ) (steps : List PathStep) → IsSub sys lattice subs u v steps → span_of sys (Some steps) ≡ Through u v
+  pub sub_span : (u v : ℕ) (steps : List PathStep) → IsSub sys lattice subs u v steps
+      → span_of sys (Some steps) ≡ Through u v
   sub_span u v steps sub =
       let last : of_step sys (last_of steps) ends ≡ Some v =
       ap (λ xs. of_step sys (last_of xs) ends) sub.steps_are
@@ -102,7 +110,8 @@ module _ (sys : System) (lattice : ℕ) (subs : List (List PathStep)) where
 
 -- sub-paths that each rest on earlier ones fail no rule
 module _ (sys : System) (order : Order) (lattice elem : ℕ) where
-  subs_more : (earlier xs : List (List PathStep)) (y : List PathStep) → subs_fault sys order lattice elem earlier xs ≡ None →
+  subs_more : (earlier xs : List (List PathStep)) (y : List PathStep)
+      → subs_fault sys order lattice elem earlier xs ≡ None →
       first_failing sys order (SubOf (home_of sys y)) lattice elem (look sys (earlier ++ xs)) [] y ≡ None → subs_fault sys order lattice elem earlier (xs ++ y ∷ []) ≡ None
   subs_more earlier [] y none last =
       let Passes : List (List PathStep) → Type 0 = λ before. first_failing sys order (SubOf (home_of sys y)) lattice elem (look sys before) [] y ≡ None in
@@ -112,13 +121,15 @@ module _ (sys : System) (order : Order) (lattice elem : ℕ) where
       let both = or_none _ _ none in
       or_both _ _ both.0 (subs_more (earlier ++ x ∷ []) xs y both.1 (subst Passes (sym (append_assoc earlier (x ∷ []) xs)) last))
 
-  pub subs_pass : (subs : List (List PathStep)) → AreSubPaths sys lattice subs → subs_fault sys order lattice elem [] subs ≡ None
+  pub subs_pass : (subs : List (List PathStep)) → AreSubPaths sys lattice subs
+      → subs_fault sys order lattice elem [] subs ≡ None
   subs_pass _ NoPaths = refl
   subs_pass _ (NoSteps subs before) = subs_more [] subs [] (subs_pass subs before) refl
   subs_pass _ (Stepped subs u v steps before sub) = subs_more [] subs steps (subs_pass subs before) (sub_passes sys lattice subs order elem u v steps sub)
 
 module _ (sys : System) (lattice : ℕ) (subs : List (List PathStep)) (bound : ℕ) where
-  last_part : (u v : ℕ) (front rest : List PathStep) → Part sys lattice subs u v front → ((s : PathStep) → last_of (s ∷ rest) ≡ Some (Take bound 0)) →
+  last_part : (u v : ℕ) (front rest : List PathStep) → Part sys lattice subs u v front
+      → ((s : PathStep) → last_of (s ∷ rest) ≡ Some (Take bound 0)) →
       (s : PathStep) → last_of (s ∷ (front ++ rest)) ≡ Some (Take bound 0)
   last_part u v _ rest (Flow _ _ n st) more s = last_more s (Take n 0) rest ∙ more (Take n 0)
   last_part u v _ rest (Empty _ a _ t n m st ts) more s = last_more s (Take n 0) (Take m 0 ∷ rest) ∙ last_more (Take n 0) (Take m 0) rest ∙ more (Take m 0)
@@ -126,16 +137,19 @@ module _ (sys : System) (lattice : ℕ) (subs : List (List PathStep)) (bound : �
       last_more s (Take n 0) (Sub k 0 ∷ Take m 0 ∷ rest) ∙ last_more (Take n 0) (Sub k 0) (Take m 0 ∷ rest) ∙ last_more (Sub k 0) (Take m 0) rest ∙ more (Take m 0)
 
   -- the last step takes the bound
-  onward_last : (p : Phase) (u : ℕ) (steps : List PathStep) → Onward sys lattice subs (ToBound bound) p u steps → (s : PathStep) → last_of (s ∷ steps) ≡ Some (Take bound 0)
+  onward_last : (p : Phase) (u : ℕ) (steps : List PathStep) → Onward sys lattice subs (ToBound bound) p u steps
+      → (s : PathStep) → last_of (s ∷ steps) ≡ Some (Take bound 0)
   onward_last p u _ (Ends _ _ _ limit st) s = refl
   onward_last p u _ (Along _ _ _ v front rest part more) s = last_part u v front rest part (onward_last (settled (owner_of sys v) p) v rest more) s
   onward_last _ u _ (Back _ _ v t n rest st more) s = last_more s (Take n 0) rest ∙ onward_last (settled (owner_of sys v) First) v rest more (Take n 0)
   onward_last p u _ (Into _ _ _ v t n rest st more) s = last_more s (Take n 0) rest ∙ onward_last (settled (owner_of sys v) Second) v rest more (Take n 0)
 
-  pub path_last : (elem : ℕ) (steps : List PathStep) → IsPath sys lattice subs elem bound steps → last_of steps ≡ Some (Take bound 0)
+  pub path_last : (elem : ℕ) (steps : List PathStep) → IsPath sys lattice subs elem bound steps
+      → last_of steps ≡ Some (Take bound 0)
   path_last elem steps path = ap last_of path.steps_are ∙ onward_last _ path.from path.rest path.onward (Take path.start 0)
 
-  onward_bound : (p : Phase) (u : ℕ) (steps : List PathStep) → Onward sys lattice subs (ToBound bound) p u steps → (v : ℕ) × (limit : ℕ) × Stands sys lattice bound (Bound v lattice limit)
+  onward_bound : (p : Phase) (u : ℕ) (steps : List PathStep) → Onward sys lattice subs (ToBound bound) p u steps
+      → (v : ℕ) × (limit : ℕ) × Stands sys lattice bound (Bound v lattice limit)
   onward_bound p u _ (Ends _ _ _ limit st) = (u, limit, st)
   onward_bound p u _ (Along _ _ _ v front rest part more) = onward_bound (settled (owner_of sys v) p) v rest more
   onward_bound _ u _ (Back _ _ v t n rest st more) = onward_bound (settled (owner_of sys v) First) v rest more

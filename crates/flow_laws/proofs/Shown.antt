@@ -20,11 +20,13 @@ bound_same sys (Some (Take n line)) = refl
 bound_same sys (Some (SubStep n line)) = refl
 bound_same sys None = refl
 
-by_test : (b : Bool) (one other : BadStep) → (if b then None else Some one) ≡ None → (if b then None else Some other) ≡ None
+by_test : (b : Bool) (one other : BadStep) → (if b then None else Some one) ≡ None
+    → (if b then None else Some other) ≡ None
 by_test true one other e = refl
 by_test false one other e = absurd cc
 
-end_same : (sys : System) (main : List PathStep) (end other : ℕ) → end_fault sys (without_lines main) other ≡ None → end_fault sys main end ≡ None
+end_same : (sys : System) (main : List PathStep) (end other : ℕ) → end_fault sys (without_lines main) other ≡ None
+    → end_fault sys main end ≡ None
 end_same sys main end other e =
     let at : ℕ → BadStep = λ line. record { line = line; why = B1 } in
     let Ends : Bool → Type 0 = λ b. (if b then None else Some (at other)) ≡ None in

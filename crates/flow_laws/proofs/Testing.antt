@@ -47,10 +47,12 @@ module _ (sys : System) (lattice : ℕ) where
   of_match : (a v : ℕ) → Match sys lattice a v → Inside a v
   of_match a v (f, x, m, part) = (f, longer f a x v m part)
 
-  not_inside : (a v : ℕ) → (Match sys lattice a v → ⊥) → ((f : ℕ) → a ≡ v → owner_of sys a ≡ Function f → ⊥) → Inside a v → ⊥
+  not_inside : (a v : ℕ) → (Match sys lattice a v → ⊥) → ((f : ℕ) → a ≡ v → owner_of sys a ≡ Function f → ⊥)
+      → Inside a v → ⊥
   not_inside a v no_match no_stay (g, m) = by_path g a v m no_match no_stay
     where
-      by_path : (g a v : ℕ) → Matches sys lattice g a v → (Match sys lattice a v → ⊥) → ((f : ℕ) → a ≡ v → owner_of sys a ≡ Function f → ⊥) → ⊥
+      by_path : (g a v : ℕ) → Matches sys lattice g a v → (Match sys lattice a v → ⊥)
+          → ((f : ℕ) → a ≡ v → owner_of sys a ≡ Function f → ⊥) → ⊥
       by_path g a v (stay _ _ is) no_match no_stay = no_stay g refl is
       by_path g a v (longer _ _ x _ m part) no_match no_stay = no_match (g, x, m, part)
 
@@ -70,7 +72,8 @@ module _ (sys : System) (lattice : ℕ) where
   WayIn e v s sites n = (u : ℕ) × (a : ℕ) × (g : ℕ) × Stands sys lattice n (Enter s u a) × Reaches sys lattice e u sites × Matches sys lattice g a v
 
   module _ (e v s : ℕ) (sites : List ℕ) (reach : (u : ℕ) → Decided (Reaches sys lattice e u sites)) (inside : (n u a : ℕ) → Stands sys lattice n (Enter s u a) → Decided (Inside a v)) where
-    by_parts : (n : ℕ) (c : Constraint) (u a : ℕ) → slice_get sys.constraints n ≡ Some c → c.link ≡ Enter s u a → bit_at c.lattices lattice ≡ 1 →
+    by_parts : (n : ℕ) (c : Constraint) (u a : ℕ) → slice_get sys.constraints n ≡ Some c → c.link ≡ Enter s u a
+        → bit_at c.lattices lattice ≡ 1 →
         Decided (Reaches sys lattice e u sites) → Decided (Inside a v) → Decided (WayIn e v s sites n)
     by_parts n c u a is link_is carried (inl r) (inl m) = inl (u, a, m.0, record { constraint = c; there = is; link_is = link_is; carried = carried }, r, m.1)
     by_parts n c u a is link_is carried (inr not) inside = inr (λ way.
@@ -80,16 +83,19 @@ module _ (sys : System) (lattice : ℕ) where
         let same : Enter s u a ≡ Enter s way.0 way.1 = sym link_is ∙ link_at sys lattice n c (Enter s way.0 way.1) is way.3 in
         not (way.2, subst (λ a. Matches sys lattice way.2 a v) (sym (enter_inner same)) way.5))
 
-    no_way : (n : ℕ) (c : Constraint) → slice_get sys.constraints n ≡ Some c → ((u a : ℕ) → c.link ≡ Enter s u a → ⊥) → WayIn e v s sites n → ⊥
+    no_way : (n : ℕ) (c : Constraint) → slice_get sys.constraints n ≡ Some c → ((u a : ℕ) → c.link ≡ Enter s u a → ⊥)
+        → WayIn e v s sites n → ⊥
     no_way n c is no_enter way = no_enter way.0 way.1 (link_at sys lattice n c (Enter s way.0 way.1) is way.3)
 
-    by_mask : (n : ℕ) (c : Constraint) (u a : ℕ) → slice_get sys.constraints n ≡ Some c → c.link ≡ Enter s u a → Decided (WayIn e v s sites n)
+    by_mask : (n : ℕ) (c : Constraint) (u a : ℕ) → slice_get sys.constraints n ≡ Some c → c.link ≡ Enter s u a
+        → Decided (WayIn e v s sites n)
     by_mask n c u a is link_is = elim (eqb_tells (bit_at c.lattices lattice) 1) [
       | inl carried ↦ by_parts n c u a is link_is carried.1 (reach u) (inside n u a (record { constraint = c; there = is; link_is = link_is; carried = carried.1 }))
       | inr other ↦ inr (λ way. other.1 (ap (λ c. bit_at c.lattices lattice) (some_is (sym is ∙ way.3.there)) ∙ way.3.carried))
     ]
 
-    by_link : (n : ℕ) (c : Constraint) → slice_get sys.constraints n ≡ Some c → (link : Link) → c.link ≡ link → Decided (WayIn e v s sites n)
+    by_link : (n : ℕ) (c : Constraint) → slice_get sys.constraints n ≡ Some c → (link : Link) → c.link ≡ link
+        → Decided (WayIn e v s sites n)
     by_link n c is (Le u x) link_is = inr (no_way n c is (λ y a same. let wrong : Le u x ≡ Enter s y a = sym link_is ∙ same in cc))
     by_link n c is (Const l d x) link_is = inr (no_way n c is (λ y a same. let wrong : Const l d x ≡ Enter s y a = sym link_is ∙ same in cc))
     by_link n c is (Bound x l b) link_is = inr (no_way n c is (λ y a same. let wrong : Bound x l b ≡ Enter s y a = sym link_is ∙ same in cc))
@@ -115,7 +121,9 @@ module _ (sys : System) (lattice : ℕ) where
       | inl all ↦ inr (λ found. all found.0 (slice_get_within sys.constraints found.0 found.1.3.constraint found.1.3.there) found.1)
     ]
 
-  reaches_tells : ((e v : ℕ) → Decided (Returning sys lattice e v)) → ((n s u a v : ℕ) → Stands sys lattice n (Enter s u a) → Decided (Inside a v)) → (e v : ℕ) (sites : List ℕ) → Decided (Reaches sys lattice e v sites)
+  reaches_tells : ((e v : ℕ) → Decided (Returning sys lattice e v))
+      → ((n s u a v : ℕ) → Stands sys lattice n (Enter s u a) → Decided (Inside a v)) → (e v : ℕ) (sites : List ℕ)
+      → Decided (Reaches sys lattice e v sites)
   reaches_tells returned inside e v [] = returned e v
   reaches_tells returned inside e v (s ∷ sites) = elim (returned e v) [
     | inl p ↦ inl (inl p)

@@ -79,7 +79,8 @@ module _ (sys : System) (order : Order) (path : Path) (lattice elem : ℕ) where
   unfolding is_unmatched_enter
   call_sub before after a b = refl
 
-  call_group : (before after : List Seen) (next : Seen) (s u a mask : ℕ) (span : Span) → (is_sub next || agree (Some s) (leaves next)) ≡ true →
+  call_group : (before after : List Seen) (next : Seen) (s u a mask : ℕ) (span : Span)
+      → (is_sub next || agree (Some s) (leaves next)) ≡ true →
       in_call_at sys path lattice elem (edge (Enter s u a) mask span ∷ before) (next ∷ after)
       ≡ (not (is_nobodys (owner_of sys a)) && in_call_at sys path lattice elem before (edge (Enter s u a) mask span ∷ next ∷ after))
   unfolding is_unmatched_enter begins_group
@@ -88,7 +89,8 @@ module _ (sys : System) (order : Order) (path : Path) (lattice elem : ℕ) where
   pub quiet_and : (b c : Bool) → c ≡ false → (b && c) ≡ false
   quiet_and b c is = rw is (and_false b)
 
-  pub nobody_quiet : (v : ℕ) (c : Bool) → is_nobodys (owner_of sys v) ≡ true → (not (is_nobodys (owner_of sys v)) && c) ≡ false
+  pub nobody_quiet : (v : ℕ) (c : Bool) → is_nobodys (owner_of sys v) ≡ true
+      → (not (is_nobodys (owner_of sys v)) && c) ≡ false
   nobody_quiet v c is = rw is refl
 
   arrives_flow : (before : List Seen) (u v mask : ℕ) (span : Span) → Arrives before (edge (Le u v) mask span ∷ before) v
@@ -132,8 +134,10 @@ module _ (sys : System) (order : Order) (path : Path) (lattice elem : ℕ) where
         subst Passes (sym is) (ap (λ why. fault_or why 0 (failing (Through a b ∷ before) rest)) passes ∙ more)
 
     -- the steps behind a part whose steps fail no rule
-    pub part_passes : (u v : ℕ) (front : List PathStep) → Part sys lattice subs u v front → lacks sys path u ≡ false → lacks sys path v ≡ false →
-        (before : List Seen) → Follows path (first_of before) u → (rest : List PathStep) → ((new : List Seen) → Arrives before new v → failing new rest ≡ None) →
+    pub part_passes : (u v : ℕ) (front : List PathStep) → Part sys lattice subs u v front → lacks sys path u ≡ false
+        → lacks sys path v ≡ false →
+        (before : List Seen) → Follows path (first_of before) u → (rest : List PathStep)
+        → ((new : List Seen) → Arrives before new v → failing new rest ≡ None) →
         failing before (front ++ rest) ≡ None
     part_passes u v _ (Flow _ _ n st) first last before f rest more =
         behind before n (Le u v) st rest (flow_passes sys order path lattice elem _ (first_of before) _ _ u v _ _ f first last st.carried)
@@ -168,7 +172,8 @@ module _ (sys : System) (order : Order) (lattice elem : ℕ) (subs : List (List 
   owned : (v : ℕ) → owner_of sys v ≡ Function f → lacks sys (SubOf (Function f)) v ≡ false
   owned v is = rw (is, eq-eqb f f refl) refl
 
-  pub inside_passes : (u v : ℕ) (steps : List PathStep) → Inside sys lattice subs f u v steps → (before : List Seen) → Follows (SubOf (Function f)) (first_of before) u →
+  pub inside_passes : (u v : ℕ) (steps : List PathStep) → Inside sys lattice subs f u v steps → (before : List Seen)
+      → Follows (SubOf (Function f)) (first_of before) u →
       first_failing sys order (SubOf (Function f)) lattice elem (look sys subs) before steps ≡ None
   inside_passes u _ _ (Done _) before follows = refl
   inside_passes u v _ (More _ x _ front rest part from to more) before follows =
@@ -190,14 +195,16 @@ module _ (sys : System) (order : Order) (lattice elem : ℕ) (subs : List (List 
   abbrev pub Settles : Phase → List Seen → Type 0
   Settles p before = p ≡ First → IsQuiet before
 
-  settles_on : (old new : List Seen) (p : Phase) (v : ℕ) → Settles p old → Arrives sys order Main lattice elem old new v → Settles (settled (owner_of sys v) p) new
+  settles_on : (old new : List Seen) (p : Phase) (v : ℕ) → Settles p old → Arrives sys order Main lattice elem old new v
+      → Settles (settled (owner_of sys v) p) new
   settles_on old new p v before arrives is = elim (settled_cases (owner_of sys v) p is) [
     | inl nobody ↦ arrives.anew nobody
     | inr first ↦ arrives.quiet (before first)
   ]
 
   -- a call to a variable of nobody stays open no longer
-  settles_call : (before : List Seen) (s u v mask : ℕ) (span : Span) → Settles (settled (owner_of sys v) Second) (edge (Enter s u v) mask span ∷ before)
+  settles_call : (before : List Seen) (s u v mask : ℕ) (span : Span)
+      → Settles (settled (owner_of sys v) Second) (edge (Enter s u v) mask span ∷ before)
   settles_call before s u v mask span is after = elim (settled_cases (owner_of sys v) Second is) [
     | inl nobody ↦ nobody_quiet sys order Main lattice elem v _ nobody
     | inr first ↦ absurd cc
@@ -208,7 +215,8 @@ module _ (sys : System) (order : Order) (lattice elem : ℕ) (subs : List (List 
   Over (ToBound bound) = (v limit : ℕ) → Stands sys lattice bound (Bound v lattice limit) → leq order elem limit ≡ false
   Over (ToVariable to) = Unit {0}
 
-  pub onward_passes : (goal : Goal) → Over goal → (p : Phase) (u : ℕ) (steps : List PathStep) → Onward sys lattice subs goal p u steps → (before : List Seen) → Follows Main (first_of before) u →
+  pub onward_passes : (goal : Goal) → Over goal → (p : Phase) (u : ℕ) (steps : List PathStep)
+      → Onward sys lattice subs goal p u steps → (before : List Seen) → Follows Main (first_of before) u →
       Settles p before → failing sys order Main lattice elem subs before steps ≡ None
   onward_passes _ over p u _ (Ends bound _ _ limit st) before f settles =
       behind sys order Main lattice elem subs before bound (Bound u lattice limit) st []

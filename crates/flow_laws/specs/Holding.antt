@@ -36,7 +36,8 @@ pub record EndsInExceeded (sys : System) (orders : List Order) (main : List Path
   pub last : last_of main ≡ Some (Take number line)
   pub exceeded : IsExceeded sys lattice order number
 
--- In a well owned system whose constants name elements, a path proof that holds leads from a constant to the bound that it
+-- In a well owned system whose constants name elements, a path proof that holds leads from a constant to the bound that
+-- it
 -- ends in.
 abbrev pub HoldsLeads : Type 0
 HoldsLeads = (sys : System) (orders : List Order) (proof : PathProof) → IsWellOwned sys → NamesElements sys orders → Holds sys orders proof →

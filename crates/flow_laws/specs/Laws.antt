@@ -34,7 +34,8 @@ JoinsAreSolution = (sys : System) (lattice : ℕ) (order : Order) (sets solution
     ((v e : ℕ) → (bit_at (sets v) e ≡ 1) ↔ Lead sys lattice e v) → ((v : ℕ) → IsJoinOf order (sets v) (solution v)) →
     IsSolution sys lattice order solution
 
--- A list that has the least element of each variable that a constraint names is a solution, where each variable past its end
+-- A list that has the least element of each variable that a constraint names is a solution, where each variable past
+-- its end
 -- has the least element of all.
 abbrev pub ListIsSolution : Type 0
 ListIsSolution = (sys : System) (lattice : ℕ) (order : Order) (elements : List ℕ) (bottom : ℕ) → bottom < size order →

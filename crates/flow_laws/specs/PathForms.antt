@@ -15,6 +15,7 @@ abbrev pub without_line : PathStep → PathStep
 without_line (Take edge line) = Take edge 0
 without_line (Sub number line) = Sub number 0
 
+-- steps as those that were read from no line
 abbrev pub without_lines : List PathStep → List PathStep
 without_lines steps = map without_line steps
 
@@ -22,10 +23,12 @@ without_lines steps = map without_line steps
 pub data AreSubPaths (sys : System) (lattice : ℕ) : List (List PathStep) → Type 0 where
   NoPaths : AreSubPaths sys lattice []
   NoSteps : (subs : List (List PathStep)) → AreSubPaths sys lattice subs → AreSubPaths sys lattice (subs ++ [] ∷ [])
-  Stepped : (subs : List (List PathStep)) (u v : ℕ) (steps : List PathStep) → AreSubPaths sys lattice subs → IsSub sys lattice subs u v steps →
+  Stepped : (subs : List (List PathStep)) (u v : ℕ) (steps : List PathStep) → AreSubPaths sys lattice subs
+      → IsSub sys lattice subs u v steps →
       AreSubPaths sys lattice (subs ++ steps ∷ [])
 
--- These are sub-paths, and the main path leads from a constant to a bound which the constant's element is not at or below.
+-- These are sub-paths, and the main path leads from a constant to a bound which the constant's element is not at or
+-- below.
 pub record LeadsOver (sys : System) (lattice : ℕ) (order : Order) (subs : List (List PathStep)) (main : List PathStep) : Type 0 where
   pub sub_paths : AreSubPaths sys lattice subs
   pub element : ℕ

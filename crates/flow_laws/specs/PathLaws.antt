@@ -9,10 +9,12 @@ use Rattle.flow_laws.specs.Sets.{Reaches}
 abbrev pub MatchesJoin : Type 0
 MatchesJoin = (sys : System) (lattice f u x v : ℕ) → Matches sys lattice f u x → Matches sys lattice f x v → Matches sys lattice f u v
 
--- A path inside a function goes on from each path that leads to its first variable, and leaves its calls open.
+-- A path inside a function goes on from each path that leads to its first variable with no call open, and leaves none
+-- open.
 abbrev pub ReturningGoesOn : Type 0
 ReturningGoesOn = (sys : System) (lattice e f x v : ℕ) → Returning sys lattice e x → Matches sys lattice f x v → Returning sys lattice e v
 
+-- It goes on from each path that leads to its first variable with calls open, and these stay open.
 abbrev pub CallingGoesOn : Type 0
 CallingGoesOn = (sys : System) (lattice e f x v : ℕ) → Calling sys lattice e x → Matches sys lattice f x v → Calling sys lattice e v
 

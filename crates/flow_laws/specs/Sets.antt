@@ -8,7 +8,8 @@ use Rattle.flow_graph.specs.Paths.{Matches, Returning}
 use Rattle.flow_laws.specs.Least.{IsLeastOver}
 
 -- A constant of the element leads to the variable's copy of a call string, the last site first: with no call open, or
--- through the last site and on inside the function that it calls, from a variable that the element reaches in the copy of
+-- through the last site and on inside the function that it calls, from a variable that the element reaches in the copy
+-- of
 -- the sites before.
 abbrev pub Reaches : System → ℕ → ℕ → ℕ → List ℕ → Type 0
 Reaches sys lattice e v [] = Returning sys lattice e v

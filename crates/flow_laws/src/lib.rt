@@ -1,4 +1,7 @@
 //! Laws of constraint systems and their unfolding: functions without a body, each with a law as its contract.
+//!
+//! Entry: the functions of `accepting`, `holding`, `solving`, `forms`.
+//! It does not know any algorithm. Above: the analysis.
 #![tactic(auto)]
 
 mod accepting;

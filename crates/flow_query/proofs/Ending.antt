@@ -23,7 +23,8 @@ module _ (sys : System) (lattice number : ℕ) (constraint : Constraint) (there 
   is_no_bound none own = none own.0 own.1 (link_there sys lattice number constraint there (Bound own.0 lattice own.1) own.2)
 
 -- a constant of the lattice stands as its link
-pub const_stands : (sys : System) (lattice number : ℕ) (constraint : Constraint) → slice_get sys.constraints number ≡ Some constraint → (elem at : ℕ) →
+pub const_stands : (sys : System) (lattice number : ℕ) (constraint : Constraint)
+    → slice_get sys.constraints number ≡ Some constraint → (elem at : ℕ) →
     constraint.link ≡ Const lattice elem at → Stands sys lattice number (Const lattice elem at)
 const_stands sys lattice number constraint there elem at is = record { constraint = constraint; there = there; link_is = is; carried = refl }
 
@@ -41,7 +42,8 @@ at_is e = cc
 ends_is : {x y : Ends} → Some x ≡ Some y → x ≡ y
 ends_is e = cc
 
-before_or_at : (xs : List Ends) (x : Ends) (n : ℕ) (y : Ends) → slice_get (xs ++ x ∷ []) n ≡ Some y → (slice_get xs n ≡ Some y) ⊎ ((n ≡ length xs) × (x ≡ y))
+before_or_at : (xs : List Ends) (x : Ends) (n : ℕ) (y : Ends) → slice_get (xs ++ x ∷ []) n ≡ Some y
+    → (slice_get xs n ≡ Some y) ⊎ ((n ≡ length xs) × (x ≡ y))
 before_or_at [] x zero y is = inr (refl, ends_is is)
 before_or_at [] x (suc n) y is = absurd cc
 before_or_at (z ∷ xs) x zero y is = inl is
@@ -57,7 +59,8 @@ no_ends sys ends none = record {
 }
 
 -- one lattice more
-pub next_ends : (sys : System) (count : ℕ) (old new : List Ends) (x : Ends) → new ≡ old ++ x ∷ [] → AreEnds sys count x → AllEnds sys count old → AllEnds sys (count + 1) new
+pub next_ends : (sys : System) (count : ℕ) (old new : List Ends) (x : Ends) → new ≡ old ++ x ∷ [] → AreEnds sys count x
+    → AllEnds sys count old → AllEnds sys (count + 1) new
 next_ends sys count old new x more own first = record {
   count =
       let longer = length-append old (x ∷ []) in
@@ -90,7 +93,8 @@ starts_none sys lattice = record {
 }
 
 module _ (sys : System) (lattice number : ℕ) (starts : List Constant) where
-  pub starts_same : AreStartsBelow sys lattice number starts → (IsConstant sys lattice number → ⊥) → AreStartsBelow sys lattice (number + 1) starts
+  pub starts_same : AreStartsBelow sys lattice number starts → (IsConstant sys lattice number → ⊥)
+      → AreStartsBelow sys lattice (number + 1) starts
   starts_same were none = record {
     only = were.only;
     all = λ n elem at low stands. elim (cases_lt n number) [
@@ -102,7 +106,8 @@ module _ (sys : System) (lattice number : ℕ) (starts : List Constant) where
     ];
   }
 
-  pub starts_push : (start : Constant) → start.elem < 64 → AreStartsBelow sys lattice number starts → Stands sys lattice number (Const lattice start.elem start.at) →
+  pub starts_push : (start : Constant) → start.elem < 64 → AreStartsBelow sys lattice number starts
+      → Stands sys lattice number (Const lattice start.elem start.at) →
       AreStartsBelow sys lattice (number + 1) (starts ++ start ∷ [])
   starts_push start low were own = record {
     only = λ other there. elim (Contains-append_cases starts (start ∷ []) other there) [
@@ -123,7 +128,8 @@ module _ (sys : System) (lattice number : ℕ) (starts : List Constant) where
   }
 
 -- in another order, and up to all
-pub starts_all : (sys : System) (lattice n : ℕ) (starts ordered : List Constant) → length sys.constraints ≤ n → IsPermutation starts ordered →
+pub starts_all : (sys : System) (lattice n : ℕ) (starts ordered : List Constant) → length sys.constraints ≤ n
+    → IsPermutation starts ordered →
     AreStartsBelow sys lattice n starts → AreStartsBelow sys lattice (length sys.constraints) ordered
 starts_all sys lattice n starts ordered most permuted were = record {
   only = λ start there. were.only start (Contains-permutation ordered starts start (IsPermutation-sym starts ordered permuted) there);

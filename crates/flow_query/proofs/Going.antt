@@ -17,7 +17,8 @@ module _ (sys : System) (lattice : ℕ) where
   Led e Second v = Calling sys lattice e v
 
   -- the order of calls starts anew at a variable of nobody
-  settles : (e v : ℕ) (owner : Owner) (p q : Phase) → owner_of sys v ≡ owner → q ≡ settled owner p → Led e p v → Led e q v
+  settles : (e v : ℕ) (owner : Owner) (p q : Phase) → owner_of sys v ≡ owner → q ≡ settled owner p → Led e p v
+      → Led e q v
   settles e v Nobody First q is same led = let By : Phase → Type 0 = λ r. Led e r v in subst By (sym same) led
   settles e v Nobody Second q is same led = let By : Phase → Type 0 = λ r. Led e r v in subst By (sym same) (anew v led is)
   settles e v (Function f) p q is same led = let By : Phase → Type 0 = λ r. Led e r v in subst By (sym same) led

@@ -69,7 +69,8 @@ pub all_none : {X : Type 0} (P : X → Type 0) (x : X) → Contains [] x → P x
 all_none P x there = absurd (none_in x there)
 
 -- what holds of the first so many, and of the next, holds of one more
-pub all_next : {X : Type 0} (P : X → Type 0) (xs : List X) (n : ℕ) (next : X) → n < length xs → next ≡ get_or xs n next →
+pub all_next : {X : Type 0} (P : X → Type 0) (xs : List X) (n : ℕ) (next : X) → n < length xs
+    → next ≡ get_or xs n next →
     ((x : X) → Contains (take n xs) x → P x) → P next → (x : X) → Contains (take (n + 1) xs) x → P x
 all_next {X} P xs n next within is each own x there =
     let step : suc n ≡ n + 1 = omega arith in
@@ -87,7 +88,8 @@ at_index xs n x within is = (n, within, sym is)
 -- ---- walks of some variables
 
 -- those of all are those of one
-pub for_one : (sys : System) (count : ℕ) (vars : List ℕ) (all : List Walks) (n var : ℕ) → n < length vars → var ≡ get_or vars n var →
+pub for_one : (sys : System) (count : ℕ) (vars : List ℕ) (all : List Walks) (n var : ℕ) → n < length vars
+    → var ≡ get_or vars n var →
     AllWalks sys count vars all → AllWalks sys count (var ∷ []) all
 for_one sys count vars all n var within is walks = record {
   count = walks.count;
@@ -100,7 +102,8 @@ for_one sys count vars all n var within is walks = record {
 }
 
 -- of a lattice and a variable, which are named otherwise
-pub walks_at : (sys other : System) (count lattice named var called : ℕ) (all : List Walks) (walks : Walks) → other ≡ sys → named ≡ lattice → called ≡ var →
+pub walks_at : (sys other : System) (count lattice named var called : ℕ) (all : List Walks) (walks : Walks)
+    → other ≡ sys → named ≡ lattice → called ≡ var →
     slice_get all lattice ≡ Some walks → AllWalks sys count (var ∷ []) all → AreWalks other named (called ∷ []) walks
 walks_at sys other count lattice named var called all walks graph is same there each =
     let Of : System → Type 0 = λ s. AreWalks s named (called ∷ []) walks in
@@ -108,17 +111,11 @@ walks_at sys other count lattice named var called all walks graph is same there 
     let At : ℕ → Type 0 = λ v. AreWalks sys lattice (v ∷ []) walks in
     subst Of (sym graph) (subst In (sym is) (subst At (sym same) (each.each lattice walks there)))
 
--- no walks
-pub no_walks : (sys : System) (vars : List ℕ) (all : List Walks) → all ≡ [] → AllWalks sys 0 vars all
-no_walks sys vars all none = record {
-  count = ap (λ (xs : List Walks). length xs) none;
-  each = λ n walks is. let there : slice_get [] n ≡ Some walks = subst (λ (xs : List Walks). slice_get xs n ≡ Some walks) none is in absurd cc;
-}
-
 walks_is : {x y : Walks} → Some x ≡ Some y → x ≡ y
 walks_is e = cc
 
-before_or_at : (xs : List Walks) (x : Walks) (n : ℕ) (y : Walks) → slice_get (xs ++ x ∷ []) n ≡ Some y → (slice_get xs n ≡ Some y) ⊎ ((n ≡ length xs) × (x ≡ y))
+before_or_at : (xs : List Walks) (x : Walks) (n : ℕ) (y : Walks) → slice_get (xs ++ x ∷ []) n ≡ Some y
+    → (slice_get xs n ≡ Some y) ⊎ ((n ≡ length xs) × (x ≡ y))
 before_or_at [] x zero y is = inr (refl, walks_is is)
 before_or_at [] x (suc n) y is = absurd cc
 before_or_at (z ∷ xs) x zero y is = inl is
@@ -128,7 +125,8 @@ before_or_at (z ∷ xs) x (suc n) y is = elim (before_or_at xs x n y is) [
 ]
 
 -- those of one lattice more
-pub next_walks : (sys : System) (count lattice : ℕ) (vars : List ℕ) (old new : List Walks) (x : Walks) → lattice ≡ count → new ≡ old ++ x ∷ [] →
+pub next_walks : (sys : System) (count lattice : ℕ) (vars : List ℕ) (old new : List Walks) (x : Walks) → lattice ≡ count
+    → new ≡ old ++ x ∷ [] →
     AreWalks sys lattice vars x → AllWalks sys count vars old → AllWalks sys (count + 1) vars new
 next_walks sys count lattice vars old new x named more own first = record {
   count =
@@ -149,10 +147,12 @@ next_walks sys count lattice vars old new x named more own first = record {
 -- ---- of all variables and constants
 
 -- where the first so many are all
-pub all_taken : {X : Type 0} (P : X → Type 0) (xs : List X) (n : ℕ) → ((x : X) → Contains (take n xs) x → P x) → length xs ≤ n → (x : X) → Contains xs x → P x
+pub all_taken : {X : Type 0} (P : X → Type 0) (xs : List X) (n : ℕ) → ((x : X) → Contains (take n xs) x → P x)
+    → length xs ≤ n → (x : X) → Contains xs x → P x
 all_taken {X} P xs n each most x there = let all = take_all n xs most in each x (subst (λ (ys : List X). Contains ys x) (sym all) there)
 
-pub kept_on : (sys : System) (lattice : ℕ) (old new : List ℕ) (v : ℕ) → ((u : ℕ) → Contains old u → Contains new u) → IsKept sys lattice old v → IsKept sys lattice new v
+pub kept_on : (sys : System) (lattice : ℕ) (old new : List ℕ) (v : ℕ) → ((u : ℕ) → Contains old u → Contains new u)
+    → IsKept sys lattice old v → IsKept sys lattice new v
 kept_on sys lattice old new v on (inl there) = inl (on v there)
 kept_on sys lattice old new v on (inr never) = inr never
 
@@ -165,15 +165,18 @@ unreached_as one sys lattice named var called graph is same never number from =
     never number (subst At (sym same) (subst In (sym is) (subst Of (sym graph) from)))
 
 -- what is done of all that are listed by their variables is done of all constants
-pub starts_done : (sys : System) (lattice : ℕ) (walks : Walks) (vars : List ℕ) (starts : List Constant) → AreStartsBelow sys lattice (length sys.constraints) starts →
-    ((start : Constant) → Contains starts start → AllDone sys lattice walks start.at vars) → StartsDone sys lattice walks vars
+pub starts_done : (sys : System) (lattice : ℕ) (walks : Walks) (vars : List ℕ) (starts : List Constant)
+    → AreStartsBelow sys lattice (length sys.constraints) starts →
+    ((start : Constant) → Contains starts start → AllDone sys lattice walks start.at vars)
+    → StartsDone sys lattice walks vars
 starts_done sys lattice walks vars starts are each n elem u stands =
     let there = are.all n elem u (slice_get_within sys.constraints n stands.constraint stands.there) stands in
     let Of : ℕ → Type 0 = λ a. AllDone sys lattice walks a vars in
     subst Of there.2 (each there.0 there.1)
 
 -- no constant leads to the variables that are not kept
-pub done_for_all : (sys : System) (lattice : ℕ) (walks : Walks) (vars kept : List ℕ) → ((v : ℕ) → Contains vars v → IsKept sys lattice kept v) →
+pub done_for_all : (sys : System) (lattice : ℕ) (walks : Walks) (vars kept : List ℕ)
+    → ((v : ℕ) → Contains vars v → IsKept sys lattice kept v) →
     StartsDone sys lattice walks kept → StartsDone sys lattice walks vars
 done_for_all sys lattice walks vars kept are done n elem u stands v there = elim (are v there) [
   | inl in_it ↦ done n elem u stands v in_it

@@ -31,7 +31,8 @@ bound_is : {v w l m a b : ℕ} → Bound v l a ≡ Bound w m b → v ≡ w
 bound_is e = cc
 
 -- an element that is not in a set is in no set that is the same
-pub not_in : (is : Bool) (set elem other : ℕ) → (IsTrue is ↔ (bit_at set elem ≡ 1)) → set ≡ other → is ≡ false → bit_at other elem ≡ 1 → ⊥
+pub not_in : (is : Bool) (set elem other : ℕ) → (IsTrue is ↔ (bit_at set elem ≡ 1)) → set ≡ other → is ≡ false
+    → bit_at other elem ≡ 1 → ⊥
 not_in is set elem other tells same out has = let in_it : is ≡ true = tells.1 (ap (λ s. bit_at s elem) same ∙ has) in absurd cc
 
 -- what a constraint is
@@ -61,13 +62,15 @@ module _ (sys : System) (lattice number : ℕ) (constraint : Constraint) (there 
   no_bound var none to = none to.at to.elem (link_there (Bound to.at lattice to.elem) to.bound)
 
 -- where the element of a constant does not lead, its variable does not
-pub not_led_from : (sys : System) (lattice var elem at : ℕ) → LeadsAreWalks → IsWellOwned sys → (n : ℕ) → Stands sys lattice n (Const lattice elem at) →
+pub not_led_from : (sys : System) (lattice var elem at : ℕ) → LeadsAreWalks → IsWellOwned sys → (n : ℕ)
+    → Stands sys lattice n (Const lattice elem at) →
     (Lead sys lattice elem var → ⊥) → Leads sys lattice at var → ⊥
 not_led_from sys lattice var elem at law owned n stands never leads =
     never (constants_lead sys lattice n elem at stands var ((law sys lattice at var owned).0 leads))
 
 -- a constant in a variable that does not lead there
-pub no_from_at : (sys : System) (lattice var number at : ℕ) → IsConstantAt sys lattice number at → (Leads sys lattice at var → ⊥) → IsFrom sys lattice var number → ⊥
+pub no_from_at : (sys : System) (lattice var number at : ℕ) → IsConstantAt sys lattice number at
+    → (Leads sys lattice at var → ⊥) → IsFrom sys lattice var number → ⊥
 no_from_at sys lattice var number at constant never from =
     let own = constant.1 in
     let link = link_there sys lattice number own.constraint own.there (Const lattice from.elem from.at) from.constant in
@@ -111,14 +114,17 @@ led is tells known = tells.0 known
 
 -- ---- where no constraint is one of these
 
-pub no_from_text : (scene : Scene) (sys : System) (lattice var number : ℕ) → (IsConstant sys lattice number → ⊥) → FromText scene sys lattice var number []
+pub no_from_text : (scene : Scene) (sys : System) (lattice var number : ℕ) → (IsConstant sys lattice number → ⊥)
+    → FromText scene sys lattice var number []
 no_from_text scene sys lattice var number none = NoFrom (λ from. none (from.at, from.elem, from.constant))
 
-pub no_to_text : (scene : Scene) (sys : System) (lattice var number : ℕ) → (IsBound sys lattice number → ⊥) → ToText scene sys lattice var number []
+pub no_to_text : (scene : Scene) (sys : System) (lattice var number : ℕ) → (IsBound sys lattice number → ⊥)
+    → ToText scene sys lattice var number []
 no_to_text scene sys lattice var number none = NoTo (λ to. none (to.at, to.elem, to.bound))
 
 -- where no element leads to a variable, no constant does
-pub nothing_led : (sys : System) (lattice var set : ℕ) → LeadsAreWalks → IsWellOwned sys → ((e : ℕ) → Lead sys lattice e var → bit_at set e ≡ 1) → set ≡ 0 → (number : ℕ) →
+pub nothing_led : (sys : System) (lattice var set : ℕ) → LeadsAreWalks → IsWellOwned sys
+    → ((e : ℕ) → Lead sys lattice e var → bit_at set e ≡ 1) → set ≡ 0 → (number : ℕ) →
     IsFrom sys lattice var number → ⊥
 nothing_led sys lattice var set law owned bits none number from =
     let lead = constants_lead sys lattice number from.elem from.at from.constant var ((law sys lattice from.at var owned).0 from.leads) in

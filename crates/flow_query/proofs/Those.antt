@@ -1,4 +1,5 @@
--- Ascending lists of the numbers that have a property, and what is written of each number where nothing is of all others.
+-- Ascending lists of the numbers that have a property, and what is written of each number where nothing is of all
+-- others.
 use Rattle.std.proofs.Common.{◌≡◌, ℕ, zero, suc, ◌+◌, ◌-◌, ◌<◌, ◌≤◌, ◌⊎◌, inl, inr, List, [], ◌∷◌, ◌++◌, length, get_or, slice_get, Some}
 use Rattle.std.proofs.Common.{append-nil, refl, sym, ◌∙◌, ap, subst, arith}
 use Rattle.std.specs.List.{Contains}
@@ -26,7 +27,8 @@ contains_at numbers i n is =
 pub at_place : (numbers : List ℕ) (i n : ℕ) → i < length numbers → n ≡ get_or numbers i n → slice_get numbers i ≡ Some n
 at_place numbers i n within is = slice_get-get_or numbers i n within ∙ ap (λ (k : ℕ). Some k) (sym is)
 
-push_cases : (numbers : List ℕ) (x i n : ℕ) → slice_get (numbers ++ x ∷ []) i ≡ Some n → (slice_get numbers i ≡ Some n) ⊎ ((i ≡ length numbers) × (x ≡ n))
+push_cases : (numbers : List ℕ) (x i n : ℕ) → slice_get (numbers ++ x ∷ []) i ≡ Some n
+    → (slice_get numbers i ≡ Some n) ⊎ ((i ≡ length numbers) × (x ≡ n))
 push_cases [] x zero n is = inr (refl, some_is is)
 push_cases [] x (suc i) n is = absurd cc
 push_cases (y ∷ numbers) x zero n is = inl is
@@ -106,7 +108,8 @@ from_place numbers zero = 0
 from_place numbers (suc place) = get_or numbers place 0 + 1
 
 module _ (Is : ℕ → List ℕ → Type 0) where
-  skip_by : (text : List ℕ) (n count : ℕ) → ((k : ℕ) → n ≤ k → k < n + count → Is k []) → EachBelow Is n text → EachBelow Is (n + count) text
+  skip_by : (text : List ℕ) (n count : ℕ) → ((k : ℕ) → n ≤ k → k < n + count → Is k []) → EachBelow Is n text
+      → EachBelow Is (n + count) text
   skip_by text n zero none each =
       let At : ℕ → Type 0 = λ m. EachBelow Is m text in
       let same : n ≡ n + 0 = omega arith in
@@ -120,7 +123,8 @@ module _ (Is : ℕ → List ℕ → Type 0) where
       subst At step (subst Of (append-nil text) next)
 
   -- where nothing is written of the numbers between
-  skip_to : (text : List ℕ) (n m : ℕ) → n ≤ m → ((k : ℕ) → n ≤ k → k < m → Is k []) → EachBelow Is n text → EachBelow Is m text
+  skip_to : (text : List ℕ) (n m : ℕ) → n ≤ m → ((k : ℕ) → n ≤ k → k < m → Is k []) → EachBelow Is n text
+      → EachBelow Is m text
   skip_to text n m most none each =
       let At : ℕ → Type 0 = λ k. EachBelow Is k text in
       let same : n + (m - n) ≡ m = omega (arith, most) in
@@ -141,7 +145,8 @@ module _ (Is : ℕ → List ℕ → Type 0) where
         omega (arith, less)
 
     -- and one that is behind them has no earlier place
-    not_before : (place : ℕ) → place ≤ length numbers → (m : ℕ) → from_place numbers place ≤ m → (i : ℕ) → i < place → slice_get numbers i ≡ Some m → ⊥
+    not_before : (place : ℕ) → place ≤ length numbers → (m : ℕ) → from_place numbers place ≤ m → (i : ℕ) → i < place
+        → slice_get numbers i ≡ Some m → ⊥
     not_before zero within m from i before is = omega (arith, before)
     not_before (suc place) within m from i before is =
         let last = slice_get-get_or numbers place 0 (omega (arith, within)) in
@@ -175,7 +180,8 @@ module _ (Is : ℕ → List ℕ → Type 0) where
         ]
 
     -- the text of one more number of the list
-    pub next_of : (place n : ℕ) (text here : List ℕ) → place < length numbers → n ≡ get_or numbers place n → EachBelow Is (from_place numbers place) text → Is n here →
+    pub next_of : (place n : ℕ) (text here : List ℕ) → place < length numbers → n ≡ get_or numbers place n
+        → EachBelow Is (from_place numbers place) text → Is n here →
         EachBelow Is (from_place numbers (place + 1)) (text ++ here)
     next_of place n text here within is each next =
         let at = at_place numbers place n within is in
@@ -187,7 +193,8 @@ module _ (Is : ℕ → List ℕ → Type 0) where
         subst Place step (subst At (ap (λ (k : ℕ). k + 1) own) (NextBelow n text here skipped next))
 
     -- where the list has ended
-    pub all_of : (place most : ℕ) (text : List ℕ) → place ≡ length numbers → ((m : ℕ) → Has m → m < most) → EachBelow Is (from_place numbers place) text → EachBelow Is most text
+    pub all_of : (place most : ℕ) (text : List ℕ) → place ≡ length numbers → ((m : ℕ) → Has m → m < most)
+        → EachBelow Is (from_place numbers place) text → EachBelow Is most text
     all_of place most text end few each =
         skip_to text (from_place numbers place) most (low place end)
         (λ m from below. none m (λ has.
@@ -203,5 +210,6 @@ module _ (Is : ℕ → List ℕ → Type 0) where
             omega (arith, own)
 
 -- what each number of a list has
-pub item_has : (Has : ℕ → Type 0) (numbers : List ℕ) → AreThose Has numbers → (place n : ℕ) → place < length numbers → n ≡ get_or numbers place n → Has n
+pub item_has : (Has : ℕ → Type 0) (numbers : List ℕ) → AreThose Has numbers → (place n : ℕ) → place < length numbers
+    → n ≡ get_or numbers place n → Has n
 item_has Has numbers those place n within is = those.only n (place, within, sym is)

@@ -19,7 +19,8 @@ if_ok (Ok x) p f = f x p
 if_ok (Err e) p f = tt
 
 -- a search of the lattice of a section
-pub reach_of : (section : Section) (search : Search) → IsSearchIn section search → IsReachOf section.graph.now section.lattice search.start search.reach
+pub reach_of : (section : Section) (search : Search) → IsSearchIn section search
+    → IsReachOf section.graph.now section.lattice search.start search.reach
 reach_of section search found =
     let At : ℕ → Type 0 = λ l. IsReachOf section.graph.now l search.start search.reach in subst At found.lattice_is found.is
 

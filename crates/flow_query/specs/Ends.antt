@@ -7,10 +7,11 @@ use Rattle.std.specs.List.{Contains}
 use Rattle.flow_query.specs.declared.ends.Constant.{Constant}
 use Rattle.flow_query.specs.declared.ends.Ends.{Ends}
 
--- a constraint is a constant of the lattice, or a bound of it
+-- a constraint is a constant of the lattice
 abbrev pub IsConstant : System → ℕ → ℕ → Type 0
 IsConstant sys lattice number = (at elem : ℕ) × Stands sys lattice number (Const lattice elem at)
 
+-- a constraint is a bound of the lattice
 abbrev pub IsBound : System → ℕ → ℕ → Type 0
 IsBound sys lattice number = (at elem : ℕ) × Stands sys lattice number (Bound at lattice elem)
 
@@ -28,13 +29,15 @@ pub record IsThere (sys : System) (lattice elem at : ℕ) : Type 0 where
   pub number : ℕ
   pub stands : Stands sys lattice number (Const lattice elem at)
 
+-- a constraint is a constant of this element and variable
 abbrev pub IsStart : System → ℕ → Constant → Type 0
 IsStart sys lattice start = IsThere sys lattice start.elem start.at
 
 -- constants with the variables of all constants below a number
 pub record AreStartsBelow (sys : System) (lattice below : ℕ) (starts : List Constant) : Type 0 where
   pub only : (start : Constant) → Contains starts start → IsStart sys lattice start
-  pub all : (n elem at : ℕ) → n < below → Stands sys lattice n (Const lattice elem at) → (start : Constant) × Contains starts start × (start.at ≡ at)
+  pub all : (n elem at : ℕ) → n < below → Stands sys lattice n (Const lattice elem at)
+      → (start : Constant) × Contains starts start × (start.at ≡ at)
 
 -- the constants of a lattice and its bounds, and its constants by their variables
 pub record AreEnds (sys : System) (lattice : ℕ) (ends : Ends) : Type 0 where

@@ -24,7 +24,8 @@ pub record IsSection (section : Section) : Type 0 where
 -- the graph is well owned, and what was found and what is listed are of so many lattices
 pub record IsFound (found : Found) : Type 0 where
   pub owned : IsWellOwned found.graph.now
-  pub each : (n : ℕ) (solution : Solved) → slice_get found.solutions.now n ≡ Some solution → IsSolution found.graph.now n solution
+  pub each : (n : ℕ) (solution : Solved) → slice_get found.solutions.now n ≡ Some solution
+      → IsSolution found.graph.now n solution
   pub ends : AllEnds found.graph.now (length found.solutions.now) found.ends.now
 
 -- a lattice is one of them
@@ -51,10 +52,11 @@ abbrev pub KeepsOnly : ℕ → ℕ → Finder → Type 0
 KeepsOnly lattice start (Idle room) = Unit {0}
 KeepsOnly lattice start (Kept search) = (search.lattice ≡ lattice) × (search.start ≡ start)
 
--- a constraint is a constant of the lattice in a variable, or a bound of it
+-- a constraint is a constant of the lattice in a variable
 abbrev pub IsConstantAt : System → ℕ → ℕ → ℕ → Type 0
 IsConstantAt sys lattice number at = (elem : ℕ) × Stands sys lattice number (Const lattice elem at)
 
+-- a constraint is a bound of the lattice on a variable
 abbrev pub IsBoundAt : System → ℕ → ℕ → ℕ → Type 0
 IsBoundAt sys lattice number at = (elem : ℕ) × Stands sys lattice number (Bound at lattice elem)
 

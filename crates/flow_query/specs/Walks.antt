@@ -11,6 +11,7 @@ use Rattle.flow_graph.specs.Leading.{Leads}
 use Rattle.flow_query.specs.declared.walks.Walks.{Walks}
 use Rattle.flow_query.specs.Answers.{IsFrom, IsWalkTo}
 
+-- whether two pairs of variables are the same
 abbrev pub is_pair : ℕ × ℕ → ℕ × ℕ → Bool
 is_pair a b = (a.0 == b.0) && (a.1 == b.1)
 
@@ -35,9 +36,11 @@ AreSound sys lattice walks = (u v : ℕ) (walk : Walk) → walk_in walks.map u v
 abbrev pub IsDone : System → ℕ → Walks → ℕ → ℕ → Type 0
 IsDone sys lattice walks u v = walk_in walks.map u v ≡ None → Leads sys lattice u v → ⊥
 
+-- what was known of which variable leads to which is still known
 abbrev pub StaysDone : System → ℕ → Walks → Walks → Type 0
 StaysDone sys lattice old new = (u v : ℕ) → IsDone sys lattice old u v → IsDone sys lattice new u v
 
+-- of each variable in a list it is known whether one leads to it
 abbrev pub AllDone : System → ℕ → Walks → ℕ → List ℕ → Type 0
 AllDone sys lattice walks u vars = (v : ℕ) → Contains vars v → IsDone sys lattice walks u v
 

@@ -34,7 +34,8 @@ stop_front a b f xs ys h = record {
   cause = h.cause;
 }
 
-pub stop_back : (a b c : System) (f : GraphFault) (xs ys : List Constraint) → b ≡ with a xs → Stops b c f ys → Stops a c f (xs ++ ys)
+pub stop_back : (a b c : System) (f : GraphFault) (xs ys : List Constraint) → b ≡ with a xs → Stops b c f ys
+    → Stops a c f (xs ++ ys)
 stop_back a b c f xs ys e h = record {
   added = length xs + h.added;
   some_left = let l = h.some_left in let m = length-append xs ys in omega (arith, l, m);

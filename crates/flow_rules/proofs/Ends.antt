@@ -98,7 +98,8 @@ module _ (P Q : ℕ → Type 0) (Fit : Link → Type 0) (arrow : Arrow)
     equal_ends f (fun u ps r e) (flat v l) h g = equal_apart f (fun u ps r e) (flat v l) h g
     equal_ends f (fun u ps r e) (ref v b) h g = equal_apart f (fun u ps r e) (ref v b) h g
 
-    equals_ends : (f : Bool) (ps qs : Skels) → Each P (all_nodes ps) → Each Q (all_nodes qs) → All Fit (equals arrow f ps qs)
+    equals_ends : (f : Bool) (ps qs : Skels) → Each P (all_nodes ps) → Each Q (all_nodes qs)
+        → All Fit (equals arrow f ps qs)
     equals_ends f no_skels qs h g = tt
     equals_ends f (more_skels p ps) no_skels h g = tt
     equals_ends f (more_skels p ps) (more_skels q qs) h g =
@@ -122,7 +123,8 @@ module _ (P Q : ℕ → Type 0) (Fit : Link → Type 0) (arrow : Arrow)
     flow_ends f (fun u ps r e) (flat v l) h g = flow_apart f (fun u ps r e) (flat v l) h g
     flow_ends f (fun u ps r e) (ref v b) h g = flow_apart f (fun u ps r e) (ref v b) h g
 
-    flows_ends : (f : Bool) (ps qs : Skels) → Each P (all_nodes ps) → Each Q (all_nodes qs) → All Fit (flows arrow f ps qs)
+    flows_ends : (f : Bool) (ps qs : Skels) → Each P (all_nodes ps) → Each Q (all_nodes qs)
+        → All Fit (flows arrow f ps qs)
     flows_ends f no_skels qs h g = tt
     flows_ends f (more_skels p ps) no_skels h g = tt
     flows_ends f (more_skels p ps) (more_skels q qs) h g =
@@ -162,23 +164,27 @@ module _ (own : ℕ → Owner) (owner : Owner) where
   flow_uneven_ends true a b h k = joined Fits (tied (strict_nodes a) (root b)) (tied (strict_nodes b) (root b)) (ties _ _ (inner In a h) (at_root In b k)) (ties _ _ (inner In b k) (at_root In b k))
   flow_uneven_ends false a b h k = joined Fits (tied (strict_nodes b) (root a)) (tied (strict_nodes a) (root a)) (ties _ _ (inner In b k) (at_root In a h)) (ties _ _ (inner In a h) (at_root In a h))
 
-  flow_more : (f : Bool) (ps : Skels) (e : Option ℕ) (qs : Skels) (g : Option ℕ) → Each In (all_nodes ps) → Each In (of_some e) → Each In (all_nodes qs) → Each In (of_some g)
+  flow_more : (f : Bool) (ps : Skels) (e : Option ℕ) (qs : Skels) (g : Option ℕ) → Each In (all_nodes ps)
+      → Each In (of_some e) → Each In (all_nodes qs) → Each In (of_some g)
       → All Fits (extra Flow f ps e qs g)
   flow_more true ps e qs g hp he hq hg = joined Fits (tied_some (all_nodes (past ps qs)) g) (tied_some (all_nodes (past qs ps)) e)
       (ties_some _ g (beyond In ps qs hp) hg) (ties_some _ e (beyond In qs ps hq) he)
   flow_more false ps e qs g hp he hq hg = joined Fits (tied_some (all_nodes (past qs ps)) e) (tied_some (all_nodes (past ps qs)) g)
       (ties_some _ e (beyond In qs ps hq) he) (ties_some _ g (beyond In ps qs hp) hg)
 
-  pub flow_stays : (a b : Skel) → AllIn own owner (nodes a) → AllIn own owner (nodes b) → AllStay own owner (flow Flow true a b)
+  pub flow_stays : (a b : Skel) → AllIn own owner (nodes a) → AllIn own owner (nodes b)
+      → AllStay own owner (flow Flow true a b)
   flow_stays a b h k = stay_all _ (flow_ends In In Fits Flow flow_pairs flow_uneven_ends flow_more true a b (in_each _ h) (in_each _ k))
 
-  pub equal_stays : (a b : Skel) → AllIn own owner (nodes a) → AllIn own owner (nodes b) → AllStay own owner (equal Flow true a b)
+  pub equal_stays : (a b : Skel) → AllIn own owner (nodes a) → AllIn own owner (nodes b)
+      → AllStay own owner (equal Flow true a b)
   equal_stays a b h k = stay_all _ (equal_ends In In Fits Flow flow_pairs flow_uneven_ends flow_more true a b (in_each _ h) (in_each _ k))
 
   pub smash_stays : (a : Skel) (e : ℕ) → AllIn own owner (nodes a) → IsIn own owner e → AllStay own owner (smash a e)
   smash_stays a e h p = let each = in_each _ h in stay_all (smash a e) ((at_root In a each, p), ties (strict_nodes a) e (inner In a each) p)
 
-  pub unsmash_stays : (e : ℕ) (b : Skel) → IsIn own owner e → AllIn own owner (nodes b) → AllStay own owner (unsmash e b)
+  pub unsmash_stays : (e : ℕ) (b : Skel) → IsIn own owner e → AllIn own owner (nodes b)
+      → AllStay own owner (unsmash e b)
   unsmash_stays e b p h = let each = in_each _ h in stay_all (unsmash e b) ((p, at_root In b each), ties (strict_nodes b) e (inner In b each) p)
 
 -- Crossings: the signature's side is the inner owner's, the instance's the outer one's.
@@ -216,5 +222,6 @@ module _ (own : ℕ → Owner) (outer inside : Owner) (site : ℕ) where
   cross_ends (flat u l) b h k = cross_pairs true u (root b) h.0 (at_root Outer b k)
   cross_ends (fun u ps r e) b h k = cross_pairs true u (root b) h.0 (at_root Outer b k)
 
-  pub cross_leads : (a b : Skel) → AllOwned own inside (nodes a) → AllOwned own outer (nodes b) → AllLead own outer inside site (cross site a b)
+  pub cross_leads : (a b : Skel) → AllOwned own inside (nodes a) → AllOwned own outer (nodes b)
+      → AllLead own outer inside site (cross site a b)
   cross_leads a b h k = lead_all _ (cross_ends a b (inner_each _ h) (outer_each _ k))

@@ -32,7 +32,8 @@ collapsed_turns : (f : Bool) (a b : Skel) → collapsed Flow f a b ≡ collapsed
 collapsed_turns true a b = refl
 collapsed_turns false a b = refl
 
-extra_turns : (f : Bool) (ps : Skels) (e : Option ℕ) (qs : Skels) (g : Option ℕ) → extra Flow f ps e qs g ≡ extra Flow (not f) qs g ps e
+extra_turns : (f : Bool) (ps : Skels) (e : Option ℕ) (qs : Skels) (g : Option ℕ)
+    → extra Flow f ps e qs g ≡ extra Flow (not f) qs g ps e
 extra_turns true ps e qs g = refl
 extra_turns false ps e qs g = refl
 

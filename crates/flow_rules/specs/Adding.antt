@@ -21,7 +21,8 @@ marked lattices span (link ∷ links) = record { link = link; lattices = lattice
 abbrev pub with : System → List Constraint → System
 with sys list = record sys { constraints = sys.constraints ++ list }
 
--- An adding that stopped: some constraints of the list were added, from the first on, and the next one was refused; TooMany
+-- An adding that stopped: some constraints of the list were added, from the first on, and the next one was refused;
+-- TooMany
 -- says that there was no place for it.
 pub record Stops (old new : System) (fault : GraphFault) (list : List Constraint) : Type 0 where
   pub added : ℕ

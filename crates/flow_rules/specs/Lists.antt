@@ -1,8 +1,10 @@
--- Flow lists: what one skeleton that flows into another gives (Foster et al. 2006, subtyping of qualified types; Rehof and
+-- Flow lists: what one skeleton that flows into another gives (Foster et al. 2006, subtyping of qualified types; Rehof
+-- and
 -- Fähndrich 2001 for the calls and returns of a site).
 --
 -- `forward` tells which of the two skeletons goes into the other: `flow arrow true a b` is the list of a into b, and
--- `flow arrow false a b` that of b into a, since parameters go the other way. So each list is read off both skeletons at once.
+-- `flow arrow false a b` that of b into a, since parameters go the other way. So each list is read off both skeletons
+-- at once.
 use Rattle.std.specs.Prelude.{ℕ, Bool, true, false, not, List, [], ◌∷◌, ◌++◌, Option, Some, None}
 use Rattle.flow_graph.specs.declared.constraint.Link.{Link}
 use Rattle.flow_graph.specs.declared.constraint.Link.TheVariants.{Le, Enter, Leave}
@@ -10,7 +12,8 @@ use Rattle.qual_types.specs.Skel.{Skel, flat, ref, fun, Skels, no_skels, more_sk
 use Rattle.flow_rules.specs.declared.arrow.Arrow.{Arrow}
 use Rattle.flow_rules.specs.declared.arrow.Arrow.TheVariants.{Flow, Cross}
 
--- The pair of u, a variable of the first skeleton, and v, one of the second. Between a function's signature and an instance
+-- The pair of u, a variable of the first skeleton, and v, one of the second. Between a function's signature and an
+-- instance
 -- of it, a pair from the signature is a return of the site and a pair from the instance is a call.
 abbrev pub pair : Arrow → Bool → ℕ → ℕ → List Link
 pair Flow true u v = Le u v ∷ []
@@ -18,14 +21,17 @@ pair Flow false u v = Le v u ∷ []
 pair (Cross s) true u v = Leave s u v ∷ []
 pair (Cross s) false u v = Enter s v u ∷ []
 
+-- a flow both ways between a variable of the first skeleton and one of the second
 abbrev pub both : Arrow → Bool → ℕ → ℕ → List Link
 both arrow forward u v = pair arrow forward u v ++ pair arrow (not forward) u v
 
+-- the pair of two variables of further arguments, where both functions take some
 abbrev pub pair_some : Arrow → Bool → Option ℕ → Option ℕ → List Link
 pair_some arrow forward None f = []
 pair_some arrow forward (Some e) None = []
 pair_some arrow forward (Some e) (Some f) = pair arrow forward e f
 
+-- a flow both ways between two variables of further arguments, where both functions take some
 abbrev pub both_some : Arrow → Bool → Option ℕ → Option ℕ → List Link
 both_some arrow forward None f = []
 both_some arrow forward (Some e) None = []
@@ -40,11 +46,13 @@ abbrev pub tied : List ℕ → ℕ → List Link
 tied [] v = []
 tied (n ∷ ns) v = tie n v ++ tied ns v
 
+-- each of these and the variable of further arguments, both ways, where there is one
 abbrev pub tied_some : List ℕ → Option ℕ → List Link
 tied_some ns None = []
 tied_some ns (Some e) = tied ns e
 
--- Skeletons of two shapes: all inner nodes of both, the one that goes before the other, are as the root that is gone into.
+-- Skeletons of two shapes: all inner nodes of both, the one that goes before the other, are as the root that is gone
+-- into.
 -- A signature and its instance have one shape.
 abbrev pub collapsed : Arrow → Bool → Skel → Skel → List Link
 collapsed Flow true a b = tied (strict_nodes a) (root b) ++ tied (strict_nodes b) (root b)
@@ -91,7 +99,8 @@ abbrev mutual
 abbrev pub flow_uneven : Arrow → Bool → Skel → Skel → List Link
 flow_uneven arrow forward a b = pair arrow forward (root a) (root b) ++ collapsed arrow forward a b
 
--- A skeleton into another: what references hold is equal, since it may be read and written; parameters go the other way, and
+-- A skeleton into another: what references hold is equal, since it may be read and written; parameters go the other
+-- way, and
 -- so do further arguments.
 abbrev mutual
   pub flow : Arrow → Bool → Skel → Skel → List Link
@@ -112,7 +121,8 @@ abbrev mutual
   flows arrow forward (more_skels p ps) no_skels = []
   flows arrow forward (more_skels p ps) (more_skels q qs) = flow arrow forward p q ++ flows arrow forward ps qs
 
--- The signature of a function, a reference to it, and an instance at a site: the roots, then what they refer to. For other
+-- The signature of a function, a reference to it, and an instance at a site: the roots, then what they refer to. For
+-- other
 -- skeletons the roots alone.
 abbrev pub cross_by : Arrow → Skel → Skel → List Link
 cross_by arrow (ref u a) (ref v b) = pair arrow true u v ++ flow arrow true a b
@@ -121,18 +131,22 @@ cross_by arrow (ref u a) (fun v qs r f) = pair arrow true u v
 cross_by arrow (flat u k) b = pair arrow true u (root b)
 cross_by arrow (fun u ps r e) b = pair arrow true u (root b)
 
+-- a function's signature and the instance of it at a site
 abbrev pub cross : ℕ → Skel → Skel → List Link
 cross s a b = cross_by (Cross s) a b
 
--- A skeleton into one variable that stands for all of it, and one variable into a skeleton.
+-- a skeleton into one variable that stands for all of it
 abbrev pub smash_by : Arrow → Skel → ℕ → List Link
 smash_by arrow a e = pair arrow true (root a) e ++ tied (strict_nodes a) e
 
+-- one variable that stands for all of a skeleton, into that skeleton
 abbrev pub unsmash_by : Arrow → ℕ → Skel → List Link
 unsmash_by arrow e b = pair arrow true e (root b) ++ tied (strict_nodes b) e
 
+-- an argument into the variable that stands for all further arguments
 abbrev pub smash : Skel → ℕ → List Link
 smash a e = smash_by Flow a e
 
+-- the variable that stands for all further arguments, into what is taken from them
 abbrev pub unsmash : ℕ → Skel → List Link
 unsmash e b = unsmash_by Flow e b

@@ -1,4 +1,7 @@
 //! The constraints that make one skeleton of qualifier variables flow into another.
+//!
+//! Entry: `flow`, `equate`, `cross`. Invariant: a list has exactly the constraints of the definition, in order.
+//! It does not know where flows come from. Above: `row_adding`.
 #![tactic(auto)]
 
 mod adding;

@@ -8,9 +8,9 @@ ghost use Rattle.lattice_solver.specs.Solution.{IsSolved};
 
 use crate::building::{graph_of, lattices_of};
 use crate::case::{Answers, Case};
+use crate::flow_unfolding::is_met;
 use error_path::{Reaches, show};
 use flow_graph::{FlowGraph, PathProof, PathStep, is_well_owned, names_elements};
-use flow_unfolding::is_met;
 use lattice_core::{Lattice, Lattices};
 use lattice_solver::Solver;
 use match_summary::{Summaries, summarise};

@@ -1,7 +1,10 @@
-//! Systems of constraints with their answers, and the tests that the closure of matched paths, the solver, the unfolding
-//! and the maker of path proofs give these answers.
+//! Systems of constraints with their answers, a plain decider of the unfolding at a depth, and the tests that the
+//! closure, the solver, the decider and the maker of path proofs give these answers.
 //!
 //! Each system is written once, and is worked out by hand or was drawn at random and solved by other programs.
+//!
+//! Entry: `worked` and its kin; `flow_unfolding::is_met`. Invariant: each system is written once.
+//! It does not know where systems come from. Nothing stands above.
 #![tactic(auto)]
 
 #[cfg(test)]
@@ -12,6 +15,7 @@ mod case;
 mod comparing;
 #[cfg(test)]
 mod drawn_lattices;
+pub mod flow_unfolding;
 #[cfg(test)]
 mod nested;
 #[cfg(test)]

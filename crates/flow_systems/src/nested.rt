@@ -3,7 +3,7 @@
 use crate::building::{graph_of, lattices_of};
 use crate::case::Row::{Bound, Const, Enter, Le, Leave};
 use crate::case::{Answers, Case, F0, TWO};
-use flow_unfolding::is_met;
+use crate::flow_unfolding::is_met;
 use path_checker::{check, read_report};
 use qual_base::LatticeNo;
 use std::test::Fail;

@@ -3,7 +3,8 @@ use Rattle.std.specs.Prelude.{ℕ, zero, suc, List, ◌++◌, codes}
 use Rattle.std.specs.Fmt.{decimal}
 use Rattle.annotate.specs.Texts.{line}
 
--- Two elements at the level of values: what is declared `$tainted` is at least that, what is declared `$untainted` at most that.
+-- Two elements at the level of values: what is declared `$tainted` is at least that, what is declared `$untainted` at
+-- most that.
 abbrev pub lattice_text : List ℕ
 lattice_text =
     line (codes "partial order {")

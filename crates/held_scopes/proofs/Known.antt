@@ -1,5 +1,5 @@
 -- The kind of a name, by the names of the scopes.
-use Rattle.std.proofs.Common.{◌≡◌, ℕ, eqb, Bool, true, false, List, [], ◌∷◌, Option, None, Some, refl, ◌∙◌, ap}
+use Rattle.std.proofs.Common.{◌≡◌, ℕ, eqb, Bool, true, false, [], ◌∷◌, Option, None, Some, refl, ◌∙◌, ap}
 use Rattle.std.proofs.Common.{if◌then◌else◌}
 use Rattle.typedef_scope.specs.declared.kind.Kind.{Kind}
 use Rattle.typedef_scope.specs.Scopes.{Scope, kind_in, else_in}
@@ -35,10 +35,3 @@ kind_through (scope ∷ outer) n =
         ≡ else_in (kind_in scope.names n) (held.kind_of outer n)
     by_kind None is rest = rest ∙ ap (λ o. else_in o (held.kind_of outer n)) is
     by_kind (Some kind) is rest = ap (λ o. else_in o (held.kind_of outer n)) is
-
--- a scope that declares a name with a kind is open
-pub known_is_open : (scopes : held.HeldScopes) (n : ℕ) (kind : Kind) (known : Kind)
-    → kind_in (held.innermost scopes).names n ≡ Some known
-    → scopes ≡ held.with_name (held.innermost scopes) n kind ∷ held.leave scopes
-known_is_open [] n kind known is = absurd cc
-known_is_open (scope ∷ outer) n kind known is = rw is refl

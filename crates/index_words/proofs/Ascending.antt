@@ -13,7 +13,8 @@ pub pushed_is : (ws : List Word) (w : Word) → map mark_of (ws ++ w ∷ []) ≡
 pushed_is [] w = refl
 pushed_is (x ∷ xs) w = ap (λ ys. mark_of x ∷ ys) (pushed_is xs w)
 
-pub pushed_ascends : (ms : List IndexMark) (m : IndexMark) → AreAscending (tokens_of ms) → All (λ it. it.token < m.token) ms
+pub pushed_ascends : (ms : List IndexMark) (m : IndexMark) → AreAscending (tokens_of ms)
+    → All (λ it. it.token < m.token) ms
     → AreAscending (tokens_of (ms ++ m ∷ []))
 pushed_ascends [] m up below = tt
 pushed_ascends (x ∷ []) m up below = (below 0 x (omega arith), tt)
@@ -31,7 +32,8 @@ tail_up : (x : Word) (xs : List Word) → IsUp (x ∷ xs) → IsUp xs
 tail_up x [] up = tt
 tail_up x (y ∷ ys) up = up.1
 
-head_below : (x : Word) (xs : List Word) → IsUp (x ∷ xs) → (j : ℕ) (d : Word) → j < length xs → x.token < (get_or xs j d).token
+head_below : (x : Word) (xs : List Word) → IsUp (x ∷ xs) → (j : ℕ) (d : Word) → j < length xs
+    → x.token < (get_or xs j d).token
 head_below x [] up j d lt = absurd (omega arith)
 head_below x (y ∷ ys) up zero d lt = up.0
 head_below x (y ∷ ys) up (suc j) d lt = let one = up.0 in let rest = head_below y ys up.1 j d (omega arith) in omega (arith, one, rest)
@@ -54,7 +56,8 @@ word_here x xs t is = rw (eq-eqb x.token t is) refl
 word_behind : (x : Word) (xs : List Word) (t : ℕ) → x.token ≢ t → word_at (marks (x ∷ xs)) t ≡ word_at (marks xs) t
 word_behind x xs t is_not = rw (ne_eqb x.token t is_not) refl
 
-none_before : (ws : List Word) (t : ℕ) → ((j : ℕ) (d : Word) → j < length ws → t < (get_or ws j d).token) → None ≡ word_at (marks ws) t
+none_before : (ws : List Word) (t : ℕ) → ((j : ℕ) (d : Word) → j < length ws → t < (get_or ws j d).token)
+    → None ≡ word_at (marks ws) t
 none_before [] t above = refl
 none_before (x ∷ xs) t above = none_before xs t (λ j d lt. above (suc j) d (omega arith))
     ∙ sym (word_behind x xs t (λ is. let h = above 0 x (omega arith) in omega (arith, is, h)))
@@ -85,7 +88,8 @@ none_there (x ∷ xs) t zero cut past = absurd (omega arith)
 none_there (x ∷ xs) t (suc i) cut past = none_there xs t i (behind_cut t x xs i cut) (omega arith)
     ∙ sym (word_behind x xs t (lower t x xs i cut))
 
-pub other_there : (ws : List Word) (t i : ℕ) (w : Word) → IsUp ws → Cuts t ws i → i < length ws → w ≡ get_or ws i w → w.token ≢ t
+pub other_there : (ws : List Word) (t i : ℕ) (w : Word) → IsUp ws → Cuts t ws i → i < length ws → w ≡ get_or ws i w
+    → w.token ≢ t
     → None ≡ word_at (map mark_of ws) t
 other_there [] t i w up cut lt there is_not = absurd (omega arith)
 other_there (x ∷ xs) t zero w up cut lt there is_not =
@@ -97,7 +101,8 @@ other_there (x ∷ xs) t (suc i) w up cut lt there is_not =
     other_there xs t i w (tail_up x xs up) (behind_cut t x xs i cut) (omega arith) there is_not
     ∙ sym (word_behind x xs t (lower t x xs i cut))
 
-pub numbers_of : (ms : List IndexMark) (t : ℕ) (o : Option (List ℕ)) → o ≡ word_at ms t → unwrap_or o [] ≡ numbers_at ms t
+pub numbers_of : (ms : List IndexMark) (t : ℕ) (o : Option (List ℕ)) → o ≡ word_at ms t
+    → unwrap_or o [] ≡ numbers_at ms t
 numbers_of ms t o is = ap (λ p. unwrap_or p []) is ∙ of ms
   where
     of : (ms : List IndexMark) → unwrap_or (word_at ms t) [] ≡ numbers_at ms t

@@ -3,6 +3,7 @@ use Rattle.std.specs.Prelude.{ℕ, nat_eq, List, [], ◌∷◌, Option, None, So
 use Rattle.index_words.specs.declared.prelude.Word.{Word}
 use Rattle.index_words.specs.Marks.{IndexMark}
 
+-- a word that a prelude holds, as a mark
 abbrev pub mark_of : Word → IndexMark
 mark_of it = record { token = it.token; numbers = it.numbers.items }
 

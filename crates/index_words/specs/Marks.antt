@@ -21,6 +21,7 @@ AreAscending [] = Unit {0}
 AreAscending (n ∷ []) = Unit {0}
 AreAscending (n ∷ m ∷ ms) = (n < m) × AreAscending (m ∷ ms)
 
+-- the tokens of index words, in order
 abbrev pub tokens_of : List IndexMark → List ℕ
 tokens_of [] = []
 tokens_of (it ∷ marks) = it.token ∷ tokens_of marks

@@ -6,6 +6,7 @@ use Rattle.std.specs.List.{flat_map}
 abbrev pub most_index : ℕ
 most_index = 65535
 
+-- a byte is a decimal digit
 abbrev pub IsDigit : ℕ → Type 0
 IsDigit c = (48 ≤ c) × (c ≤ 57)
 
@@ -19,6 +20,7 @@ abbrev pub number_behind : ℕ → List ℕ → ℕ
 number_behind n [] = n
 number_behind n (c ∷ digits) = number_behind (n * 10 + (c - 48)) digits
 
+-- the number that decimal digits say
 abbrev pub number_of : List ℕ → ℕ
 number_of digits = number_behind 0 digits
 
@@ -26,6 +28,7 @@ number_of digits = number_behind 0 digits
 abbrev pub group : List ℕ → List ℕ
 group digits = 95 ∷ digits
 
+-- a number is another one than this
 abbrev pub IsOther : ℕ → ℕ → Type 0
 IsOther n m = n ≢ m
 

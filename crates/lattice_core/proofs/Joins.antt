@@ -8,7 +8,8 @@ use Rattle.lattice_core.specs.Rows.{order_of}
 use Rattle.lattice_core.proofs.UpperLower.{leq_bit, bit_leq, same_row}
 
 -- an element at or below each of the first k
-low_of : (order : Order) → IsLattice order → (k : ℕ) → k ≤ size order → (c : ℕ) × (c < size order) × ((a : ℕ) → a < k → leq order c a ≡ true)
+low_of : (order : Order) → IsLattice order → (k : ℕ) → k ≤ size order
+    → (c : ℕ) × (c < size order) × ((a : ℕ) → a < k → leq order c a ≡ true)
 low_of order lattice zero h = (0, lattice.inhabited, λ a none. absurd (omega arith))
 low_of order lattice (suc k) h =
     let before = low_of order lattice k (omega arith) in
@@ -71,7 +72,8 @@ all_bit n i h = elim (cases_lt i n) [
   | inr past ↦ let zero : bit_at (2 ^ n - 1) i ≡ 0 = bit_at_ones_above n i past in absurd cc
 ]
 
-pub shared_there : (above : List ℕ) → IsLattice (order_of above) → (set row : ℕ) → IsShared above set row → (x : ℕ) × (x < length above) × (get_or above x 0 ≡ row)
+pub shared_there : (above : List ℕ) → IsLattice (order_of above) → (set row : ℕ) → IsShared above set row
+    → (x : ℕ) × (x < length above) × (get_or above x 0 ≡ row)
 shared_there above lattice set row shared =
     let join = join_below (order_of above) lattice set (length above) (omega arith) in
     let j = join.0 in
@@ -88,7 +90,8 @@ shared_there above lattice set row shared =
           leq_bit above j i (is.least i (all_bit (length above) i both.0) (λ a within bit. bit_leq above a i (both.1 a within bit)))),
     )
 
-pub shared_joins : (above : List ℕ) → IsLattice (order_of above) → (set row c : ℕ) → IsShared above set row → c < length above → get_or above c 0 ≡ row → IsJoinOf (order_of above) set c
+pub shared_joins : (above : List ℕ) → IsLattice (order_of above) → (set row c : ℕ) → IsShared above set row
+    → c < length above → get_or above c 0 ≡ row → IsJoinOf (order_of above) set c
 shared_joins above lattice set row c shared within e =
     let own : bit_at row c ≡ 1 = ap (λ r. bit_at r c) (sym e) ∙ leq_bit above c c (lattice.ordered.same c within) in
     record {

@@ -21,12 +21,14 @@ no_bit rows a b past h =
     let zero : bit_at (get_or rows a 0) b ≡ 0 = rw none (bit_at-zero b) in
     cc
 
-below_from_leads : (entries : List Entry) (pairs : List Pair) (links : List ℕ) → ((a b : ℕ) → (bit_at (get_or links a 0) b ≡ 1) ↔ IsWritten entries pairs a b) →
+below_from_leads : (entries : List Entry) (pairs : List Pair) (links : List ℕ)
+    → ((a b : ℕ) → (bit_at (get_or links a 0) b ≡ 1) ↔ IsWritten entries pairs a b) →
     (a : ℕ) → a < length entries → (b : ℕ) → Leads links a b → IsBelow entries pairs a b
 below_from_leads entries pairs links linked a h b Here = Same h
 below_from_leads entries pairs links linked a h b (On m _ to link) = Through m b (below_from_leads entries pairs links linked a h m to) ((linked m b).0 link)
 
-leads_from_below : (entries : List Entry) (pairs : List Pair) (links : List ℕ) → ((a b : ℕ) → (bit_at (get_or links a 0) b ≡ 1) ↔ IsWritten entries pairs a b) →
+leads_from_below : (entries : List Entry) (pairs : List Pair) (links : List ℕ)
+    → ((a b : ℕ) → (bit_at (get_or links a 0) b ≡ 1) ↔ IsWritten entries pairs a b) →
     (a b : ℕ) → IsBelow entries pairs a b → Leads links a b
 leads_from_below entries pairs links linked a b (Same h) = Here
 leads_from_below entries pairs links linked a b (Through m _ to line) = On m b (leads_from_below entries pairs links linked a m to) ((linked m b).1 line)
@@ -39,13 +41,16 @@ below_ends : (entries : List Entry) (pairs : List Pair) (a b : ℕ) → IsBelow 
 below_ends entries pairs a b (Same h) = h
 below_ends entries pairs a b (Through m _ to line) = (has_name entries line.pair.high b line.high).0
 
-below_through : (entries : List Entry) (pairs : List Pair) (a b c : ℕ) → IsBelow entries pairs a b → IsBelow entries pairs b c → IsBelow entries pairs a c
+below_through : (entries : List Entry) (pairs : List Pair) (a b c : ℕ) → IsBelow entries pairs a b
+    → IsBelow entries pairs b c → IsBelow entries pairs a c
 below_through entries pairs a b c p (Same h) = p
 below_through entries pairs a b c p (Through m _ to line) = Through m c (below_through entries pairs a b m p to) line
 
-pub closure_of_rows : (entries : List Entry) (pairs : List Pair) (links above : List ℕ) → length above ≡ length entries →
+pub closure_of_rows : (entries : List Entry) (pairs : List Pair) (links above : List ℕ)
+    → length above ≡ length entries →
     ((a b : ℕ) → (bit_at (get_or links a 0) b ≡ 1) ↔ IsWritten entries pairs a b) →
-    ((a b : ℕ) → a < length entries → (bit_at (get_or above a 0) b ≡ 1) ↔ Leads links a b) → IsClosureOf entries pairs (order_of above)
+    ((a b : ℕ) → a < length entries → (bit_at (get_or above a 0) b ≡ 1) ↔ Leads links a b)
+    → IsClosureOf entries pairs (order_of above)
 closure_of_rows entries pairs links above len linked closed = record {
   elements = len;
   below = λ a b. (
@@ -57,7 +62,8 @@ closure_of_rows entries pairs links above len linked closed = record {
   );
 }
 
-pub order_of_closure : (entries : List Entry) (pairs : List Pair) (order : Order) → IsClosureOf entries pairs order → HasNoPair (IsCycle order) (length entries) → IsOrder order
+pub order_of_closure : (entries : List Entry) (pairs : List Pair) (order : Order) → IsClosureOf entries pairs order
+    → HasNoPair (IsCycle order) (length entries) → IsOrder order
 order_of_closure entries pairs order is acyclic =
     let inside : (a b : ℕ) → leq order a b ≡ true → (a < length entries) × (b < length entries) =
     λ a b h. (below_starts entries pairs a b ((is.below a b).0 h), below_ends entries pairs a b ((is.below a b).0 h)) in
@@ -75,7 +81,8 @@ order_of_closure entries pairs order is acyclic =
     }
 
 pub converse_of : (above below : List ℕ) → IsOrder (order_of above) → length below ≡ length above →
-    ((a b : ℕ) → b < length above → (bit_at (get_or below b 0) a ≡ 1) ↔ (bit_at (get_or above a 0) b ≡ 1)) → IsConverse above below
+    ((a b : ℕ) → b < length above → (bit_at (get_or below b 0) a ≡ 1) ↔ (bit_at (get_or above a 0) b ≡ 1))
+    → IsConverse above below
 converse_of above below order len turned = record {
   elements = len;
   turned = λ a b. (
@@ -99,7 +106,8 @@ turn_upper order a b c is = record { left = is.right; right = is.left; least = �
 turn_lower : (order : Order) (a b c : ℕ) → IsGreatestLower order a b c → IsGreatestLower order b a c
 turn_lower order a b c is = record { left = is.right; right = is.left; greatest = λ d p q. is.greatest d q p }
 
-bounds_of : (order : Order) → IsOrder order → ((a : ℕ) → a < size order → AreBounded order a (size order)) → (a b : ℕ) → a < size order → b < size order → HasBounds order a b
+bounds_of : (order : Order) → IsOrder order → ((a : ℕ) → a < size order → AreBounded order a (size order)) → (a b : ℕ)
+    → a < size order → b < size order → HasBounds order a b
 bounds_of order is bounded a b p q = elim (cases_order a b) [
   | inl e ↦ rw (← e) (record { upper = a; is_upper = same_upper order is a p; lower = a; is_lower = same_lower order is a p })
   | inr other ↦ elim other [
@@ -110,7 +118,8 @@ bounds_of order is bounded a b p q = elim (cases_order a b) [
   ]
 ]
 
-pub lattice_of : (order : Order) → IsOrder order → 0 < size order → ((a : ℕ) → a < size order → AreBounded order a (size order)) → IsLattice order
+pub lattice_of : (order : Order) → IsOrder order → 0 < size order
+    → ((a : ℕ) → a < size order → AreBounded order a (size order)) → IsLattice order
 lattice_of order is some bounded = record {
   ordered = is;
   inhabited = some;
@@ -120,9 +129,11 @@ lattice_of order is some bounded = record {
 
 -- the same, of tables that the code reads through references
 
-pub closure_made : (entries seen : List Entry) (pairs : List Pair) (links read above : List ℕ) → seen ≡ entries → read ≡ links → length links ≡ length seen →
+pub closure_made : (entries seen : List Entry) (pairs : List Pair) (links read above : List ℕ) → seen ≡ entries
+    → read ≡ links → length links ≡ length seen →
     ((a b : ℕ) → (bit_at (get_or links a 0) b ≡ 1) ↔ IsWritten seen pairs a b) → length above ≡ length read →
-    ((a b : ℕ) → a < length read → (bit_at (get_or above a 0) b ≡ 1) ↔ Leads read a b) → IsClosureOf entries pairs (order_of above)
+    ((a b : ℕ) → a < length read → (bit_at (get_or above a 0) b ≡ 1) ↔ Leads read a b)
+    → IsClosureOf entries pairs (order_of above)
 closure_made entries seen pairs links read above e f len linked closed_len closed =
     let links_len : length links ≡ length entries = len ∙ ap length e in
     let above_len : length above ≡ length entries = closed_len ∙ ap length f ∙ links_len in
@@ -130,14 +141,16 @@ closure_made entries seen pairs links read above e f len linked closed_len close
     let closed_now : (a b : ℕ) → a < length links → (bit_at (get_or above a 0) b ≡ 1) ↔ Leads links a b = rw f at closed in
     closure_of_rows entries pairs links above above_len linked_now (λ a b h. closed_now a b (omega (arith, links_len, h)))
 
-pub order_made : (entries : List Entry) (pairs : List Pair) (above read : List ℕ) → IsClosureOf entries pairs (order_of above) → read ≡ above →
+pub order_made : (entries : List Entry) (pairs : List Pair) (above read : List ℕ)
+    → IsClosureOf entries pairs (order_of above) → read ≡ above →
     HasNoPair (IsCycle (order_of read)) (length read) → IsOrder (order_of above)
 order_made entries pairs above read closed e acyclic =
     let here : HasNoPair (IsCycle (order_of above)) (length above) = rw e at acyclic in
     order_of_closure entries pairs (order_of above) closed (λ a b lt within. here a b lt (omega (arith, closed.elements, within)))
 
 pub converse_made : (above read below : List ℕ) → IsOrder (order_of above) → read ≡ above → length below ≡ length read →
-    ((a b : ℕ) → b < length read → (bit_at (get_or below b 0) a ≡ 1) ↔ (bit_at (get_or read a 0) b ≡ 1)) → IsConverse above below
+    ((a b : ℕ) → b < length read → (bit_at (get_or below b 0) a ≡ 1) ↔ (bit_at (get_or read a 0) b ≡ 1))
+    → IsConverse above below
 converse_made above read below order e len turned =
     let turned_now : (a b : ℕ) → b < length above → (bit_at (get_or below b 0) a ≡ 1) ↔ (bit_at (get_or above a 0) b ≡ 1) = rw e at turned in
     converse_of above below order (len ∙ ap length e) turned_now
@@ -154,7 +167,8 @@ join_there above lattice a b p q =
     let join = lattice.joins a b p q in
     (join.0, (lattice.ordered.inside a join.0 join.1.left).1, row_from_upper above lattice.ordered a b join.0 join.1)
 
-pub meet_there : (above below : List ℕ) → IsLattice (order_of above) → IsConverse above below → (a b : ℕ) → a < length above → b < length above →
+pub meet_there : (above below : List ℕ) → IsLattice (order_of above) → IsConverse above below → (a b : ℕ)
+    → a < length above → b < length above →
     (x : ℕ) × (x < length below) × (get_or below x 0 ≡ bit_and (get_or below a 0) (get_or below b 0))
 meet_there above below lattice turn a b p q =
     let meet = lattice.meets a b p q in
@@ -162,12 +176,14 @@ meet_there above below lattice turn a b p q =
     let upper = upper_from_lower above below turn a b meet.0 meet.1 in
     (meet.0, (order.inside a meet.0 upper.left).1, row_from_upper below order a b meet.0 upper)
 
-pub meet_from_row : (above below : List ℕ) → IsOrder (order_of above) → IsConverse above below → (a b c : ℕ) → c < length below → get_or below c 0 ≡ bit_and (get_or below a 0) (get_or below b 0) →
+pub meet_from_row : (above below : List ℕ) → IsOrder (order_of above) → IsConverse above below → (a b c : ℕ)
+    → c < length below → get_or below c 0 ≡ bit_and (get_or below a 0) (get_or below b 0) →
     IsGreatestLower (order_of above) a b c
 meet_from_row above below order turn a b c within e =
     lower_from_upper above below turn a b c (upper_from_row below (converse_order above below order turn) a b c within e)
 
-pub fit_made : (entries : List Entry) (pairs : List Pair) (one two three : List Entry) → length entries ≤ 64 → one ≡ entries → AreDistinct one (length one) →
+pub fit_made : (entries : List Entry) (pairs : List Pair) (one two three : List Entry) → length entries ≤ 64
+    → one ≡ entries → AreDistinct one (length one) →
     two ≡ entries → first_unknown two pairs ≡ None → three ≡ entries → AreOfOneLevel three (length three) → AreFit entries pairs
 fit_made entries pairs one two three few e distinct f known g level =
     let distinct_now : AreDistinct entries (length entries) = rw e at distinct in
@@ -175,7 +191,8 @@ fit_made entries pairs one two three few e distinct f known g level =
     let level_now : AreOfOneLevel entries (length entries) = rw g at level in
     record { known = record { named = record { few = few; distinct = distinct_now }; known = known_now }; level = level_now }
 
-pub cycle_made : (entries : List Entry) (pairs : List Pair) (above read : List ℕ) (a b : ℕ) (one other : List ℕ) → AreFit entries pairs → IsClosureOf entries pairs (order_of above) →
+pub cycle_made : (entries : List Entry) (pairs : List Pair) (above read : List ℕ) (a b : ℕ) (one other : List ℕ)
+    → AreFit entries pairs → IsClosureOf entries pairs (order_of above) →
     read ≡ above → IsFirstPair (IsCycle (order_of read)) (length read) a b → name_at entries a ≡ Some one → name_at entries b ≡ Some other → RefusesCycle entries pairs one other
 cycle_made entries pairs above read a b one other fit closed e first p q =
     let first_now : IsFirstPair (IsCycle (order_of above)) (length above) a b = rw e at first in
@@ -183,7 +200,8 @@ cycle_made entries pairs above read a b one other fit closed e first p q =
     let first_here : IsFirstPair (IsCycle (order_of above)) (length entries) a b = rw elements at first_now in
     record { fit = fit; order = order_of above; closure = closed; a = a; b = b; first = first_here; one_named = p; other_named = q }
 
-pub lack_made : (entries : List Entry) (pairs : List Pair) (above read : List ℕ) (a b : ℕ) (one other : List ℕ) → AreFit entries pairs → IsClosureOf entries pairs (order_of above) →
+pub lack_made : (entries : List Entry) (pairs : List Pair) (above read : List ℕ) (a b : ℕ) (one other : List ℕ)
+    → AreFit entries pairs → IsClosureOf entries pairs (order_of above) →
     IsOrder (order_of above) → read ≡ above → IsFirstPair (LacksBound (order_of read)) (length read) a b → name_at entries a ≡ Some one → name_at entries b ≡ Some other →
     RefusesBounds entries pairs one other
 lack_made entries pairs above read a b one other fit closed order e first p q =

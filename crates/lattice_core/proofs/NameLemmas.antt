@@ -15,12 +15,14 @@ use Rattle.qual_base.specs.Words.{meaning_of, MeansTheSame}
 Pairs : Type 0
 Pairs = List (List ℕ × (ℕ × ℕ))
 
-chosen_or : (b : Bool) (x : ℕ × ℕ) (rest other : Option (ℕ × ℕ)) → (if b then Some x else option_or rest other) ≡ option_or (if b then Some x else rest) other
+chosen_or : (b : Bool) (x : ℕ × ℕ) (rest other : Option (ℕ × ℕ))
+    → (if b then Some x else option_or rest other) ≡ option_or (if b then Some x else rest) other
 chosen_or true x rest other = refl
 chosen_or false x rest other = refl
 
 -- the first list that has a meaning decides
-pub meaning_of-append : (a b : List (List ℕ × (ℕ × ℕ))) (word : List ℕ) → meaning_of (a ++ b) word ≡ option_or (meaning_of a word) (meaning_of b word)
+pub meaning_of-append : (a b : List (List ℕ × (ℕ × ℕ))) (word : List ℕ)
+    → meaning_of (a ++ b) word ≡ option_or (meaning_of a word) (meaning_of b word)
 meaning_of-append [] b word = refl
 meaning_of-append (pair ∷ a) b word =
     ap (λ (rest : Option (ℕ × ℕ)). if bytes_eq word pair.0 then Some pair.1 else rest) (meaning_of-append a b word)
@@ -50,7 +52,8 @@ lattice_means lattice entries word =
     entries_mean lattice 0 entries word ∙ ap (option_map (λ (k : ℕ). (lattice, k))) (sym (position_from-zero (λ (entry : Entry). bytes_eq word entry.name) entries))
 
 -- one entry more
-pub entry_words_more : (lattice n : ℕ) (entries : List Entry) (i : ℕ) (entry : Entry) → i < length entries → entry ≡ get_or entries i entry →
+pub entry_words_more : (lattice n : ℕ) (entries : List Entry) (i : ℕ) (entry : Entry) → i < length entries
+    → entry ≡ get_or entries i entry →
     entry_words lattice n (take (suc i) entries) ≡ entry_words lattice n (take i entries) ++ (entry.name, (lattice, n + i)) ∷ []
 entry_words_more lattice n [] i entry h is = absurd (omega arith)
 entry_words_more lattice n (e ∷ es) zero entry h is =
@@ -60,14 +63,16 @@ entry_words_more lattice n (e ∷ es) (suc i) entry h is =
     let at : suc n + i ≡ n + suc i = omega arith in
     ap (λ (rest : List (List ℕ × (ℕ × ℕ))). (e.name, (lattice, n)) ∷ rest) (rw at at (entry_words_more lattice (suc n) es i entry (omega arith) is))
 
-pub entry_words_on : (lattice : ℕ) (entries : List Entry) (i : ℕ) (entry : Entry) → i < length entries → entry ≡ get_or entries i entry →
+pub entry_words_on : (lattice : ℕ) (entries : List Entry) (i : ℕ) (entry : Entry) → i < length entries
+    → entry ≡ get_or entries i entry →
     entry_words lattice 0 (take (i + 1) entries) ≡ entry_words lattice 0 (take i entries) ++ (entry.name, (lattice, i)) ∷ []
 entry_words_on lattice entries i entry h is =
     let at : 0 + i ≡ i = omega arith in
     rw add-one (rw at at (entry_words_more lattice 0 entries i entry h is))
 
 -- a pair more behind words
-pub word_on : (lattice : ℕ) (entries : List Entry) (i : ℕ) (entry : Entry) (old now new : List (List ℕ × (ℕ × ℕ))) → i < length entries → entry ≡ get_or entries i entry →
+pub word_on : (lattice : ℕ) (entries : List Entry) (i : ℕ) (entry : Entry) (old now new : List (List ℕ × (ℕ × ℕ)))
+    → i < length entries → entry ≡ get_or entries i entry →
     MeansTheSame now (old ++ entry_words lattice 0 (take i entries)) → MeansTheSame new (now ++ (entry.name, (lattice, i)) ∷ []) →
     MeansTheSame new (old ++ entry_words lattice 0 (take (i + 1) entries))
 word_on lattice entries i entry old now new h is before added word =
@@ -77,7 +82,8 @@ word_on lattice entries i entry old now new h is before added word =
     (append_assoc old (entry_words lattice 0 (take i entries)) pair ∙ ap (λ (rest : List (List ℕ × (ℕ × ℕ))). old ++ rest) (sym (entry_words_on lattice entries i entry h is)))
 
 -- one lattice more
-pub words_from_more : (n : ℕ) (lattices : List LatticeView) (i : ℕ) (lattice : LatticeView) → i < length lattices → lattice ≡ get_or lattices i lattice →
+pub words_from_more : (n : ℕ) (lattices : List LatticeView) (i : ℕ) (lattice : LatticeView) → i < length lattices
+    → lattice ≡ get_or lattices i lattice →
     words_from n (take (suc i) lattices) ≡ words_from n (take i lattices) ++ entry_words (n + i) 0 lattice.entries
 words_from_more n [] i lattice h is = absurd (omega arith)
 words_from_more n (l ∷ ls) zero lattice h is =
@@ -88,7 +94,8 @@ words_from_more n (l ∷ ls) (suc i) lattice h is =
     ap (λ (rest : List (List ℕ × (ℕ × ℕ))). entry_words n 0 l.entries ++ rest) (rw at at (words_from_more (suc n) ls i lattice (omega arith) is))
     ∙ sym (append_assoc (entry_words n 0 l.entries) (words_from (suc n) (take i ls)) (entry_words (n + suc i) 0 lattice.entries))
 
-pub lattice_on : (lattices : List LatticeView) (i : ℕ) (lattice : LatticeView) (now new : List (List ℕ × (ℕ × ℕ))) → i < length lattices → lattice ≡ get_or lattices i lattice →
+pub lattice_on : (lattices : List LatticeView) (i : ℕ) (lattice : LatticeView) (now new : List (List ℕ × (ℕ × ℕ)))
+    → i < length lattices → lattice ≡ get_or lattices i lattice →
     MeansTheSame now (words_of (take i lattices)) → MeansTheSame new (now ++ entry_words i 0 lattice.entries) → MeansTheSame new (words_of (take (i + 1) lattices))
 lattice_on lattices i lattice now new h is before added word =
     let at : 0 + i ≡ i = omega arith in
@@ -97,7 +104,8 @@ lattice_on lattices i lattice now new h is before added word =
     ∙ ap (λ (all : List (List ℕ × (ℕ × ℕ))). meaning_of all word) (rw add-one (sym more))
 
 -- what a word means by the lattices from number i on, the first of which counts as m
-meaning_from : (m : ℕ) (lattices : List LatticeView) (i : ℕ) (lattice : LatticeView) (word : List ℕ) → i < length lattices → lattice ≡ get_or lattices i lattice →
+meaning_from : (m : ℕ) (lattices : List LatticeView) (i : ℕ) (lattice : LatticeView) (word : List ℕ)
+    → i < length lattices → lattice ≡ get_or lattices i lattice →
     meaning_of (words_from m (drop i lattices)) word ≡
     option_or (option_map (λ (k : ℕ). (m, k)) (number_of lattice.entries word)) (meaning_of (words_from (suc m) (drop (suc i) lattices)) word)
 meaning_from m [] i lattice word h is = absurd (omega arith)
@@ -107,13 +115,15 @@ meaning_from m (l ∷ ls) zero lattice word h is =
     (lattice_means m l.entries word ∙ ap (λ (v : LatticeView). option_map (λ (k : ℕ). (m, k)) (number_of v.entries word)) (sym is))
 meaning_from m (l ∷ ls) (suc i) lattice word h is = meaning_from m ls i lattice word (omega arith) is
 
-pub found_at : (lattices : List LatticeView) (i : ℕ) (lattice : LatticeView) (word : List ℕ) (elem : ℕ) → i < length lattices → lattice ≡ get_or lattices i lattice →
+pub found_at : (lattices : List LatticeView) (i : ℕ) (lattice : LatticeView) (word : List ℕ) (elem : ℕ)
+    → i < length lattices → lattice ≡ get_or lattices i lattice →
     number_of lattice.entries word ≡ Some elem → meaning_of (words_of lattices) word ≡ meaning_of (words_from i (drop i lattices)) word → meaning_of (words_of lattices) word ≡ Some (i, elem)
 found_at lattices i lattice word elem h is found so_far =
     so_far ∙ meaning_from i lattices i lattice word h is
     ∙ ap (λ (n : Option ℕ). option_or (option_map (λ (k : ℕ). (i, k)) n) (meaning_of (words_from (suc i) (drop (suc i) lattices)) word)) found
 
-pub passed_at : (lattices : List LatticeView) (i : ℕ) (lattice : LatticeView) (word : List ℕ) → i < length lattices → lattice ≡ get_or lattices i lattice →
+pub passed_at : (lattices : List LatticeView) (i : ℕ) (lattice : LatticeView) (word : List ℕ) → i < length lattices
+    → lattice ≡ get_or lattices i lattice →
     number_of lattice.entries word ≡ None → meaning_of (words_of lattices) word ≡ meaning_of (words_from i (drop i lattices)) word →
     meaning_of (words_of lattices) word ≡ meaning_of (words_from (i + 1) (drop (i + 1) lattices)) word
 passed_at lattices i lattice word h is none so_far =

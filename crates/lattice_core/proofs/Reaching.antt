@@ -12,7 +12,8 @@ no_link links b c past h =
     let zero : bit_at (get_or links b 0) c ≡ 0 = rw none (bit_at-zero c) in
     cc
 
-pub closed_has : (links : List ℕ) (row start : ℕ) → IsClosed links row → bit_at row start ≡ 1 → (i : ℕ) → Leads links start i → bit_at row i ≡ 1
+pub closed_has : (links : List ℕ) (row start : ℕ) → IsClosed links row → bit_at row start ≡ 1 → (i : ℕ)
+    → Leads links start i → bit_at row i ≡ 1
 closed_has links row start closed begun i Here = begun
 closed_has links row start closed begun i (On b _ to link) =
     elim (cases_lt b (length links)) [

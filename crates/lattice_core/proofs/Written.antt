@@ -24,7 +24,8 @@ abbrev unknown_from : List Entry → Pair → List Pair → Option (List ℕ)
 unknown_from entries pair rest = first_unknown entries (pair ∷ rest)
 
 -- the first unknown name stands in line k or later
-unknown_at : (entries : List Entry) (pairs : List Pair) (k : ℕ) (pair : Pair) → k < length pairs → pair ≡ get_or pairs k pair → first_unknown entries (take k pairs) ≡ None →
+unknown_at : (entries : List Entry) (pairs : List Pair) (k : ℕ) (pair : Pair) → k < length pairs
+    → pair ≡ get_or pairs k pair → first_unknown entries (take k pairs) ≡ None →
     (rest : List Pair) × (first_unknown entries pairs ≡ unknown_from entries pair rest)
 unknown_at entries [] k pair h is none = absurd (omega arith)
 unknown_at entries (p ∷ ps) zero pair h is none = (ps, ap (λ (q : Pair). unknown_from entries q ps) (sym is))
@@ -34,7 +35,8 @@ unknown_at entries (p ∷ ps) (suc k) pair h is none =
     (later.0, peeled.1 (first_unknown entries ps) ∙ later.1)
 
 -- no name of line k is unknown either
-known_on : (entries : List Entry) (pairs : List Pair) (k : ℕ) (pair : Pair) → k < length pairs → pair ≡ get_or pairs k pair → first_unknown entries (take k pairs) ≡ None →
+known_on : (entries : List Entry) (pairs : List Pair) (k : ℕ) (pair : Pair) → k < length pairs
+    → pair ≡ get_or pairs k pair → first_unknown entries (take k pairs) ≡ None →
     is_none (number_of entries pair.low) ≡ false → is_none (number_of entries pair.high) ≡ false → first_unknown entries (take (suc k) pairs) ≡ None
 known_on entries [] k pair h is none low high = absurd (omega arith)
 known_on entries (p ∷ ps) zero pair h is none low high =
@@ -45,12 +47,14 @@ known_on entries (p ∷ ps) (suc k) pair h is none low high =
     let peeled = peel (is_none (number_of entries p.low)) (is_none (number_of entries p.high)) p.low p.high (first_unknown entries (take k ps)) none in
     peeled.1 (first_unknown entries (take (suc k) ps)) ∙ known_on entries ps k pair (omega arith) is peeled.0 low high
 
-pub all_known_on : (entries : List Entry) (pairs : List Pair) (k : ℕ) (pair : Pair) (low high : ℕ) → k < length pairs → pair ≡ get_or pairs k pair → first_unknown entries (take k pairs) ≡ None →
+pub all_known_on : (entries : List Entry) (pairs : List Pair) (k : ℕ) (pair : Pair) (low high : ℕ) → k < length pairs
+    → pair ≡ get_or pairs k pair → first_unknown entries (take k pairs) ≡ None →
     number_of entries pair.low ≡ Some low → number_of entries pair.high ≡ Some high → first_unknown entries (take (k + 1) pairs) ≡ None
 all_known_on entries pairs k pair low high h is none l r =
     rw add-one (known_on entries pairs k pair h is none (ap is_none l) (ap is_none r))
 
-pub low_unknown : (entries : List Entry) (pairs : List Pair) (k : ℕ) (pair : Pair) (fault : LatticeFault) → k < length pairs → pair ≡ get_or pairs k pair → first_unknown entries (take k pairs) ≡ None →
+pub low_unknown : (entries : List Entry) (pairs : List Pair) (k : ℕ) (pair : Pair) (fault : LatticeFault)
+    → k < length pairs → pair ≡ get_or pairs k pair → first_unknown entries (take k pairs) ≡ None →
     IsUnknown entries pair.low fault → IsFirstUnknown entries pairs fault
 low_unknown entries pairs k pair (UnknownName name) h is none u =
     let at = unknown_at entries pairs k pair h is none in
@@ -63,7 +67,8 @@ low_unknown entries pairs k pair (LevelMix a b) h is none u = absurd u
 low_unknown entries pairs k pair (Cycle a b) h is none u = absurd u
 low_unknown entries pairs k pair (NotALattice a b) h is none u = absurd u
 
-pub high_unknown : (entries : List Entry) (pairs : List Pair) (k : ℕ) (pair : Pair) (low : ℕ) (fault : LatticeFault) → k < length pairs → pair ≡ get_or pairs k pair → first_unknown entries (take k pairs) ≡ None →
+pub high_unknown : (entries : List Entry) (pairs : List Pair) (k : ℕ) (pair : Pair) (low : ℕ) (fault : LatticeFault)
+    → k < length pairs → pair ≡ get_or pairs k pair → first_unknown entries (take k pairs) ≡ None →
     number_of entries pair.low ≡ Some low → IsUnknown entries pair.high fault → IsFirstUnknown entries pairs fault
 high_unknown entries pairs k pair low (UnknownName name) h is none l u =
     let at = unknown_at entries pairs k pair h is none in
@@ -78,7 +83,8 @@ high_unknown entries pairs k pair low (Cycle a b) h is none l u = absurd u
 high_unknown entries pairs k pair low (NotALattice a b) h is none l u = absurd u
 
 -- one line more says one relation more
-written_more : (entries : List Entry) (pairs : List Pair) (k : ℕ) (pair : Pair) (low high : ℕ) → k < length pairs → pair ≡ get_or pairs k pair →
+written_more : (entries : List Entry) (pairs : List Pair) (k : ℕ) (pair : Pair) (low high : ℕ) → k < length pairs
+    → pair ≡ get_or pairs k pair →
     number_of entries pair.low ≡ Some low → number_of entries pair.high ≡ Some high → (a b : ℕ) →
     IsWritten entries (take (k + 1) pairs) a b → IsWritten entries (take k pairs) a b ⊎ ((a ≡ low) × (b ≡ high))
 written_more entries pairs k pair low high h is l r a b w =
@@ -98,7 +104,8 @@ written_kept entries pairs k pair h a b w =
     let there : Contains (take (k + 1) pairs) w.pair = rw (take_more pairs k pair h) (Contains-append_left (take k pairs) (get_or pairs k pair ∷ []) w.pair w.there) in
     record { pair = w.pair; there = there; low = w.low; high = w.high }
 
-written_new : (entries : List Entry) (pairs : List Pair) (k : ℕ) (pair : Pair) (low high : ℕ) → k < length pairs → pair ≡ get_or pairs k pair →
+written_new : (entries : List Entry) (pairs : List Pair) (k : ℕ) (pair : Pair) (low high : ℕ) → k < length pairs
+    → pair ≡ get_or pairs k pair →
     number_of entries pair.low ≡ Some low → number_of entries pair.high ≡ Some high → IsWritten entries (take (k + 1) pairs) low high
 written_new entries pairs k pair low high h is l r =
     let there : Contains (take k pairs ++ pair ∷ []) pair = Contains-push (take k pairs) pair in
@@ -106,7 +113,8 @@ written_new entries pairs k pair low high h is l r =
     record { pair = pair; there = rw line there; low = l; high = r }
 
 -- a write of one bit more adds one relation
-linked : (rows : List ℕ) (low high new : ℕ) → low < length rows → bit_at new high ≡ 1 → ((i : ℕ) → i ≢ high → bit_at new i ≡ bit_at (get_or rows low 0) i) → (a b : ℕ) →
+linked : (rows : List ℕ) (low high new : ℕ) → low < length rows → bit_at new high ≡ 1
+    → ((i : ℕ) → i ≢ high → bit_at new i ≡ bit_at (get_or rows low 0) i) → (a b : ℕ) →
     (bit_at (get_or (set rows low new) a 0) b ≡ 1) ↔ ((bit_at (get_or rows a 0) b ≡ 1) ⊎ ((a ≡ low) × (b ≡ high)))
 linked rows low high new h same others a b = elim (cases_eq a low) [
   | inl e ↦
@@ -125,7 +133,8 @@ linked rows low high new h same others a b = elim (cases_eq a low) [
       (λ on. inl (sym bit ∙ on), λ on. elim on [ inl before ↦ bit ∙ before | inr both ↦ absurd (ne both.0) ])
 ]
 
-pub linked_more : (entries : List Entry) (pairs : List Pair) (k : ℕ) (pair : Pair) (rows : List ℕ) (low high new : ℕ) → k < length pairs → pair ≡ get_or pairs k pair →
+pub linked_more : (entries : List Entry) (pairs : List Pair) (k : ℕ) (pair : Pair) (rows : List ℕ) (low high new : ℕ)
+    → k < length pairs → pair ≡ get_or pairs k pair →
     number_of entries pair.low ≡ Some low → number_of entries pair.high ≡ Some high →
     low < length rows → bit_at new high ≡ 1 → ((i : ℕ) → i ≢ high → bit_at new i ≡ bit_at (get_or rows low 0) i) →
     ((a b : ℕ) → (bit_at (get_or rows a 0) b ≡ 1) ↔ IsWritten entries (take k pairs) a b) →

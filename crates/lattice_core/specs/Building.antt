@@ -111,16 +111,19 @@ pub record AreBuilt (entries : List Entry) (pairs : List Pair) (lattice : Lattic
   pub closure : IsClosureOf entries pairs lattice.order
   pub bounded : IsLattice lattice.order
 
+-- this is the name of the first entry whose name an earlier one has
 pub record RefusesRepeated (entries : List Entry) (name : List ℕ) : Type 0 where
   pub few : length entries ≤ 64
   pub at : ℕ
   pub first : IsFirstRepeated entries at
   pub named : name_at entries at ≡ Some name
 
+-- this is the first name of an order line that no entry has
 pub record RefusesUnknown (entries : List Entry) (pairs : List Pair) (name : List ℕ) : Type 0 where
   pub named : AreNamed entries
   pub first : first_unknown entries pairs ≡ Some name
 
+-- these are the names of the first entry and of the first one that has another level
 pub record RefusesLevels (entries : List Entry) (pairs : List Pair) (one other : List ℕ) : Type 0 where
   pub known : AreKnown entries pairs
   pub at : ℕ
@@ -128,6 +131,7 @@ pub record RefusesLevels (entries : List Entry) (pairs : List Pair) (one other :
   pub one_named : name_at entries 0 ≡ Some one
   pub other_named : name_at entries at ≡ Some other
 
+-- these are the names of the first pair of elements each of which is below the other
 pub record RefusesCycle (entries : List Entry) (pairs : List Pair) (one other : List ℕ) : Type 0 where
   pub fit : AreFit entries pairs
   pub order : Order
@@ -138,6 +142,7 @@ pub record RefusesCycle (entries : List Entry) (pairs : List Pair) (one other : 
   pub one_named : name_at entries a ≡ Some one
   pub other_named : name_at entries b ≡ Some other
 
+-- these are the names of the first pair of elements without a least upper or a greatest lower bound
 pub record RefusesBounds (entries : List Entry) (pairs : List Pair) (one other : List ℕ) : Type 0 where
   pub fit : AreFit entries pairs
   pub order : Order

@@ -5,9 +5,11 @@ use Rattle.std.specs.Str.{bytes_eq}
 use Rattle.lattice_core.specs.declared.Entry.{Entry}
 use Rattle.lattice_core.specs.declared.Level.{Level}
 
+-- the name of an entry
 abbrev pub name_of : Entry → List ℕ
 name_of entry = entry.name
 
+-- the level of an entry
 abbrev pub level_of : Entry → Level
 level_of entry = entry.level
 

@@ -13,5 +13,6 @@ abbrev pub words_from : ℕ → List LatticeView → List (List ℕ × (ℕ × �
 words_from n [] = []
 words_from n (lattice ∷ lattices) = entry_words n 0 lattice.entries ++ words_from (suc n) lattices
 
+-- the names of all lattices, each with the numbers of its lattice and element
 abbrev pub words_of : List LatticeView → List (List ℕ × (ℕ × ℕ))
 words_of = words_from 0

@@ -1,4 +1,8 @@
 //! Finite lattices of named elements.
+//!
+//! Entry: `Lattices`, `Lattice`. Invariant: the order of a lattice is reflexive, transitive and antisymmetric, and each
+//! two elements have a join and a meet.
+//! It does not know files and their grammar. Above: the analysis and the reader of lattice files.
 #![tactic(auto)]
 
 mod bounds;

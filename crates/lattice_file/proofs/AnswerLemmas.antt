@@ -1,48 +1,31 @@
 -- From the answer for the blocks of a text to the answer for its bytes.
-use Rattle.std.proofs.Common.{◌≡◌, ℕ, Bool, ◌<◌, ◌≤◌, ◌+◌, ◌-◌, zero, suc, List, ◌++◌, length, take, drop, refl, sym, subst, arith, Result, Ok, Err, IfOk, IfErr}
+use Rattle.std.proofs.Common.{◌≡◌, ℕ, Bool, ◌<◌, ◌≤◌, ◌+◌, ◌-◌, zero, suc, List, ◌++◌, length, take, drop, refl, sym, subst, arith, Result}
 use Rattle.std.proofs.lemmas.List.{take-append-drop}
 use Rattle.lattice_core.specs.View.{LatticeView}
 use Rattle.lattice_file.specs.Blocks.{BlockView}
 use Rattle.lattice_file.specs.Text.{IsLatticeText}
 use Rattle.lattice_file.specs.Begins.{BeginsText, IsFirstBad}
-use Rattle.lattice_file.specs.Faults.{IsBuildFault, Reads, IsFileFault, IsAnswerFor}
+use Rattle.lattice_file.specs.Faults.{IsAnswerFor}
 use Rattle.lattice_file.specs.declared.reading.LatticeFileFault.{LatticeFileFault}
-use Rattle.lattice_file.specs.declared.reading.LatticeFileFault.TheVariants.{Block, Grammar, TooManyLattices, SharedName, NoMemory}
 use Rattle.lattice_file.proofs.OneReading.{one_reading}
 use Rattle.lattice_file.proofs.FirstBad.{take_front}
 use Rattle.std.specs.List.{slice_range}
 
-pub build_answer : (blocks : List BlockView) (fault : LatticeFileFault) → length blocks ≤ 16 → IsBuildFault blocks fault → IsAnswerFor blocks (Err fault)
-build_answer blocks (Block number reason) few h = (few, h)
-build_answer blocks (Grammar line column) few h = absurd h
-build_answer blocks TooManyLattices few h = absurd h
-build_answer blocks (SharedName name) few h = absurd h
-build_answer blocks NoMemory few h = tt
-
-pub answer_reads : (wide : Bool) (bytes : List ℕ) (blocks : List BlockView) (r : Result (List LatticeView) LatticeFileFault) → IsLatticeText wide blocks bytes → IsAnswerFor blocks r → IfOk r (Reads wide bytes)
-answer_reads wide bytes blocks (Ok lattices) text h = record { blocks = blocks; text = text; few = h.0; built = h.1; apart = h.2 }
-answer_reads wide bytes blocks (Err fault) text h = tt
-
-pub answer_refuses : (wide : Bool) (bytes : List ℕ) (blocks : List BlockView) (r : Result (List LatticeView) LatticeFileFault) → IsLatticeText wide blocks bytes → IsAnswerFor blocks r → IfErr r (IsFileFault wide bytes)
-answer_refuses wide bytes blocks (Ok lattices) text h = tt
-answer_refuses wide bytes blocks (Err (Block number reason)) text h = record { blocks = blocks; text = text; few = h.0; first = h.1 }
-answer_refuses wide bytes blocks (Err (Grammar line column)) text h = absurd h
-answer_refuses wide bytes blocks (Err TooManyLattices) text h = record { blocks = blocks; text = text; many = h }
-answer_refuses wide bytes blocks (Err (SharedName name)) text h = record { blocks = blocks; lattices = h.1; text = text; few = h.0; built = h.2; first = h.3 }
-answer_refuses wide bytes blocks (Err NoMemory) text h = tt
-
-pub answer_only : (wide : Bool) (bytes : List ℕ) (blocks other : List BlockView) (r : Result (List LatticeView) LatticeFileFault) → IsLatticeText wide blocks bytes → IsAnswerFor blocks r → IsLatticeText wide other bytes → IsAnswerFor other r
+pub answer_only : (wide : Bool) (bytes : List ℕ) (blocks other : List BlockView) (r : Result (List LatticeView) LatticeFileFault)
+    → IsLatticeText wide blocks bytes → IsAnswerFor blocks r → IsLatticeText wide other bytes → IsAnswerFor other r
 answer_only wide bytes blocks other r text h also = subst (λ (bs : List BlockView). IsAnswerFor bs r) (one_reading wide blocks other bytes text also) h
 
 -- bytes with a first bad place are no text
-pub bad_no_text : (wide : Bool) (bytes : List ℕ) (place : ℕ) (blocks : List BlockView) → IsFirstBad wide bytes place → IsLatticeText wide blocks bytes → ⊥
+pub bad_no_text : (wide : Bool) (bytes : List ℕ) (place : ℕ) (blocks : List BlockView) → IsFirstBad wide bytes place
+    → IsLatticeText wide blocks bytes → ⊥
 bad_no_text wide bytes place blocks bad text = by (length bytes - place) (omega (arith, bad.within))
   where
     by : (n : ℕ) → length bytes ≡ place + n → ⊥
     by zero e = bad.ends_behind (omega (arith, e)) blocks text
     by (suc n) e = bad.ends_in_bytes (omega (arith, e)) (record { more = drop (place + 1) bytes; blocks = blocks; text = subst (λ (bs : List ℕ). IsLatticeText wide blocks bs) (sym (take-append-drop (place + 1) bytes)) text })
 
-shorter : (wide : Bool) (bytes : List ℕ) (p q : ℕ) → p < q → q ≤ length bytes → BeginsText wide (take q bytes) → BeginsText wide (take (p + 1) bytes)
+shorter : (wide : Bool) (bytes : List ℕ) (p q : ℕ) → p < q → q ≤ length bytes → BeginsText wide (take q bytes)
+    → BeginsText wide (take (p + 1) bytes)
 shorter wide bytes p q less within begins = record {
   more = slice_range bytes (p + 1) q ++ begins.more;
   blocks = begins.blocks;

@@ -6,20 +6,23 @@ use Rattle.lattice_file.specs.Faults.{IsBlockFault, IsBuildFault}
 use Rattle.lattice_file.specs.declared.reading.LatticeFileFault.{LatticeFileFault}
 use Rattle.lattice_file.specs.declared.reading.LatticeFileFault.TheVariants.{Block, Grammar, TooManyLattices, SharedName, NoMemory}
 
-pub built_on : (blocks : List BlockView) (lattices : List LatticeView) (block : BlockView) (lattice : LatticeView) → AreAllBuilt blocks lattices → IsBuilt block lattice →
+pub built_on : (blocks : List BlockView) (lattices : List LatticeView) (block : BlockView) (lattice : LatticeView)
+    → AreAllBuilt blocks lattices → IsBuilt block lattice →
     AreAllBuilt (blocks ++ block ∷ []) (lattices ++ lattice ∷ [])
 built_on [] [] block lattice before here = (here, tt)
 built_on [] (l ∷ ls) block lattice before here = absurd before
 built_on (b ∷ bs) [] block lattice before here = absurd before
 built_on (b ∷ bs) (l ∷ ls) block lattice before here = (before.0, built_on bs ls block lattice before.1 here)
 
-pub built_count : (blocks : List BlockView) (lattices : List LatticeView) → AreAllBuilt blocks lattices → length blocks ≡ length lattices
+pub built_count : (blocks : List BlockView) (lattices : List LatticeView) → AreAllBuilt blocks lattices
+    → length blocks ≡ length lattices
 built_count [] [] built = refl
 built_count [] (l ∷ ls) built = absurd built
 built_count (b ∷ bs) [] built = absurd built
 built_count (b ∷ bs) (l ∷ ls) built = ap suc (built_count bs ls built.1)
 
-found_behind : (front : List BlockView) (block : BlockView) (rest : List BlockView) → slice_get (front ++ block ∷ rest) (length front) ≡ Some block
+found_behind : (front : List BlockView) (block : BlockView) (rest : List BlockView)
+    → slice_get (front ++ block ∷ rest) (length front) ≡ Some block
 found_behind [] block rest = refl
 found_behind (b ∷ front) block rest = found_behind front block rest
 
@@ -47,10 +50,12 @@ refused_at blocks front block rest lattices before (Grammar line column) e count
 refused_at blocks front block rest lattices before TooManyLattices e count built fault = absurd fault
 refused_at blocks front block rest lattices before (SharedName name) e count built fault = absurd fault
 
-pub items_on : (front : List BlockView) (block : BlockView) (left rest blocks : List BlockView) → left ≡ block ∷ rest → front ++ left ≡ blocks → (front ++ block ∷ []) ++ rest ≡ blocks
+pub items_on : (front : List BlockView) (block : BlockView) (left rest blocks : List BlockView) → left ≡ block ∷ rest
+    → front ++ left ≡ blocks → (front ++ block ∷ []) ++ rest ≡ blocks
 items_on front block left rest blocks e all = append_assoc front (block ∷ []) rest ∙ ap (λ (bs : List BlockView). front ++ bs) (sym e) ∙ all
 
-pub count_below : (blocks front : List BlockView) (block : BlockView) (rest : List BlockView) (lattices : List LatticeView) → front ++ block ∷ rest ≡ blocks → AreAllBuilt front lattices →
+pub count_below : (blocks front : List BlockView) (block : BlockView) (rest : List BlockView) (lattices : List LatticeView)
+    → front ++ block ∷ rest ≡ blocks → AreAllBuilt front lattices →
     length blocks ≤ 16 → length lattices < 16
 count_below blocks front block rest lattices e built few =
     let all : length front + suc (length rest) ≡ length blocks = sym (length-append front (block ∷ rest)) ∙ ap length e in

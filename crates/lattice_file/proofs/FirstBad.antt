@@ -25,19 +25,23 @@ use Rattle.lattice_file.proofs.StepAble.{IsReady, able, ready, wide_stays, prope
 use Rattle.lattice_file.proofs.OneReading.{no_lexeme, step_one}
 
 -- parts of the bytes
-pub take_join : (bytes : List ℕ) (a b : ℕ) → a ≤ b → b ≤ length bytes → take a bytes ++ slice_range bytes a b ≡ take b bytes
+pub take_join : (bytes : List ℕ) (a b : ℕ) → a ≤ b → b ≤ length bytes
+    → take a bytes ++ slice_range bytes a b ≡ take b bytes
 take_join bytes a b le within = sym (take-add a (b - a) bytes) ∙ ap (λ (n : ℕ). take n bytes) (omega (arith, le))
 
-pub slice_join : (bytes : List ℕ) (a b c : ℕ) → a ≤ b → b ≤ c → c ≤ length bytes → slice_range bytes a b ++ slice_range bytes b c ≡ slice_range bytes a c
+pub slice_join : (bytes : List ℕ) (a b c : ℕ) → a ≤ b → b ≤ c → c ≤ length bytes
+    → slice_range bytes a b ++ slice_range bytes b c ≡ slice_range bytes a c
 slice_join bytes a b c le more within =
     let shift : drop b bytes ≡ drop (b - a) (drop a bytes) = sym (drop-drop (b - a) a bytes ∙ ap (λ (n : ℕ). drop n bytes) (omega (arith, le))) in
     ap (λ (rest : List ℕ). take (b - a) (drop a bytes) ++ take (c - b) rest) shift
     ∙ sym (take-add (b - a) (c - b) (drop a bytes)) ∙ ap (λ (n : ℕ). take n (drop a bytes)) (omega (arith, le, more))
 
-pub take_front : (bytes tail : List ℕ) (a b : ℕ) → a ≤ b → b ≤ length bytes → take a bytes ++ (slice_range bytes a b ++ tail) ≡ take b bytes ++ tail
+pub take_front : (bytes tail : List ℕ) (a b : ℕ) → a ≤ b → b ≤ length bytes
+    → take a bytes ++ (slice_range bytes a b ++ tail) ≡ take b bytes ++ tail
 take_front bytes tail a b le within = sym (append_assoc (take a bytes) (slice_range bytes a b) tail) ∙ ap (λ (front : List ℕ). front ++ tail) (take_join bytes a b le within)
 
-pub slice_front : (bytes tail : List ℕ) (a b c : ℕ) → a ≤ b → b ≤ c → c ≤ length bytes → slice_range bytes a b ++ (slice_range bytes b c ++ tail) ≡ slice_range bytes a c ++ tail
+pub slice_front : (bytes tail : List ℕ) (a b c : ℕ) → a ≤ b → b ≤ c → c ≤ length bytes
+    → slice_range bytes a b ++ (slice_range bytes b c ++ tail) ≡ slice_range bytes a c ++ tail
 slice_front bytes tail a b c le more within = sym (append_assoc (slice_range bytes a b) (slice_range bytes b c) tail) ∙ ap (λ (front : List ℕ). front ++ tail) (slice_join bytes a b c le more within)
 
 -- the first byte
@@ -56,13 +60,15 @@ first_none (b ∷ tail) e = absurd cc
 pub drop_over : (bytes : List ℕ) (at : ℕ) → length bytes ≤ at → drop at bytes ≡ []
 drop_over bytes at h = grind (arith, common_steps)
 
-pub slice_first : (bytes tail : List ℕ) (a b : ℕ) → a ≤ b → first tail ≡ first (drop b bytes) → first (slice_range bytes a b ++ tail) ≡ first (drop a bytes)
+pub slice_first : (bytes tail : List ℕ) (a b : ℕ) → a ≤ b → first tail ≡ first (drop b bytes)
+    → first (slice_range bytes a b ++ tail) ≡ first (drop a bytes)
 slice_first bytes tail a b le e = first_append (slice_range bytes a b) tail (drop b bytes) e ∙ ap first (sym (drop_split bytes a b le))
 
 slice_length : (bytes : List ℕ) (a b : ℕ) → a < b → b ≤ length bytes → 0 < length (slice_range bytes a b)
 slice_length bytes a b less within = grind (arith, common_steps)
 
-pub slice_long : (bytes tail : List ℕ) (a b : ℕ) → a < b → b ≤ length bytes → first (slice_range bytes a b ++ tail) ≡ first (drop a bytes)
+pub slice_long : (bytes tail : List ℕ) (a b : ℕ) → a < b → b ≤ length bytes
+    → first (slice_range bytes a b ++ tail) ≡ first (drop a bytes)
 slice_long bytes tail a b less within = first_long (slice_range bytes a b) tail (drop b bytes) (slice_length bytes a b less within) ∙ ap first (sym (drop_split bytes a b (omega (arith, less))))
 
 pub slice_none : (bytes : List ℕ) (a : ℕ) → slice_range bytes a a ≡ []
@@ -72,13 +78,15 @@ slice_short : (bytes : List ℕ) (a b : ℕ) → length (slice_range bytes a b) 
 slice_short bytes a b = grind (arith, common_steps)
 
 -- a tail on a new line behind a part
-fresh : (bytes more : List ℕ) (a b : ℕ) → b ≤ length bytes → Resembles (slice_range bytes a b ++ 10 ∷ more) (drop a bytes)
+fresh : (bytes more : List ℕ) (a b : ℕ) → b ≤ length bytes
+    → Resembles (slice_range bytes a b ++ 10 ∷ more) (drop a bytes)
 fresh bytes more a b within = by (slice_range bytes a b) refl
   where
     apart : (x : ℕ) (front : List ℕ) → x ∷ front ≡ slice_range bytes a b → a < b
     apart x front e = omega (arith, ap length e, slice_short bytes a b)
 
-    by : (front : List ℕ) → front ≡ slice_range bytes a b → Resembles (slice_range bytes a b ++ 10 ∷ more) (drop a bytes)
+    by : (front : List ℕ) → front ≡ slice_range bytes a b
+        → Resembles (slice_range bytes a b ++ 10 ∷ more) (drop a bytes)
     by [] e = inr (rw (← e) refl)
     by (x ∷ front) e = inl (slice_long bytes (10 ∷ more) a b (apart x front e) within)
 
@@ -89,7 +97,8 @@ gap_before a b c (Blank byte bytes _ is gap) on = Blank byte bytes c is (gap_bef
 gap_before a b c (Comment text bytes _ inside gap) on = Comment text bytes c inside (gap_before bytes b c gap on)
 gap_before a b c (Line text bytes _ inside ends gap) on = Line text bytes c inside ends (gap_before bytes b c gap on)
 
-pub goes_before : (standing : Standing) (front rest : List ℕ) (all : List BlockView) → Gap front rest → GoesFrom standing rest all → GoesFrom standing front all
+pub goes_before : (standing : Standing) (front rest : List ℕ) (all : List BlockView) → Gap front rest
+    → GoesFrom standing rest all → GoesFrom standing front all
 goes_before standing front rest all gap goes = by (sees standing rest all goes)
   where
     by : Seen standing rest all → GoesFrom standing front all
@@ -104,10 +113,13 @@ pub record Stands (wide : Bool) (bytes : List ℕ) (at : ℕ) (standing : Standi
   pub within : at ≤ length bytes
   pub ready : IsReady standing
   pub wide_is : standing.given.wide ≡ wide
-  pub reads : (tail : List ℕ) (all : List BlockView) → Resembles tail (drop at bytes) → GoesFrom standing tail all → IsLatticeText wide all (take at bytes ++ tail)
-  pub only : (tail : List ℕ) (all : List BlockView) → Resembles tail (drop at bytes) → IsLatticeText wide all (take at bytes ++ tail) → GoesFrom standing tail all
+  pub reads : (tail : List ℕ) (all : List BlockView) → Resembles tail (drop at bytes) → GoesFrom standing tail all
+      → IsLatticeText wide all (take at bytes ++ tail)
+  pub only : (tail : List ℕ) (all : List BlockView) → Resembles tail (drop at bytes)
+      → IsLatticeText wide all (take at bytes ++ tail) → GoesFrom standing tail all
 
-pub stands_first : (wide : Bool) (bytes : List ℕ) (standing : Standing) → standing.stage ≡ stages.Outside → standing.given.wide ≡ wide → standing.draft.blocks ≡ [] → Stands wide bytes 0 standing
+pub stands_first : (wide : Bool) (bytes : List ℕ) (standing : Standing) → standing.stage ≡ stages.Outside
+    → standing.given.wide ≡ wide → standing.draft.blocks ≡ [] → Stands wide bytes 0 standing
 stands_first wide bytes standing outside wide_is empty = record {
   within = omega arith;
   ready = subst (λ (s : Stage). IsReady (record { stage = s; given = standing.given; draft = standing.draft })) (sym outside) tt;
@@ -122,7 +134,9 @@ stands_first wide bytes standing outside wide_is empty = record {
       subst P (sym outside) (all, subst (λ (w : Bool). IsLatticeText w all tail) (sym wide_is) text, ap (λ (bs : List BlockView). bs ++ all) (sym empty));
 }
 
-pub stands_next : (wide : Bool) (bytes : List ℕ) (at start end : ℕ) (old new : Standing) → Stands wide bytes at old → at ≤ start → start < end → end ≤ length bytes → GapGoes bytes at start → LexemeGoes old new bytes start end → Stands wide bytes end new
+pub stands_next : (wide : Bool) (bytes : List ℕ) (at start end : ℕ) (old new : Standing) → Stands wide bytes at old
+    → at ≤ start → start < end → end ≤ length bytes → GapGoes bytes at start → LexemeGoes old new bytes start end
+    → Stands wide bytes end new
 stands_next wide bytes at start end old new stands le less within gap goes = record {
   within = within;
   ready = ready old goes.lexeme new goes.next_is;
@@ -136,19 +150,25 @@ stands_next wide bytes at start end old new stands le less within gap goes = rec
     front : List ℕ → List ℕ
     front tail = slice_range bytes at start ++ (slice_range bytes start end ++ tail)
 
-    whole : (tail : List ℕ) → take at bytes ++ (slice_range bytes at start ++ (slice_range bytes start end ++ tail)) ≡ take end bytes ++ tail
+    whole : (tail : List ℕ)
+        → take at bytes ++ (slice_range bytes at start ++ (slice_range bytes start end ++ tail)) ≡ take end bytes ++ tail
     whole tail = take_front bytes (slice_range bytes start end ++ tail) at start le (omega (arith, less, within)) ∙ take_front bytes tail start end (omega (arith, less)) within
 
-    alike : (tail : List ℕ) → Resembles (slice_range bytes at start ++ (slice_range bytes start end ++ tail)) (drop at bytes)
+    alike : (tail : List ℕ)
+        → Resembles (slice_range bytes at start ++ (slice_range bytes start end ++ tail)) (drop at bytes)
     alike tail = inl (slice_first bytes (slice_range bytes start end ++ tail) at start le (slice_long bytes tail start end less within))
 
-    takes : (tail : List ℕ) → Resembles tail (drop end bytes) → Takes goes.lexeme (slice_range bytes at start ++ (slice_range bytes start end ++ tail)) tail
+    takes : (tail : List ℕ) → Resembles tail (drop end bytes)
+        → Takes goes.lexeme (slice_range bytes at start ++ (slice_range bytes start end ++ tail)) tail
     takes tail likes = record { behind = slice_range bytes start end ++ tail; gap = gap (slice_range bytes start end ++ tail) (inl (slice_long bytes tail start end less within)); spells = goes.spells tail likes }
 
 -- where what is read cannot go on
-bad_at : (wide : Bool) (bytes : List ℕ) (at place : ℕ) (standing : Standing) → Stands wide bytes at standing → at ≤ place → place ≤ length bytes →
-    (tail : List ℕ) (all : List BlockView) → Resembles (slice_range bytes at place ++ tail) (drop at bytes) → GoesFrom standing (slice_range bytes at place ++ tail) all →
-    ((tail : List ℕ) (all : List BlockView) → first tail ≡ first (drop place bytes) → GoesFrom standing (slice_range bytes at place ++ tail) all → ⊥) → IsFirstBad wide bytes place
+bad_at : (wide : Bool) (bytes : List ℕ) (at place : ℕ) (standing : Standing) → Stands wide bytes at standing
+    → at ≤ place → place ≤ length bytes →
+    (tail : List ℕ) (all : List BlockView) → Resembles (slice_range bytes at place ++ tail) (drop at bytes)
+    → GoesFrom standing (slice_range bytes at place ++ tail) all →
+    ((tail : List ℕ) (all : List BlockView) → first tail ≡ first (drop place bytes) → GoesFrom standing (slice_range bytes at place ++ tail) all → ⊥)
+    → IsFirstBad wide bytes place
 bad_at wide bytes at place standing stands le within tail all likes goes fails = record {
   within = within;
   begins = record {
@@ -168,7 +188,8 @@ bad_at wide bytes at place standing stands le within tail all likes goes fails =
       refuse [] blocks (ap first (sym over)) (subst (λ (text : List ℕ). IsLatticeText wide blocks text) same text);
 }
   where
-    refuse : (tail : List ℕ) (all : List BlockView) → first tail ≡ first (drop place bytes) → IsLatticeText wide all (take place bytes ++ tail) → ⊥
+    refuse : (tail : List ℕ) (all : List BlockView) → first tail ≡ first (drop place bytes)
+        → IsLatticeText wide all (take place bytes ++ tail) → ⊥
     refuse tail all here text =
         fails tail all here (stands.only (slice_range bytes at place ++ tail) all (inl (slice_first bytes tail at place le here))
         (subst (λ (text : List ℕ). IsLatticeText wide all text) (sym (take_front bytes tail at place le within)) text))
@@ -184,7 +205,8 @@ slash_lexeme lexeme bytes slash begins =
     let here : Some begins.byte ≡ Some 47 = sym (ap first begins.is) ∙ slash in
     not_gap lexeme (sym (slash_gap begins.byte here) ∙ begins.kind)
 
-pub gap_bad : (wide : Bool) (bytes : List ℕ) (at place : ℕ) (standing : Standing) → Stands wide bytes at standing → GapFails bytes at place → IsFirstBad wide bytes place
+pub gap_bad : (wide : Bool) (bytes : List ℕ) (at place : ℕ) (standing : Standing) → Stands wide bytes at standing
+    → GapFails bytes at place → IsFirstBad wide bytes place
 gap_bad wide bytes at place standing stands fails =
     let comment = fails.comment in
     let on : at ≤ place = omega (arith, fails.later, comment.later) in
@@ -194,12 +216,15 @@ gap_bad wide bytes at place standing stands fails =
     (goes_before standing (slice_range bytes at place ++ tail) (10 ∷ a.more) a.all (through tail (10 ∷ a.more) (comment.ends (10 ∷ a.more)) (inl (slice_long bytes tail fails.at place comment.later comment.within))) a.goes)
     (λ tail all here goes. refuse tail here all (sees standing (slice_range bytes at place ++ tail) all goes))
   where
-    through : (tail rest : List ℕ) → Gap (slice_range bytes fails.at place ++ tail) rest → Resembles (slice_range bytes fails.at place ++ tail) (drop fails.at bytes) → Gap (slice_range bytes at place ++ tail) rest
+    through : (tail rest : List ℕ) → Gap (slice_range bytes fails.at place ++ tail) rest
+        → Resembles (slice_range bytes fails.at place ++ tail) (drop fails.at bytes)
+        → Gap (slice_range bytes at place ++ tail) rest
     through tail rest gap likes =
         subst (λ (front : List ℕ). Gap front rest) (slice_front bytes tail at fails.at place fails.later (omega (arith, fails.comment.later)) fails.comment.within)
         (gap_before (slice_range bytes at fails.at ++ (slice_range bytes fails.at place ++ tail)) (slice_range bytes fails.at place ++ tail) rest (fails.gap (slice_range bytes fails.at place ++ tail) likes) gap)
 
-    refuse : (tail : List ℕ) → first tail ≡ first (drop place bytes) → (all : List BlockView) → Seen standing (slice_range bytes at place ++ tail) all → ⊥
+    refuse : (tail : List ℕ) → first tail ≡ first (drop place bytes) → (all : List BlockView)
+        → Seen standing (slice_range bytes at place ++ tail) all → ⊥
     refuse tail here all seen = by seen
       where
         stop : List ℕ
@@ -224,7 +249,9 @@ gap_bad wide bytes at place standing stands fails =
             gap_one (slice_range bytes at place ++ tail) takes.behind (slice_range bytes fails.at place ++ tail) takes.gap gap (lexeme_stuck lexeme takes.behind b) stuck in
             slash_lexeme lexeme takes.behind (ap first same ∙ slash) b
 
-pub end_bad : (wide : Bool) (bytes : List ℕ) (at start : ℕ) (standing : Standing) → Stands wide bytes at standing → at ≤ start → start ≡ length bytes → GapGoes bytes at start → (standing.stage ≡ stages.Outside → ⊥) → IsFirstBad wide bytes start
+pub end_bad : (wide : Bool) (bytes : List ℕ) (at start : ℕ) (standing : Standing) → Stands wide bytes at standing
+    → at ≤ start → start ≡ length bytes → GapGoes bytes at start → (standing.stage ≡ stages.Outside → ⊥)
+    → IsFirstBad wide bytes start
 end_bad wide bytes at start standing stands le over gap inside =
     let a = able standing stands.ready in
     let rest : List ℕ = 10 ∷ a.more in
@@ -241,7 +268,8 @@ end_bad wide bytes at start standing stands le over gap inside =
 kind_free : (b : ℕ) → not (is_blank b || nat_eq b 47) ≡ true → InGap ≡ kind_of b → ⊥
 kind_free b h e = by (is_blank b || nat_eq b 47) (stands_in_words b) (nat_eq b 34) h e
   where
-    by : (c d f : Bool) → not c ≡ true → InGap ≡ (if c then InGap else if d then InWord else if f then AtQuote else AtSign) → ⊥
+    by : (c d f : Bool) → not c ≡ true
+        → InGap ≡ (if c then InGap else if d then InWord else if f then AtQuote else AtSign) → ⊥
     by true d f h e = cc
     by false true f h e = cc
     by false false true h e = cc
@@ -260,20 +288,25 @@ lexeme_first (x ∷ a) (y ∷ b) e h = subst (λ (z : ℕ). not (is_blank z || n
     same : (x y : ℕ) → Some x ≡ Some y → x ≡ y
     same x y e = cc
 
-pub lexeme_bad : (wide : Bool) (bytes : List ℕ) (at start place : ℕ) (standing : Standing) → Stands wide bytes at standing → at ≤ start → start < length bytes → GapGoes bytes at start → begins_lexeme (drop start bytes) ≡ true →
+pub lexeme_bad : (wide : Bool) (bytes : List ℕ) (at start place : ℕ) (standing : Standing)
+    → Stands wide bytes at standing → at ≤ start → start < length bytes → GapGoes bytes at start
+    → begins_lexeme (drop start bytes) ≡ true →
     LexemeFails standing bytes start place → IsFirstBad wide bytes place
 lexeme_bad wide bytes at start place standing stands le inside gap stops fails = by fails.begins
   where
     on : at ≤ place
     on = omega (arith, le, fails.later)
 
-    whole : (tail : List ℕ) → slice_range bytes at start ++ (slice_range bytes start place ++ tail) ≡ slice_range bytes at place ++ tail
+    whole : (tail : List ℕ)
+        → slice_range bytes at start ++ (slice_range bytes start place ++ tail) ≡ slice_range bytes at place ++ tail
     whole tail = slice_front bytes tail at start place le fails.later fails.within
 
-    gap_to : (tail : List ℕ) → Resembles (slice_range bytes start place ++ tail) (drop start bytes) → Gap (slice_range bytes at place ++ tail) (slice_range bytes start place ++ tail)
+    gap_to : (tail : List ℕ) → Resembles (slice_range bytes start place ++ tail) (drop start bytes)
+        → Gap (slice_range bytes at place ++ tail) (slice_range bytes start place ++ tail)
     gap_to tail likes = subst (λ (front : List ℕ). Gap front (slice_range bytes start place ++ tail)) (whole tail) (gap (slice_range bytes start place ++ tail) likes)
 
-    seen_fails : (tail : List ℕ) (all : List BlockView) → first tail ≡ first (drop place bytes) → Seen standing (slice_range bytes at place ++ tail) all → ⊥
+    seen_fails : (tail : List ℕ) (all : List BlockView) → first tail ≡ first (drop place bytes)
+        → Seen standing (slice_range bytes at place ++ tail) all → ⊥
     seen_fails tail all here seen = go seen
       where
         here_too : first (slice_range bytes start place ++ tail) ≡ first (drop start bytes)
@@ -292,7 +325,8 @@ lexeme_bad wide bytes at start place standing stands le inside gap stops fails =
             gap_one (slice_range bytes at place ++ tail) takes.behind (slice_range bytes start place ++ tail) takes.gap (gap_to tail (inl here_too)) (lexeme_stuck lexeme takes.behind b) stuck in
             fails.fails tail after lexeme new here (subst (λ (front : List ℕ). Spells lexeme front after) same takes.spells) e
 
-    none : (tail : List ℕ) (all : List BlockView) → first tail ≡ first (drop place bytes) → GoesFrom standing (slice_range bytes at place ++ tail) all → ⊥
+    none : (tail : List ℕ) (all : List BlockView) → first tail ≡ first (drop place bytes)
+        → GoesFrom standing (slice_range bytes at place ++ tail) all → ⊥
     none tail all here goes = seen_fails tail all here (sees standing (slice_range bytes at place ++ tail) all goes)
 
     by : (place ≡ start) ⊎ LexemeBegins standing bytes start place → IsFirstBad wide bytes place
@@ -311,7 +345,9 @@ lexeme_bad wide bytes at start place standing stands le inside gap stops fails =
         (leads standing b.lexeme b.new (slice_range bytes at place ++ tail) rest a.all b.next_is takes a.goes) none
 
 -- the bytes end where a block may begin
-pub end_reads : (wide : Bool) (bytes : List ℕ) (at start : ℕ) (standing : Standing) (blocks : List BlockView) → Stands wide bytes at standing → at ≤ start → start ≡ length bytes → GapGoes bytes at start → standing.stage ≡ stages.Outside →
+pub end_reads : (wide : Bool) (bytes : List ℕ) (at start : ℕ) (standing : Standing) (blocks : List BlockView)
+    → Stands wide bytes at standing → at ≤ start → start ≡ length bytes → GapGoes bytes at start
+    → standing.stage ≡ stages.Outside →
     blocks ≡ standing.draft.blocks → IsLatticeText wide blocks bytes
 end_reads wide bytes at start standing blocks stands le over gap outside is =
     let none : drop start bytes ≡ [] = drop_over bytes start (omega (arith, over)) in
@@ -323,7 +359,9 @@ end_reads wide bytes at start standing blocks stands le over gap outside is =
     take_front bytes [] at start le (omega (arith, over)) ∙ ap (λ (rest : List ℕ). take start bytes ++ rest) (sym none) ∙ take-append-drop start bytes in
     subst (λ (text : List ℕ). IsLatticeText wide blocks text) whole (stands.reads (slice_range bytes at start ++ []) blocks (inl (slice_first bytes [] at start le likes)) goes)
 
-pub fault_first : (wide : Bool) (bytes : List ℕ) (at start : ℕ) (reader : Reader) (fault : TextFault) → Stands wide bytes at (standing_of reader) → at ≤ start → start < length bytes → GapGoes bytes at start → begins_lexeme (drop start bytes) ≡ true →
+pub fault_first : (wide : Bool) (bytes : List ℕ) (at start : ℕ) (reader : Reader) (fault : TextFault)
+    → Stands wide bytes at (standing_of reader) → at ≤ start → start < length bytes → GapGoes bytes at start
+    → begins_lexeme (drop start bytes) ≡ true →
     IsLexemeFault reader bytes start fault → IsTextFault wide bytes fault
 fault_first wide bytes at start reader (At place) stands le inside gap stops fails = lexeme_bad wide bytes at start place (standing_of reader) stands le inside gap stops fails
 fault_first wide bytes at start reader NoMemory stands le inside gap stops fails = tt

@@ -1,6 +1,6 @@
 -- How far a word can be one that passes a test.
 use Rattle.std.proofs.Common.{◌≡◌, ℕ, suc, ◌<◌, ◌≤◌, ◌+◌, ◌-◌, Bool, true, false, not, ◌&&◌, ◌||◌, nat_eq, List, [], ◌∷◌, ◌++◌, length, take, drop, get_or, refl, sym, ◌∙◌, ap, subst, arith, ◌⊎◌, inl, inr, Option, Some, None, append_assoc}
-use Rattle.std.specs.Prelude.{is_some, codes}
+use Rattle.std.specs.Prelude.{is_some}
 use Rattle.std.specs.List.{list_all}
 use Rattle.std.specs.Str.{bytes_eq}
 use Rattle.std.specs.Option.{option_or}
@@ -10,31 +10,31 @@ use Rattle.std.proofs.Math.Seq.{take-add}
 use Rattle.std.proofs.lemmas.List.Folds.{list_all-append, list_all_more}
 use Rattle.lattice_file.specs.declared.words.Attribute.{Attribute}
 use Rattle.lattice_file.specs.declared.words.Given.{Given}
-use Rattle.lattice_core.specs.declared.Flows.{Flows}
 use Rattle.lattice_file.specs.declared.passing.BlockAttribute.{BlockAttribute}
-use Rattle.lattice_file.specs.Text.{is_letter, is_name_byte, begins_with_dollar, is_element_name, attribute_word, has_attribute, block_attribute_word, has_flow}
-use Rattle.lattice_file.specs.Steps.{only_if, map_some, if_named, attribute_named, with_value, if_flow, flow_named, with_flow, Standing, next_by_word}
+use Rattle.lattice_file.specs.Text.{is_letter, is_name_byte, begins_with_dollar, attribute_word, has_attribute}
+use Rattle.lattice_file.specs.Steps.{only_if, map_some, if_named, attribute_named, with_value, flow_named, with_flow, Standing, next_by_word}
 use Rattle.lattice_file.specs.declared.blocks.Stage.{Stage}
 use Rattle.lattice_file.specs.declared.blocks.Stage.TheVariants as stages
 use Rattle.lattice_file.specs.Extents.{IsFront, may_come}
 use Rattle.lattice_file.proofs.GapUnique.{and_first, and_second, or_cases}
 use Rattle.lattice_file.proofs.StepLeads.{At, word_is, is_word}
 
-pub front_none : (passes : List ℕ → Bool) (word : List ℕ) → ((w : List ℕ) → passes w ≡ false) → IsFront passes word 0
-front_none passes word h = record { within = omega arith; begins = inl refl; ends = λ less more e. (let clash : false ≡ true = sym (h (take (0 + 1) word ++ more)) ∙ e in absurd cc) }
-
-pub front_as : (p q : List ℕ → Bool) (word : List ℕ) (count : ℕ) → ((w : List ℕ) → p w ≡ q w) → IsFront p word count → IsFront q word count
+pub front_as : (p q : List ℕ → Bool) (word : List ℕ) (count : ℕ) → ((w : List ℕ) → p w ≡ q w) → IsFront p word count
+    → IsFront q word count
 front_as p q word count same f = record { within = f.within; begins = by f.begins; ends = λ less more e. f.ends less more (same (take (count + 1) word ++ more) ∙ e) }
   where
-    by : (count ≡ 0) ⊎ ((more : List ℕ) × (p (take count word ++ more) ≡ true)) → (count ≡ 0) ⊎ ((more : List ℕ) × (q (take count word ++ more) ≡ true))
+    by : (count ≡ 0) ⊎ ((more : List ℕ) × (p (take count word ++ more) ≡ true))
+        → (count ≡ 0) ⊎ ((more : List ℕ) × (q (take count word ++ more) ≡ true))
     by (inl e) = inl e
     by (inr (more, e)) = inr (more, sym (same (take count word ++ more)) ∙ e)
 
-take_longer : (word more : List ℕ) (n k : ℕ) → n ≤ k → take (k + 1) word ++ more ≡ take (n + 1) word ++ (take (k - n) (drop (n + 1) word) ++ more)
+take_longer : (word more : List ℕ) (n k : ℕ) → n ≤ k
+    → take (k + 1) word ++ more ≡ take (n + 1) word ++ (take (k - n) (drop (n + 1) word) ++ more)
 take_longer word more n k le =
     ap (λ (m : ℕ). take m word ++ more) (omega (arith, le)) ∙ ap (λ (w : List ℕ). w ++ more) (take-add (n + 1) (k - n) word) ∙ append_assoc (take (n + 1) word) (take (k - n) (drop (n + 1) word)) more
 
-pub front_or : (p q : List ℕ → Bool) (word : List ℕ) (n m k : ℕ) → n ≤ k → m ≤ k → (k ≡ n) ⊎ (k ≡ m) → IsFront p word n → IsFront q word m → IsFront (λ w. p w || q w) word k
+pub front_or : (p q : List ℕ → Bool) (word : List ℕ) (n m k : ℕ) → n ≤ k → m ≤ k → (k ≡ n) ⊎ (k ≡ m) → IsFront p word n
+    → IsFront q word m → IsFront (λ w. p w || q w) word k
 front_or p q word n m k ln lm which f g = record { within = within which; begins = begins which; ends = λ less more e. ends less more (or_cases (p (take (k + 1) word ++ more)) (q (take (k + 1) word ++ more)) e) }
   where
     within : (k ≡ n) ⊎ (k ≡ m) → k ≤ length word
@@ -48,24 +48,29 @@ front_or p q word n m k ln lm which f g = record { within = within which; begins
     right true b e = refl
     right false b e = e
 
-    by_p : k ≡ n → (n ≡ 0) ⊎ ((more : List ℕ) × (p (take n word ++ more) ≡ true)) → (k ≡ 0) ⊎ ((more : List ℕ) × ((p (take k word ++ more) || q (take k word ++ more)) ≡ true))
+    by_p : k ≡ n → (n ≡ 0) ⊎ ((more : List ℕ) × (p (take n word ++ more) ≡ true))
+        → (k ≡ 0) ⊎ ((more : List ℕ) × ((p (take k word ++ more) || q (take k word ++ more)) ≡ true))
     by_p e (inl z) = inl (e ∙ z)
     by_p e (inr (more, h)) = inr (more, left (p (take k word ++ more)) (q (take k word ++ more)) (subst (λ (c : ℕ). p (take c word ++ more) ≡ true) (sym e) h))
 
-    by_q : k ≡ m → (m ≡ 0) ⊎ ((more : List ℕ) × (q (take m word ++ more) ≡ true)) → (k ≡ 0) ⊎ ((more : List ℕ) × ((p (take k word ++ more) || q (take k word ++ more)) ≡ true))
+    by_q : k ≡ m → (m ≡ 0) ⊎ ((more : List ℕ) × (q (take m word ++ more) ≡ true))
+        → (k ≡ 0) ⊎ ((more : List ℕ) × ((p (take k word ++ more) || q (take k word ++ more)) ≡ true))
     by_q e (inl z) = inl (e ∙ z)
     by_q e (inr (more, h)) = inr (more, right (p (take k word ++ more)) (q (take k word ++ more)) (subst (λ (c : ℕ). q (take c word ++ more) ≡ true) (sym e) h))
 
-    begins : (k ≡ n) ⊎ (k ≡ m) → (k ≡ 0) ⊎ ((more : List ℕ) × ((p (take k word ++ more) || q (take k word ++ more)) ≡ true))
+    begins : (k ≡ n) ⊎ (k ≡ m)
+        → (k ≡ 0) ⊎ ((more : List ℕ) × ((p (take k word ++ more) || q (take k word ++ more)) ≡ true))
     begins (inl e) = by_p e f.begins
     begins (inr e) = by_q e g.begins
 
-    ends : k < length word → (more : List ℕ) → (p (take (k + 1) word ++ more) ≡ true) ⊎ (q (take (k + 1) word ++ more) ≡ true) → ⊥
+    ends : k < length word → (more : List ℕ)
+        → (p (take (k + 1) word ++ more) ≡ true) ⊎ (q (take (k + 1) word ++ more) ≡ true) → ⊥
     ends less more (inl e) = f.ends (omega (arith, ln, less)) (take (k - n) (drop (n + 1) word) ++ more) (subst (λ (w : List ℕ). p w ≡ true) (take_longer word more n k ln) e)
     ends less more (inr e) = g.ends (omega (arith, lm, less)) (take (k - m) (drop (m + 1) word) ++ more) (subst (λ (w : List ℕ). q w ≡ true) (take_longer word more m k lm) e)
 
 -- the front that a word shares with another
-pub front_shared : (word other : List ℕ) (at : ℕ) → at ≤ length word → at ≤ length other → take at word ≡ take at other → (at < length word → at < length other → get_or word at 0 ≡ get_or other at 0 → ⊥) →
+pub front_shared : (word other : List ℕ) (at : ℕ) → at ≤ length word → at ≤ length other → take at word ≡ take at other
+    → (at < length word → at < length other → get_or word at 0 ≡ get_or other at 0 → ⊥) →
     IsFront (λ w. bytes_eq w other) word at
 front_shared word other at lw lo same differs = record {
   within = lw;
@@ -84,13 +89,9 @@ front_shared word other at lw lo same differs = record {
     at_same : at < length word → (more : List ℕ) → get_or word at 0 ≡ get_or (take (at + 1) word ++ more) at 0
     at_same less more = grind (arith, common_steps)
 
-pub shared_on : (word other : List ℕ) (at : ℕ) → at < length word → at < length other → take at word ≡ take at other → get_or word at 0 ≡ get_or other at 0 → take (at + 1) word ≡ take (at + 1) other
+pub shared_on : (word other : List ℕ) (at : ℕ) → at < length word → at < length other → take at word ≡ take at other
+    → get_or word at 0 ≡ get_or other at 0 → take (at + 1) word ≡ take (at + 1) other
 shared_on word other at lw lo same e = take_more_same word other at 0 lw lo same e
-
--- names with a dollar
-not_dollar : (x : ℕ) (more : List ℕ) → nat_eq x 36 ≡ false → begins_with_dollar (x ∷ more) ≡ false
-not_dollar x [] h = refl
-not_dollar x (c ∷ more) h = rw h refl
 
 not_letter : (x c : ℕ) (more : List ℕ) → is_letter c ≡ false → begins_with_dollar (x ∷ c ∷ more) ≡ false
 not_letter x c more h = by (nat_eq x 36)
@@ -102,19 +103,15 @@ not_letter x c more h = by (nat_eq x 36)
 clash_of : (b : Bool) → b ≡ false → b ≡ true → ⊥
 clash_of b e f = let clash : false ≡ true = sym e ∙ f in absurd cc
 
-pub dollar_empty : IsFront begins_with_dollar [] 0
-dollar_empty = record { within = omega arith; begins = inl refl; ends = λ less more e. omega (arith, less) }
-
-pub dollar_other : (x : ℕ) (rest : List ℕ) → nat_eq x 36 ≡ false → IsFront begins_with_dollar (x ∷ rest) 0
-dollar_other x rest h = record { within = omega arith; begins = inl refl; ends = λ less more e. clash_of (begins_with_dollar (x ∷ more)) (not_dollar x more h) e }
-
 pub dollar_alone : (x : ℕ) → nat_eq x 36 ≡ true → IsFront begins_with_dollar (x ∷ []) 1
 dollar_alone x h = record { within = omega arith; begins = inr (97 ∷ [], rw h refl); ends = λ less more e. omega (arith, less) }
 
-pub dollar_first : (x c : ℕ) (rest : List ℕ) → nat_eq x 36 ≡ true → is_letter c ≡ false → IsFront begins_with_dollar (x ∷ c ∷ rest) 1
+pub dollar_first : (x c : ℕ) (rest : List ℕ) → nat_eq x 36 ≡ true → is_letter c ≡ false
+    → IsFront begins_with_dollar (x ∷ c ∷ rest) 1
 dollar_first x c rest h l = record { within = omega arith; begins = inr (97 ∷ [], rw h refl); ends = λ less more e. clash_of (begins_with_dollar (x ∷ c ∷ more)) (not_letter x c more l) e }
 
-pub dollar_name : (x c : ℕ) (rest : List ℕ) (k : ℕ) → nat_eq x 36 ≡ true → is_letter c ≡ true → k ≤ length rest → list_all is_name_byte (take k rest) ≡ true →
+pub dollar_name : (x c : ℕ) (rest : List ℕ) (k : ℕ) → nat_eq x 36 ≡ true → is_letter c ≡ true → k ≤ length rest
+    → list_all is_name_byte (take k rest) ≡ true →
     (k < length rest → is_name_byte (get_or rest k 0) ≡ false) → IsFront begins_with_dollar (x ∷ c ∷ rest) (k + 2)
 dollar_name x c rest k h l within all stops = record {
   within = omega (arith, within);
@@ -151,25 +148,23 @@ map_test : {A B : Type 0} (f : A → B) (one : Option A) → is_some one ≡ is_
 map_test f (Some x) = refl
 map_test f None = refl
 
-or_same : (a b c d : Bool) → a ≡ c → b ≡ d → (a || b) ≡ (c || d)
-or_same a b c d e f = cc
-
-pub front_only : {A : Type 0} (word other : List ℕ) (to : A) (count : ℕ) → IsFront (λ w. bytes_eq w other) word count → IsFront (λ w. is_some (only_if (bytes_eq w other) to)) word count
+pub front_only : {A : Type 0} (word other : List ℕ) (to : A) (count : ℕ) → IsFront (λ w. bytes_eq w other) word count
+    → IsFront (λ w. is_some (only_if (bytes_eq w other) to)) word count
 front_only word other to count f = front_as (λ w. bytes_eq w other) (λ w. is_some (only_if (bytes_eq w other) to)) word count (λ w. only_some (bytes_eq w other) to) f
 
-pub front_either : {A : Type 0} (one other : List ℕ → Option A) (word : List ℕ) (n m k : ℕ) → n ≤ k → m ≤ k → (k ≡ n) ⊎ (k ≡ m) → IsFront (λ w. is_some (one w)) word n → IsFront (λ w. is_some (other w)) word m →
+pub front_either : {A : Type 0} (one other : List ℕ → Option A) (word : List ℕ) (n m k : ℕ) → n ≤ k → m ≤ k
+    → (k ≡ n) ⊎ (k ≡ m) → IsFront (λ w. is_some (one w)) word n → IsFront (λ w. is_some (other w)) word m →
     IsFront (λ w. is_some (option_or (one w) (other w))) word k
 front_either one other word n m k ln lm which f g =
     front_as (λ w. is_some (one w) || is_some (other w)) (λ w. is_some (option_or (one w) (other w))) word k (λ w. first_test (one w) (other w))
     (front_or (λ w. is_some (one w)) (λ w. is_some (other w)) word n m k ln lm which f g)
 
-pub front_map : {A B : Type 0} (f : A → B) (one : List ℕ → Option A) (word : List ℕ) (count : ℕ) → IsFront (λ w. is_some (one w)) word count → IsFront (λ w. is_some (map_some f (one w))) word count
-front_map f one word count front = front_as (λ w. is_some (one w)) (λ w. is_some (map_some f (one w))) word count (λ w. map_test f (one w)) front
-
-pub front_allowed : {A : Type 0} (test : List ℕ → Bool) (to : List ℕ → A) (word : List ℕ) (count : ℕ) → IsFront test word count → IsFront (λ w. is_some (only_if (test w) (to w))) word count
+pub front_allowed : {A : Type 0} (test : List ℕ → Bool) (to : List ℕ → A) (word : List ℕ) (count : ℕ)
+    → IsFront test word count → IsFront (λ w. is_some (only_if (test w) (to w))) word count
 front_allowed test to word count f = front_as test (λ w. is_some (only_if (test w) (to w))) word count (λ w. only_some (test w) (to w)) f
 
-pub front_free : (given : Given) (attribute : Attribute) (word : List ℕ) (count : ℕ) → has_attribute given attribute ≡ false → IsFront (λ w. bytes_eq w (attribute_word attribute)) word count →
+pub front_free : (given : Given) (attribute : Attribute) (word : List ℕ) (count : ℕ)
+    → has_attribute given attribute ≡ false → IsFront (λ w. bytes_eq w (attribute_word attribute)) word count →
     IsFront (λ w. is_some (if_named given w attribute)) word count
 front_free given attribute word count free f =
     front_as (λ w. bytes_eq w (attribute_word attribute)) (λ w. is_some (if_named given w attribute)) word count
@@ -179,68 +174,34 @@ front_free given attribute word count free f =
     same true b e = rw e refl
     same false b e = refl
 
-pub front_given : (given : Given) (attribute : Attribute) (word : List ℕ) → has_attribute given attribute ≡ true → IsFront (λ w. is_some (if_named given w attribute)) word 0
-front_given given attribute word given_it =
-    front_none (λ w. is_some (if_named given w attribute)) word (λ w. sym (only_some (bytes_eq w (attribute_word attribute) && not (has_attribute given attribute)) attribute) ∙ over (bytes_eq w (attribute_word attribute)) (has_attribute given attribute) given_it)
-  where
-    over : (a b : Bool) → b ≡ true → (a && not b) ≡ false
-    over true b e = rw e refl
-    over false b e = refl
-
-pub front_new : (flows : Flows) (attribute : BlockAttribute) (word : List ℕ) (count : ℕ) → has_flow flows attribute ≡ false → IsFront (λ w. bytes_eq w (block_attribute_word attribute)) word count →
-    IsFront (λ w. is_some (if_flow flows w attribute)) word count
-front_new flows attribute word count free f =
-    front_as (λ w. bytes_eq w (block_attribute_word attribute)) (λ w. is_some (if_flow flows w attribute)) word count
-    (λ w. same (bytes_eq w (block_attribute_word attribute)) (has_flow flows attribute) free ∙ only_some (bytes_eq w (block_attribute_word attribute) && not (has_flow flows attribute)) attribute) f
-  where
-    same : (a b : Bool) → b ≡ false → a ≡ (a && not b)
-    same true b e = rw e refl
-    same false b e = refl
-
-pub front_had : (flows : Flows) (attribute : BlockAttribute) (word : List ℕ) → has_flow flows attribute ≡ true → IsFront (λ w. is_some (if_flow flows w attribute)) word 0
-front_had flows attribute word had =
-    front_none (λ w. is_some (if_flow flows w attribute)) word (λ w. sym (only_some (bytes_eq w (block_attribute_word attribute) && not (has_flow flows attribute)) attribute) ∙ over (bytes_eq w (block_attribute_word attribute)) (has_flow flows attribute) had)
-  where
-    over : (a b : Bool) → b ≡ true → (a && not b) ≡ false
-    over true b e = rw e refl
-    over false b e = refl
-
 -- and at the stages of a reader
-pub front_stage : (standing : Standing) (stage : Stage) (test : List ℕ → Bool) (word : List ℕ) (count : ℕ) → standing.stage ≡ stage →
-    ((w : List ℕ) → test w ≡ is_some (next_by_word stage standing.given standing.draft w)) → IsFront test word count → IsFront (may_come standing) word count
+pub front_stage : (standing : Standing) (stage : Stage) (test : List ℕ → Bool) (word : List ℕ) (count : ℕ)
+    → standing.stage ≡ stage →
+    ((w : List ℕ) → test w ≡ is_some (next_by_word stage standing.given standing.draft w)) → IsFront test word count
+    → IsFront (may_come standing) word count
 front_stage standing stage test word count e same f =
     front_as test (may_come standing) word count (λ w. subst (λ (s : Stage). test w ≡ is_some (next_by_word s standing.given standing.draft w)) (sym e) (same w)) f
 
-pub front_outside : (standing : Standing) (word : List ℕ) (count : ℕ) → standing.stage ≡ stages.Outside → IsFront (λ w. bytes_eq w (codes "partial")) word count → IsFront (may_come standing) word count
-front_outside standing word count e f = front_stage standing stages.Outside (λ w. bytes_eq w (codes "partial")) word count e (λ w. only_some (bytes_eq w (codes "partial")) _) f
-
-pub front_order : (standing : Standing) (word : List ℕ) (count : ℕ) → standing.stage ≡ stages.Order → IsFront (λ w. bytes_eq w (codes "order")) word count → IsFront (may_come standing) word count
-front_order standing word count e f = front_stage standing stages.Order (λ w. bytes_eq w (codes "order")) word count e (λ w. only_some (bytes_eq w (codes "order")) _) f
-
-pub front_items : (standing : Standing) (word : List ℕ) (count : ℕ) → standing.stage ≡ stages.Items → IsFront is_element_name word count → IsFront (may_come standing) word count
-front_items standing word count e f = front_stage standing stages.Items is_element_name word count e (λ w. only_some (is_element_name w) _) f
-
-pub front_high : (standing : Standing) (word : List ℕ) (count : ℕ) → standing.stage ≡ stages.High → IsFront is_element_name word count → IsFront (may_come standing) word count
-front_high standing word count e f = front_stage standing stages.High is_element_name word count e (λ w. only_some (is_element_name w) _) f
-
-pub front_attribute : (standing : Standing) (word : List ℕ) (count : ℕ) → standing.stage ≡ stages.Attribute → IsFront (λ w. is_some (attribute_named standing.given w)) word count → IsFront (may_come standing) word count
+pub front_attribute : (standing : Standing) (word : List ℕ) (count : ℕ) → standing.stage ≡ stages.Attribute
+    → IsFront (λ w. is_some (attribute_named standing.given w)) word count → IsFront (may_come standing) word count
 front_attribute standing word count e f =
     front_stage standing stages.Attribute (λ w. is_some (attribute_named standing.given w)) word count e (λ w. map_test (λ attribute. At (stages.Equals attribute) standing.given standing.draft) (attribute_named standing.given w)) f
 
-pub front_value : (standing : Standing) (attribute : Attribute) (word : List ℕ) (count : ℕ) → standing.stage ≡ stages.Value attribute → IsFront (λ w. is_some (with_value attribute standing.given w)) word count → IsFront (may_come standing) word count
+pub front_value : (standing : Standing) (attribute : Attribute) (word : List ℕ) (count : ℕ)
+    → standing.stage ≡ stages.Value attribute
+    → IsFront (λ w. is_some (with_value attribute standing.given w)) word count → IsFront (may_come standing) word count
 front_value standing attribute word count e f =
     front_stage standing (stages.Value attribute) (λ w. is_some (with_value attribute standing.given w)) word count e (λ w. map_test (λ then. At stages.Attributed then standing.draft) (with_value attribute standing.given w)) f
 
-pub front_flow_name : (standing : Standing) (word : List ℕ) (count : ℕ) → standing.stage ≡ stages.FlowName → IsFront (λ w. is_some (flow_named standing.draft.flows w)) word count → IsFront (may_come standing) word count
+pub front_flow_name : (standing : Standing) (word : List ℕ) (count : ℕ) → standing.stage ≡ stages.FlowName
+    → IsFront (λ w. is_some (flow_named standing.draft.flows w)) word count → IsFront (may_come standing) word count
 front_flow_name standing word count e f =
     front_stage standing stages.FlowName (λ w. is_some (flow_named standing.draft.flows w)) word count e (λ w. map_test (λ attribute. At (stages.FlowEquals attribute) standing.given standing.draft) (flow_named standing.draft.flows w)) f
 
-pub front_flow : (standing : Standing) (attribute : BlockAttribute) (word : List ℕ) (count : ℕ) → standing.stage ≡ stages.FlowValue attribute → IsFront (λ w. is_some (with_flow attribute standing.draft.flows w)) word count → IsFront (may_come standing) word count
+pub front_flow : (standing : Standing) (attribute : BlockAttribute) (word : List ℕ) (count : ℕ)
+    → standing.stage ≡ stages.FlowValue attribute
+    → IsFront (λ w. is_some (with_flow attribute standing.draft.flows w)) word count
+    → IsFront (may_come standing) word count
 front_flow standing attribute word count e f =
     front_stage standing (stages.FlowValue attribute) (λ w. is_some (with_flow attribute standing.draft.flows w)) word count e
     (λ w. map_test (λ flows. At stages.Flowed standing.given (record standing.draft { flows = flows })) (with_flow attribute standing.draft.flows w)) f
-
--- no word may come where a sign must
-pub front_sign : (standing : Standing) (stage : Stage) (word : List ℕ) → standing.stage ≡ stage → ((w : List ℕ) → next_by_word stage standing.given standing.draft w ≡ None) → IsFront (may_come standing) word 0
-front_sign standing stage word e none =
-    front_stage standing stage (λ w. false) word 0 e (λ w. ap is_some (sym (none w))) (front_none (λ w. false) word (λ w. refl))

@@ -23,7 +23,8 @@ pub tail_same : (x y : ℕ) (xs ys : List ℕ) → x ∷ xs ≡ y ∷ ys → xs 
 tail_same x y xs ys e = cc
 
 -- A row of bytes that pass a test, up to where none can pass, is one.
-pub row_one : (p : ℕ → Bool) (Stop : List ℕ → Type 0) → ((b : ℕ) (bytes : List ℕ) → Stop (b ∷ bytes) → p b ≡ true → ⊥) → (t u a b : List ℕ) →
+pub row_one : (p : ℕ → Bool) (Stop : List ℕ → Type 0) → ((b : ℕ) (bytes : List ℕ) → Stop (b ∷ bytes) → p b ≡ true → ⊥)
+    → (t u a b : List ℕ) →
     list_all p t ≡ true → list_all p u ≡ true → Stop a → Stop b → t ++ a ≡ u ++ b → (t ≡ u) × (a ≡ b)
 row_one p Stop clash [] [] a b ht hu sa sb e = (refl, e)
 row_one p Stop clash [] (y ∷ u) a b ht hu sa sb e = absurd (clash y (u ++ b) (subst Stop e sa) (and_first (p y) (list_all p u) hu))
@@ -71,8 +72,10 @@ comment_one (x ∷ t) (y ∷ u) a b ot ou e = comment_one t u a b (open_behind x
 pub data GapView (bytes rest : List ℕ) : Type 0 where
   ViewNothing : rest ≡ bytes → GapView bytes rest
   ViewBlank : (b : ℕ) (behind : List ℕ) → bytes ≡ b ∷ behind → is_blank b ≡ true → Gap behind rest → GapView bytes rest
-  ViewComment : (text behind : List ℕ) → bytes ≡ 47 ∷ 42 ∷ text ++ 42 ∷ 47 ∷ behind → StaysOpen text → Gap behind rest → GapView bytes rest
-  ViewLine : (text behind : List ℕ) → bytes ≡ 47 ∷ 47 ∷ text ++ behind → list_all stays_on_line text ≡ true → ends_line behind ≡ true → Gap behind rest → GapView bytes rest
+  ViewComment : (text behind : List ℕ) → bytes ≡ 47 ∷ 42 ∷ text ++ 42 ∷ 47 ∷ behind → StaysOpen text → Gap behind rest
+      → GapView bytes rest
+  ViewLine : (text behind : List ℕ) → bytes ≡ 47 ∷ 47 ∷ text ++ behind → list_all stays_on_line text ≡ true
+      → ends_line behind ≡ true → Gap behind rest → GapView bytes rest
 
 pub gap_view : (bytes rest : List ℕ) → Gap bytes rest → GapView bytes rest
 gap_view bytes rest (Nothing _) = ViewNothing refl

@@ -12,25 +12,30 @@ use Rattle.lattice_file.specs.Blocks.{BlockView}
 use Rattle.lattice_file.specs.Text.{TakesWord, TakesSign, TakesValue, Word, Color, Gives, Attributes, Last, More, Close, EntryItem, LineItem, IsLatticeText, NextBlock, TakesFlow, LastFlow, MoreFlows, block_attribute_word, has_flow, is_element_name, attribute_word, has_attribute, entry_of, no_attribute}
 use Rattle.lattice_file.specs.Going.{Draft, GoesOnItems, GoesOnAttributes, GoesBehindAttribute, EndEntry, Comma, GoesBehindName, Bracket, Below, GoesOnOpen, GoesOnValue, GoesOnFlows, GoesBehindFlow, EndFlows, CommaFlows, GoesOnFlow}
 
-pub block_is : (block : BlockView) (entries : List Entry) (pairs : List Pair) (flows : Flows) → block.entries ≡ entries → block.pairs ≡ pairs → block.flows ≡ flows →
+pub block_is : (block : BlockView) (entries : List Entry) (pairs : List Pair) (flows : Flows) → block.entries ≡ entries
+    → block.pairs ≡ pairs → block.flows ≡ flows →
     block ≡ record { entries = entries; pairs = pairs; flows = flows }
 block_is block entries pairs flows e f g = rw (← e, ← f, ← g) refl
 
 -- whether a file is read as one of wider C stays
-pub gives_wide : (attribute : Attribute) (given then : Given) (word : List ℕ) → Gives attribute word given then → then.wide ≡ given.wide
+pub gives_wide : (attribute : Attribute) (given then : Given) (word : List ℕ) → Gives attribute word given then
+    → then.wide ≡ given.wide
 gives_wide attributes.Level given then word (level, is, e) = ap (λ (g : Given). g.wide) e
 gives_wide attributes.Sign given then word (sign, is, e) = ap (λ (g : Given). g.wide) e
 gives_wide attributes.Color given then word gives = absurd gives
 gives_wide attributes.Write given then word (is, e) = ap (λ (g : Given). g.wide) e
 gives_wide attributes.Deref given then word (deref, is, e) = ap (λ (g : Given). g.wide) e
 
-pub value_wide : (attribute : Attribute) (given then : Given) (bytes rest : List ℕ) → TakesValue attribute given then bytes rest → then.wide ≡ given.wide
+pub value_wide : (attribute : Attribute) (given then : Given) (bytes rest : List ℕ)
+    → TakesValue attribute given then bytes rest → then.wide ≡ given.wide
 value_wide _ given then bytes rest (Word attribute word _ _ _ _ gives takes) = gives_wide attribute given then word gives
 value_wide _ given then bytes rest (Color _ _ _ takes) = refl
 
 -- one block more
-pub open_goes : (wide : Bool) (draft : Draft) (rest after : List ℕ) (all : List BlockView) → TakesWord (codes "partial") rest after →
-    (behind : List ℕ) × TakesWord (codes "order") after behind × GoesOnOpen wide draft behind all → (more : List BlockView) × IsLatticeText wide more rest × (all ≡ draft.blocks ++ more)
+pub open_goes : (wide : Bool) (draft : Draft) (rest after : List ℕ) (all : List BlockView)
+    → TakesWord (codes "partial") rest after →
+    (behind : List ℕ) × TakesWord (codes "order") after behind × GoesOnOpen wide draft behind all
+    → (more : List BlockView) × IsLatticeText wide more rest × (all ≡ draft.blocks ++ more)
 open_goes wide draft rest after all word goes =
     let opened = goes.2 in
     let items = opened.items in (
@@ -40,8 +45,10 @@ open_goes wide draft rest after all word goes =
     )
 
 -- the end of a block
-pub close_goes : (wide : Bool) (flows : Flows) (entries : List Entry) (pairs : List Pair) (blocks : List BlockView) (rest after : List ℕ) (all : List BlockView) → 0 < length entries → TakesSign 125 rest after →
-    (more : List BlockView) × IsLatticeText wide more after × (all ≡ (blocks ++ record { entries = entries; pairs = pairs; flows = flows } ∷ []) ++ more) → GoesOnItems wide flows entries pairs blocks rest all
+pub close_goes : (wide : Bool) (flows : Flows) (entries : List Entry) (pairs : List Pair) (blocks : List BlockView) (rest after : List ℕ) (all : List BlockView)
+    → 0 < length entries → TakesSign 125 rest after →
+    (more : List BlockView) × IsLatticeText wide more after × (all ≡ (blocks ++ record { entries = entries; pairs = pairs; flows = flows } ∷ []) ++ more)
+    → GoesOnItems wide flows entries pairs blocks rest all
 close_goes wide flows entries pairs blocks rest after all filled sign goes = record {
   more_entries = [];
   more_pairs = [];
@@ -93,7 +100,8 @@ line_goes wide flows low high entries pairs blocks b0 b1 b2 b3 all named named_h
     }
 
 -- the name of an item
-pub name_goes : (wide : Bool) (draft : Draft) (rest after : List ℕ) (all : List BlockView) → is_element_name draft.name ≡ true → TakesWord draft.name rest after → GoesBehindName wide draft after all →
+pub name_goes : (wide : Bool) (draft : Draft) (rest after : List ℕ) (all : List BlockView)
+    → is_element_name draft.name ≡ true → TakesWord draft.name rest after → GoesBehindName wide draft after all →
     GoesOnItems wide draft.flows draft.entries draft.pairs draft.blocks rest all
 name_goes wide draft rest after all named word (Bracket behind sign on) =
     entry_goes wide draft.flows draft.name on.end draft.entries draft.pairs draft.blocks rest after behind on.behind all named word sign on.attributes on.items
@@ -101,8 +109,10 @@ name_goes wide draft rest after all named word (Below behind sign on) =
     line_goes wide draft.flows draft.name on.high draft.entries draft.pairs draft.blocks rest after behind on.behind all named on.named word sign on.word on.items
 
 -- an attribute's name, its = and its value
-pub attribute_goes : (attribute : Attribute) (given : Given) (draft : Draft) (rest after : List ℕ) (all : List BlockView) → has_attribute given attribute ≡ false → TakesWord (attribute_word attribute) rest after →
-    (behind : List ℕ) × TakesSign 61 after behind × GoesOnValue attribute given draft behind all → GoesOnAttributes given draft rest all
+pub attribute_goes : (attribute : Attribute) (given : Given) (draft : Draft) (rest after : List ℕ) (all : List BlockView)
+    → has_attribute given attribute ≡ false → TakesWord (attribute_word attribute) rest after →
+    (behind : List ℕ) × TakesSign 61 after behind × GoesOnValue attribute given draft behind all
+    → GoesOnAttributes given draft rest all
 attribute_goes attribute given draft rest after all new word goes = go goes.2.attributes
   where
     value : GoesOnValue attribute given draft goes.0 all
@@ -111,7 +121,8 @@ attribute_goes attribute given draft rest after all new word goes = go goes.2.at
     same : value.then.wide ≡ given.wide
     same = value_wide attribute given value.then goes.0 value.behind value.value
 
-    as_given : (end : Given) (behind : List ℕ) → GoesOnItems value.then.wide draft.flows (draft.entries ++ entry_of draft.name end ∷ []) draft.pairs draft.blocks behind all →
+    as_given : (end : Given) (behind : List ℕ)
+        → GoesOnItems value.then.wide draft.flows (draft.entries ++ entry_of draft.name end ∷ []) draft.pairs draft.blocks behind all →
         GoesOnItems given.wide draft.flows (draft.entries ++ entry_of draft.name end ∷ []) draft.pairs draft.blocks behind all
     as_given end behind items = subst (λ (w : Bool). GoesOnItems w draft.flows (draft.entries ++ entry_of draft.name end ∷ []) draft.pairs draft.blocks behind all) same items
 
@@ -130,8 +141,10 @@ attribute_goes attribute given draft rest after all new word goes = go goes.2.at
     }
 
 -- an attribute of a block: its name, its = and its value
-pub flow_goes : (wide : Bool) (attribute : BlockAttribute) (flows : Flows) (blocks : List BlockView) (rest after : List ℕ) (all : List BlockView) → has_flow flows attribute ≡ false → TakesWord (block_attribute_word attribute) rest after →
-    (behind : List ℕ) × TakesSign 61 after behind × GoesOnFlow wide attribute flows blocks behind all → GoesOnFlows wide flows blocks rest all
+pub flow_goes : (wide : Bool) (attribute : BlockAttribute) (flows : Flows) (blocks : List BlockView) (rest after : List ℕ) (all : List BlockView)
+    → has_flow flows attribute ≡ false → TakesWord (block_attribute_word attribute) rest after →
+    (behind : List ℕ) × TakesSign 61 after behind × GoesOnFlow wide attribute flows blocks behind all
+    → GoesOnFlows wide flows blocks rest all
 flow_goes wide attribute flows blocks rest after all free name goes = go goes.2.attributes
   where
     value : GoesOnFlow wide attribute flows blocks goes.0 all

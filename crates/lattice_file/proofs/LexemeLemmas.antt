@@ -14,13 +14,16 @@ use Rattle.lattice_file.proofs.LexemeUnique.{IsProper, InWord, AtSign, kind_of, 
 use Rattle.lattice_file.proofs.StepAble.{proper}
 use Rattle.lattice_file.proofs.FirstBad.{slice_none, slice_join}
 
-pub slice_prefix : (bytes : List ℕ) (at end k : ℕ) → at + k ≤ end → end ≤ length bytes → slice_range bytes at (at + k) ≡ take k (slice_range bytes at end)
+pub slice_prefix : (bytes : List ℕ) (at end k : ℕ) → at + k ≤ end → end ≤ length bytes
+    → slice_range bytes at (at + k) ≡ take k (slice_range bytes at end)
 slice_prefix bytes at end k le within = grind (arith, common_steps)
 
-pub slice_count : (bytes : List ℕ) (at end : ℕ) → at ≤ end → end ≤ length bytes → length (slice_range bytes at end) ≡ end - at
+pub slice_count : (bytes : List ℕ) (at end : ℕ) → at ≤ end → end ≤ length bytes
+    → length (slice_range bytes at end) ≡ end - at
 slice_count bytes at end le within = grind (arith, common_steps)
 
-pub slice_at : (bytes : List ℕ) (at end k : ℕ) → at + k < end → end ≤ length bytes → get_or (slice_range bytes at end) k 0 ≡ get_or bytes (at + k) 0
+pub slice_at : (bytes : List ℕ) (at end k : ℕ) → at + k < end → end ≤ length bytes
+    → get_or (slice_range bytes at end) k 0 ≡ get_or bytes (at + k) 0
 slice_at bytes at end k lt within = grind (arith, common_steps)
 
 taken_count : (word : List ℕ) (k : ℕ) → k < length word → length (take (k + 1) word) ≡ k + 1
@@ -52,14 +55,17 @@ resembles_stops : (tail rest : List ℕ) → Resembles tail rest → lengthens r
 resembles_stops tail rest (inl e) h = lengthens_first tail rest e h
 resembles_stops tail rest (inr e) h = lengthens_first tail (10 ∷ []) e refl
 
-some_of : (standing : Standing) (word : List ℕ) → may_come standing word ≡ true → (new : Standing) × (next standing (WordLexeme word) ≡ Some new)
+some_of : (standing : Standing) (word : List ℕ) → may_come standing word ≡ true
+    → (new : Standing) × (next standing (WordLexeme word) ≡ Some new)
 some_of standing word h = by (next standing (WordLexeme word)) refl h
   where
-    by : (o : Option Standing) → next standing (WordLexeme word) ≡ o → is_some o ≡ true → (new : Standing) × (next standing (WordLexeme word) ≡ Some new)
+    by : (o : Option Standing) → next standing (WordLexeme word) ≡ o → is_some o ≡ true
+        → (new : Standing) × (next standing (WordLexeme word) ≡ Some new)
     by (Some new) e h = (new, e)
     by None e h = absurd cc
 
-comes : (standing new : Standing) (word : List ℕ) → next standing (WordLexeme word) ≡ Some new → may_come standing word ≡ true
+comes : (standing new : Standing) (word : List ℕ) → next standing (WordLexeme word) ≡ Some new
+    → may_come standing word ≡ true
 comes standing new word e = let it : next_by_word standing.stage standing.given standing.draft word ≡ Some new = e in ap is_some it
 
 -- bytes that begin with a row of word bytes are a word that begins so
@@ -71,7 +77,8 @@ pub record WordRead (lexeme : Lexeme) (front tail rest : List ℕ) : Type 0 wher
   pub whole : front ++ tail ≡ word ++ rest
   pub ends : lengthens rest ≡ false
 
-longer_word : (front tail word rest : List ℕ) → list_all stands_in_words front ≡ true → lengthens rest ≡ false → front ++ tail ≡ word ++ rest → (more : List ℕ) × (word ≡ front ++ more)
+longer_word : (front tail word rest : List ℕ) → list_all stands_in_words front ≡ true → lengthens rest ≡ false
+    → front ++ tail ≡ word ++ rest → (more : List ℕ) × (word ≡ front ++ more)
 longer_word [] tail word rest h stops e = (word, refl)
 longer_word (x ∷ front) tail [] rest h stops e = absurd (word_stop x (front ++ tail) (subst (λ (r : List ℕ). lengthens r ≡ false) (sym e) stops) (and_first (stands_in_words x) (list_all stands_in_words front) h))
 longer_word (x ∷ front) tail (y ∷ word) rest h stops e =
@@ -81,7 +88,9 @@ longer_word (x ∷ front) tail (y ∷ word) rest h stops e =
     same : (x y : ℕ) (t u : List ℕ) → x ≡ y → t ≡ u → y ∷ t ≡ x ∷ u
     same x y t u e f = cc
 
-word_read : (lexeme : Lexeme) (x : ℕ) (front tail rest : List ℕ) → IsProper lexeme → list_all stands_in_words (x ∷ front) ≡ true → Spells lexeme ((x ∷ front) ++ tail) rest → WordRead lexeme (x ∷ front) tail rest
+word_read : (lexeme : Lexeme) (x : ℕ) (front tail rest : List ℕ) → IsProper lexeme
+    → list_all stands_in_words (x ∷ front) ≡ true → Spells lexeme ((x ∷ front) ++ tail) rest
+    → WordRead lexeme (x ∷ front) tail rest
 word_read (WordLexeme word) x front tail rest p h s =
     let on = longer_word (x ∷ front) tail word rest h s.1 s.0 in
     record { word = word; is = refl; more = on.0; longer = on.1; whole = s.0; ends = s.1 }
@@ -90,7 +99,8 @@ word_read (SignLexeme sign) x front tail rest p h s =
 word_read TextLexeme x front tail rest p h s =
     let k : InWord ≡ kind_of 34 = sym (word_kind x (and_first (stands_in_words x) (list_all stands_in_words front) h)) ∙ ap kind_of (head_same x 34 (front ++ tail) (s.0 ++ 34 ∷ rest) s.1) in absurd cc
 
-word_read_long : (lexeme : Lexeme) (front tail rest : List ℕ) → 0 < length front → IsProper lexeme → list_all stands_in_words front ≡ true → Spells lexeme (front ++ tail) rest → WordRead lexeme front tail rest
+word_read_long : (lexeme : Lexeme) (front tail rest : List ℕ) → 0 < length front → IsProper lexeme
+    → list_all stands_in_words front ≡ true → Spells lexeme (front ++ tail) rest → WordRead lexeme front tail rest
 word_read_long lexeme [] tail rest long p h s = absurd (omega (arith, long))
 word_read_long lexeme (x ∷ front) tail rest long p h s = word_read lexeme x front tail rest p h s
 
@@ -98,20 +108,25 @@ pub first_cons : (tail : List ℕ) (b : ℕ) → first tail ≡ Some b → (more
 first_cons [] b e = absurd cc
 first_cons (x ∷ tail) b e = (tail, cc)
 
-all_taken : (word : List ℕ) (k : ℕ) → list_all stands_in_words word ≡ true → list_all stands_in_words (take k word) ≡ true
+all_taken : (word : List ℕ) (k : ℕ) → list_all stands_in_words word ≡ true
+    → list_all stands_in_words (take k word) ≡ true
 all_taken word k h =
     and_first (list_all stands_in_words (take k word)) (list_all stands_in_words (drop k word))
     (sym (list_all-append stands_in_words (take k word) (drop k word)) ∙ ap (list_all stands_in_words) (take-append-drop k word) ∙ h)
 
 -- a word that may come
-pub word_goes : (old new : Standing) (bytes : List ℕ) (at end : ℕ) → lengthens (drop end bytes) ≡ false → next old (WordLexeme (slice_range bytes at end)) ≡ Some new → LexemeGoes old new bytes at end
+pub word_goes : (old new : Standing) (bytes : List ℕ) (at end : ℕ) → lengthens (drop end bytes) ≡ false
+    → next old (WordLexeme (slice_range bytes at end)) ≡ Some new → LexemeGoes old new bytes at end
 word_goes old new bytes at end stops e = record { lexeme = WordLexeme (slice_range bytes at end); next_is = e; spells = λ tail likes. (refl, resembles_stops tail (drop end bytes) likes stops) }
 
-word_begins : (old : Standing) (bytes : List ℕ) (at end front : ℕ) → at + front ≤ end → end ≤ length bytes → IsFront (may_come old) (slice_range bytes at end) front → (at + front ≡ at) ⊎ LexemeBegins old bytes at (at + front)
+word_begins : (old : Standing) (bytes : List ℕ) (at end front : ℕ) → at + front ≤ end → end ≤ length bytes
+    → IsFront (may_come old) (slice_range bytes at end) front
+    → (at + front ≡ at) ⊎ LexemeBegins old bytes at (at + front)
 word_begins old bytes at end zero le within f = inl (omega arith)
 word_begins old bytes at end (suc k) le within f = by f.begins
   where
-    by : (suc k ≡ 0) ⊎ ((more : List ℕ) × (may_come old (take (suc k) (slice_range bytes at end) ++ more) ≡ true)) → (at + suc k ≡ at) ⊎ LexemeBegins old bytes at (at + suc k)
+    by : (suc k ≡ 0) ⊎ ((more : List ℕ) × (may_come old (take (suc k) (slice_range bytes at end) ++ more) ≡ true))
+        → (at + suc k ≡ at) ⊎ LexemeBegins old bytes at (at + suc k)
     by (inl e) = absurd (omega (arith, e))
     by (inr (more, e)) =
         let new = some_of old (take (suc k) (slice_range bytes at end) ++ more) e in
@@ -126,7 +141,8 @@ word_begins old bytes at end (suc k) le within f = by f.begins
         })
 
 -- a word that fails at one of its bytes
-pub word_fails_inside : (old : Standing) (bytes : List ℕ) (at end front : ℕ) → at < end → end ≤ length bytes → list_all stands_in_words (slice_range bytes at end) ≡ true →
+pub word_fails_inside : (old : Standing) (bytes : List ℕ) (at end front : ℕ) → at < end → end ≤ length bytes
+    → list_all stands_in_words (slice_range bytes at end) ≡ true →
     IsFront (may_come old) (slice_range bytes at end) front → front < length (slice_range bytes at end) → LexemeFails old bytes at (at + front)
 word_fails_inside old bytes at end front less within all f short = record {
   later = omega arith;
@@ -144,7 +160,8 @@ word_fails_inside old bytes at end front less within all f short = record {
     inside : at + front < end
     inside = omega (arith, short, slice_count bytes at end (omega (arith, less)) within)
 
-    refuse : (tail rest : List ℕ) (lexeme : Lexeme) (new : Standing) → Spells lexeme (take (front + 1) (slice_range bytes at end) ++ tail) rest → next old lexeme ≡ Some new → ⊥
+    refuse : (tail rest : List ℕ) (lexeme : Lexeme) (new : Standing)
+        → Spells lexeme (take (front + 1) (slice_range bytes at end) ++ tail) rest → next old lexeme ≡ Some new → ⊥
     refuse tail rest lexeme new spells e =
         let taken : length (take (front + 1) (slice_range bytes at end)) ≡ front + 1 = taken_count (slice_range bytes at end) front short in
         let read = word_read_long lexeme (take (front + 1) (slice_range bytes at end)) tail rest (omega (arith, taken)) (proper old lexeme new e) (all_taken (slice_range bytes at end) (front + 1) all) spells in
@@ -152,7 +169,8 @@ word_fails_inside old bytes at end front less within all f short = record {
         f.ends short read.more (comes old new (take (front + 1) (slice_range bytes at end) ++ read.more) (subst (λ (x : Lexeme). next old x ≡ Some new) is e))
 
 -- a word that may not end where it does
-pub word_fails_behind : (old : Standing) (bytes : List ℕ) (at end front : ℕ) → at < end → end ≤ length bytes → list_all stands_in_words (slice_range bytes at end) ≡ true → lengthens (drop end bytes) ≡ false →
+pub word_fails_behind : (old : Standing) (bytes : List ℕ) (at end front : ℕ) → at < end → end ≤ length bytes
+    → list_all stands_in_words (slice_range bytes at end) ≡ true → lengthens (drop end bytes) ≡ false →
     IsFront (may_come old) (slice_range bytes at end) front → length (slice_range bytes at end) ≤ front → may_come old (slice_range bytes at end) ≡ false → LexemeFails old bytes at end
 word_fails_behind old bytes at end front less within all stops f long refused = record {
   later = omega (arith, less);
@@ -175,11 +193,14 @@ word_fails_behind old bytes at end front less within all stops f long refused = 
     whole = omega (arith, long, f.within, count, less)
 
 -- a sign that may come
-pub sign_goes : (old new : Standing) (bytes : List ℕ) (at : ℕ) → at < length bytes → next old (SignLexeme (get_or bytes at 0)) ≡ Some new → LexemeGoes old new bytes at (at + 1)
+pub sign_goes : (old new : Standing) (bytes : List ℕ) (at : ℕ) → at < length bytes
+    → next old (SignLexeme (get_or bytes at 0)) ≡ Some new → LexemeGoes old new bytes at (at + 1)
 sign_goes old new bytes at within e = record { lexeme = SignLexeme (get_or bytes at 0); next_is = e; spells = λ tail likes. ap (λ (front : List ℕ). front ++ tail) (slice_one bytes at within) }
 
 -- a byte that begins nothing that may come
-pub sign_fails : (old : Standing) (bytes : List ℕ) (at : ℕ) → at < length bytes → stands_in_words (get_or bytes at 0) ≡ false → next_by_sign old.stage old.given old.draft (get_or bytes at 0) ≡ None →
+pub sign_fails : (old : Standing) (bytes : List ℕ) (at : ℕ) → at < length bytes
+    → stands_in_words (get_or bytes at 0) ≡ false
+    → next_by_sign old.stage old.given old.draft (get_or bytes at 0) ≡ None →
     (get_or bytes at 0 ≡ 34 → next_by_text old.stage old.given old.draft ≡ None) → LexemeFails old bytes at at
 sign_fails old bytes at within no_word no_sign no_text = record {
   later = omega arith;
@@ -191,7 +212,8 @@ sign_fails old bytes at within no_word no_sign no_text = record {
       refuse more.0 rest lexeme new (proper old lexeme new e) (subst (λ (w : List ℕ). Spells lexeme w rest) same spells) e;
 }
   where
-    refuse : (tail rest : List ℕ) (lexeme : Lexeme) (new : Standing) → IsProper lexeme → Spells lexeme (get_or bytes at 0 ∷ tail) rest → next old lexeme ≡ Some new → ⊥
+    refuse : (tail rest : List ℕ) (lexeme : Lexeme) (new : Standing) → IsProper lexeme
+        → Spells lexeme (get_or bytes at 0 ∷ tail) rest → next old lexeme ≡ Some new → ⊥
     refuse tail rest (WordLexeme word) new p s e =
         let all : list_all stands_in_words (p.0 ∷ p.1) ≡ true = subst (λ (w : List ℕ). list_all stands_in_words w ≡ true) p.2 p.3 in
         let head : get_or bytes at 0 ≡ p.0 = head_same (get_or bytes at 0) p.0 tail (p.1 ++ rest) (s.0 ∙ ap (λ (w : List ℕ). w ++ rest) p.2) in
@@ -205,16 +227,20 @@ sign_fails old bytes at within no_word no_sign no_text = record {
         let none : None ≡ Some new = sym (no_text quote) ∙ e in absurd cc
 
 -- a colour text from its quote to the other
-quoted : (bytes : List ℕ) (at end : ℕ) → at < end → end ≤ length bytes → get_or bytes at 0 ≡ 34 → slice_range bytes at end ≡ 34 ∷ slice_range bytes (at + 1) end
+quoted : (bytes : List ℕ) (at end : ℕ) → at < end → end ≤ length bytes → get_or bytes at 0 ≡ 34
+    → slice_range bytes at end ≡ 34 ∷ slice_range bytes (at + 1) end
 quoted bytes at end less within quote =
     sym (slice_join bytes at (at + 1) end (omega arith) (omega (arith, less)) within)
     ∙ ap (λ (w : List ℕ). w ++ slice_range bytes (at + 1) end) (slice_one bytes at (omega (arith, less, within)) ∙ ap (λ (b : ℕ). b ∷ []) quote)
 
-slice_last : (bytes : List ℕ) (from end : ℕ) → from ≤ end → end < length bytes → slice_range bytes from (end + 1) ≡ slice_range bytes from end ++ get_or bytes end 0 ∷ []
+slice_last : (bytes : List ℕ) (from end : ℕ) → from ≤ end → end < length bytes
+    → slice_range bytes from (end + 1) ≡ slice_range bytes from end ++ get_or bytes end 0 ∷ []
 slice_last bytes from end le within =
     sym (slice_join bytes from end (end + 1) le (omega arith) (omega (arith, within))) ∙ ap (λ (w : List ℕ). slice_range bytes from end ++ w) (slice_one bytes end within)
 
-pub text_goes : (old new : Standing) (bytes : List ℕ) (at end : ℕ) → at < end → end < length bytes → get_or bytes at 0 ≡ 34 → get_or bytes end 0 ≡ 34 → list_all stands_in_text (slice_range bytes (at + 1) end) ≡ true →
+pub text_goes : (old new : Standing) (bytes : List ℕ) (at end : ℕ) → at < end → end < length bytes
+    → get_or bytes at 0 ≡ 34 → get_or bytes end 0 ≡ 34
+    → list_all stands_in_text (slice_range bytes (at + 1) end) ≡ true →
     next old TextLexeme ≡ Some new → LexemeGoes old new bytes at (end + 1)
 text_goes old new bytes at end less within open_quote close inside e = record {
   lexeme = TextLexeme;
@@ -238,7 +264,9 @@ line_stops_text [] h b more e = absurd cc
 line_stops_text (x ∷ bytes) h b more e =
     let ten : 10 ≡ b = sym (eqb-true x 10 h) ∙ head_same x b bytes more e in subst (λ (c : ℕ). stands_in_text c ≡ false) ten refl
 
-pub text_fails : (old new : Standing) (bytes : List ℕ) (at end : ℕ) → at < end → end ≤ length bytes → get_or bytes at 0 ≡ 34 → ends_line (drop end bytes) ≡ true → list_all stands_in_text (slice_range bytes (at + 1) end) ≡ true →
+pub text_fails : (old new : Standing) (bytes : List ℕ) (at end : ℕ) → at < end → end ≤ length bytes
+    → get_or bytes at 0 ≡ 34 → ends_line (drop end bytes) ≡ true
+    → list_all stands_in_text (slice_range bytes (at + 1) end) ≡ true →
     next old TextLexeme ≡ Some new → LexemeFails old bytes at end
 text_fails old new bytes at end less within quote line inside e = record {
   later = omega (arith, less);
@@ -256,7 +284,8 @@ text_fails old new bytes at end less within quote line inside e = record {
       refuse tail rest lexeme then (proper old lexeme then f) (line_first tail (drop end bytes) here line) (subst (λ (w : List ℕ). Spells lexeme w rest) same spells);
 }
   where
-    refuse : (tail rest : List ℕ) (lexeme : Lexeme) (then : Standing) → IsProper lexeme → ends_line tail ≡ true → Spells lexeme (34 ∷ (slice_range bytes (at + 1) end ++ tail)) rest → ⊥
+    refuse : (tail rest : List ℕ) (lexeme : Lexeme) (then : Standing) → IsProper lexeme → ends_line tail ≡ true
+        → Spells lexeme (34 ∷ (slice_range bytes (at + 1) end ++ tail)) rest → ⊥
     refuse tail rest (WordLexeme word) then p ends s =
         let all : list_all stands_in_words (p.0 ∷ p.1) ≡ true = subst (λ (w : List ℕ). list_all stands_in_words w ≡ true) p.2 p.3 in
         let head : 34 ≡ p.0 = head_same 34 p.0 (slice_range bytes (at + 1) end ++ tail) (p.1 ++ rest) (s.0 ∙ ap (λ (w : List ℕ). w ++ rest) p.2) in
@@ -286,7 +315,8 @@ pub not_taken : {A : Type 0} (o : Option A) (b : Bool) (to : A) → b ≡ false 
 not_taken o true to e h = absurd cc
 not_taken o false to e h = h
 
-pub word_longer : (bytes : List ℕ) (at end : ℕ) → at ≤ end → at < length bytes → stands_in_words (get_or bytes at 0) ≡ true → lengthens (drop end bytes) ≡ false → at < end
+pub word_longer : (bytes : List ℕ) (at end : ℕ) → at ≤ end → at < length bytes
+    → stands_in_words (get_or bytes at 0) ≡ true → lengthens (drop end bytes) ≡ false → at < end
 word_longer bytes at end le within word stops = by (end - at) (omega (arith, le))
   where
     same : at ≡ end → ⊥
@@ -300,7 +330,8 @@ word_longer bytes at end le within word stops = by (end - at) (omega (arith, le)
     by zero e = absurd (same (omega (arith, e)))
     by (suc n) e = omega (arith, e)
 
-pub text_line : (bytes : List ℕ) (end : ℕ) → end < length bytes → (get_or bytes end 0 ≡ 34 → ⊥) → stands_in_text (get_or bytes end 0) ≡ false → ends_line (drop end bytes) ≡ true
+pub text_line : (bytes : List ℕ) (end : ℕ) → end < length bytes → (get_or bytes end 0 ≡ 34 → ⊥)
+    → stands_in_text (get_or bytes end 0) ≡ false → ends_line (drop end bytes) ≡ true
 text_line bytes end within quote stop =
     let is : drop end bytes ≡ get_or bytes end 0 ∷ drop (suc end) bytes = drop-cons bytes end 0 within in
     rw is (by (nat_eq (get_or bytes end 0) 34) (nat_eq (get_or bytes end 0) 10) (λ h. quote (eqb-true (get_or bytes end 0) 34 h)) stop)

@@ -53,15 +53,6 @@ word_kind b word = by (is_blank b || nat_eq b 47) refl
     by true e = absurd (gap_byte b e word)
     by false e = rw (e, word) refl
 
-pub kind_word : (b : ℕ) → kind_of b ≡ InWord → stands_in_words b ≡ true
-kind_word b e = by (is_blank b || nat_eq b 47) (stands_in_words b) (nat_eq b 34) e
-  where
-    by : (c d f : Bool) → (if c then InGap else if d then InWord else if f then AtQuote else AtSign) ≡ InWord → d ≡ true
-    by true d f e = absurd cc
-    by false true f e = refl
-    by false false true e = absurd cc
-    by false false false e = absurd cc
-
 blank_kind : (b : ℕ) → is_blank b ≡ true → kind_of b ≡ InGap
 blank_kind b e = rw e refl
 
@@ -118,7 +109,8 @@ word_stop b bytes h s = let clash : false ≡ true = sym h ∙ s in absurd cc
 text_stop : (b : ℕ) (bytes : List ℕ) → ((rest : List ℕ) × (b ∷ bytes ≡ 34 ∷ rest)) → stands_in_text b ≡ true → ⊥
 text_stop b bytes h s = let there : stands_in_text 34 ≡ true = subst (λ (b : ℕ). stands_in_text b ≡ true) (head_same b 34 bytes h.0 h.1) s in absurd cc
 
-pub spells_one : (x y : Lexeme) (bytes a b : List ℕ) → IsProper x → IsProper y → kind_of_lexeme x ≡ kind_of_lexeme y → Spells x bytes a → Spells y bytes b → (x ≡ y) × (a ≡ b)
+pub spells_one : (x y : Lexeme) (bytes a b : List ℕ) → IsProper x → IsProper y → kind_of_lexeme x ≡ kind_of_lexeme y
+    → Spells x bytes a → Spells y bytes b → (x ≡ y) × (a ≡ b)
 spells_one (WordLexeme w) (WordLexeme v) bytes a b px py k sx sy =
     let same = row_one stands_in_words (λ bytes. lengthens bytes ≡ false) word_stop w v a b px.3 py.3 sx.1 sy.1 (sym sx.0 ∙ sy.0) in
     (ap (λ (w : List ℕ). WordLexeme w) same.0, same.1)
@@ -141,7 +133,8 @@ pub record Takes (lexeme : Lexeme) (bytes rest : List ℕ) : Type 0 where
   pub gap : Gap bytes behind
   pub spells : Spells lexeme behind rest
 
-pub takes_one : (x y : Lexeme) (bytes a b : List ℕ) → IsProper x → IsProper y → Takes x bytes a → Takes y bytes b → (x ≡ y) × (a ≡ b)
+pub takes_one : (x y : Lexeme) (bytes a b : List ℕ) → IsProper x → IsProper y → Takes x bytes a → Takes y bytes b
+    → (x ≡ y) × (a ≡ b)
 takes_one x y bytes a b px py tx ty =
     let bx = begins x tx.behind a px tx.spells in
     let by = begins y ty.behind b py ty.spells in

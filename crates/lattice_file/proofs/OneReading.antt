@@ -19,7 +19,8 @@ gap_shorter bytes rest (Blank b behind _ is gap) = omega (arith, gap_shorter beh
 gap_shorter bytes rest (Comment text behind _ inside gap) = omega (arith, gap_shorter behind rest gap, length-append text (42 ∷ 47 ∷ behind))
 gap_shorter bytes rest (Line text behind _ inside ends gap) = omega (arith, gap_shorter behind rest gap, length-append text behind)
 
-spells_shorter : (lexeme : Lexeme) (bytes rest : List ℕ) → IsProper lexeme → Spells lexeme bytes rest → length rest < length bytes
+spells_shorter : (lexeme : Lexeme) (bytes rest : List ℕ) → IsProper lexeme → Spells lexeme bytes rest
+    → length rest < length bytes
 spells_shorter (WordLexeme word) bytes rest p s = omega (arith, ap length s.0, length-append word rest, ap length p.2)
 spells_shorter (SignLexeme sign) bytes rest p s = omega (arith, ap length s)
 spells_shorter TextLexeme bytes rest p s = omega (arith, ap length s.1, length-append s.0 (34 ∷ rest))
@@ -32,7 +33,8 @@ no_lexeme lexeme bytes rest p gap t =
     let clash : [] ≡ b.byte ∷ b.more = same ∙ b.is in absurd cc
 
 -- the reader's step is the only one
-pub step_one : (old : Standing) (lexeme : Lexeme) (new : Standing) (bytes rest : List ℕ) (all : List BlockView) → next old lexeme ≡ Some new → Takes lexeme bytes rest → GoesFrom old bytes all → GoesFrom new rest all
+pub step_one : (old : Standing) (lexeme : Lexeme) (new : Standing) (bytes rest : List ℕ) (all : List BlockView)
+    → next old lexeme ≡ Some new → Takes lexeme bytes rest → GoesFrom old bytes all → GoesFrom new rest all
 step_one old lexeme new bytes rest all e takes goes = by (sees old bytes all goes)
   where
     by : Seen old bytes all → GoesFrom new rest all
@@ -42,11 +44,13 @@ step_one old lexeme new bytes rest all e takes goes = by (sees old bytes all goe
         let to : then ≡ new = some_is then new (sym f ∙ ap (λ (x : Lexeme). next old x) same.0 ∙ e) in
         subst (λ (s : Standing). GoesFrom s rest all) to (subst (λ (r : List ℕ). GoesFrom then r all) same.1 on)
 
-one_from : (n : ℕ) (old : Standing) (bytes : List ℕ) (a b : List BlockView) → length bytes < n → GoesFrom old bytes a → GoesFrom old bytes b → a ≡ b
+one_from : (n : ℕ) (old : Standing) (bytes : List ℕ) (a b : List BlockView) → length bytes < n → GoesFrom old bytes a
+    → GoesFrom old bytes b → a ≡ b
 one_from zero old bytes a b h ga gb = absurd (omega (arith, h))
 one_from (suc n) old bytes a b h ga gb = by (λ new rest less ha hb. one_from n new rest a b less ha hb) (sees old bytes a ga)
   where
-    by : ((new : Standing) (rest : List ℕ) → length rest < n → GoesFrom new rest a → GoesFrom new rest b → a ≡ b) → Seen old bytes a → a ≡ b
+    by : ((new : Standing) (rest : List ℕ) → length rest < n → GoesFrom new rest a → GoesFrom new rest b → a ≡ b)
+        → Seen old bytes a → a ≡ b
     by again (AtEnd outside gap is) = at_end (sees old bytes b gb)
       where
         at_end : Seen old bytes b → a ≡ b
@@ -60,5 +64,6 @@ one_from (suc n) old bytes a b h ga gb = by (λ new rest less ha hb. one_from n 
 abbrev pub first_standing : Bool → Standing
 first_standing wide = At stages.Outside (no_attribute wide) (record { name = []; entries = []; pairs = []; flows = no_flows; blocks = [] })
 
-pub one_reading : (wide : Bool) (a b : List BlockView) (bytes : List ℕ) → IsLatticeText wide a bytes → IsLatticeText wide b bytes → a ≡ b
+pub one_reading : (wide : Bool) (a b : List BlockView) (bytes : List ℕ) → IsLatticeText wide a bytes
+    → IsLatticeText wide b bytes → a ≡ b
 one_reading wide a b bytes ta tb = one_from (suc (length bytes)) (first_standing wide) bytes a b (omega arith) (a, ta, refl) (b, tb, refl)

@@ -5,14 +5,16 @@ use Rattle.std.proofs.lemmas.List.Sums.{sum_by-append}
 use Rattle.std.proofs.lemmas.List.{take_more}
 use Rattle.lattice_file.specs.Places.{lines_in, after_last_line}
 
-lines_behind : (bytes : List ℕ) (byte : ℕ) → lines_in (bytes ++ byte ∷ []) ≡ (if byte == 10 then lines_in bytes + 1 else lines_in bytes)
+lines_behind : (bytes : List ℕ) (byte : ℕ)
+    → lines_in (bytes ++ byte ∷ []) ≡ (if byte == 10 then lines_in bytes + 1 else lines_in bytes)
 lines_behind bytes byte = sum_by-append (λ (b : ℕ). cond (b == 10) 1 0) bytes (byte ∷ []) ∙ counted (byte == 10) (lines_in bytes)
   where
     counted : (b : Bool) (n : ℕ) → n + (0 + cond b 1 0) ≡ (if b then n + 1 else n)
     counted true n = omega arith
     counted false n = omega arith
 
-column_behind : (bytes : List ℕ) (byte count : ℕ) → after_last_line (bytes ++ byte ∷ []) count ≡ (if byte == 10 then 0 else after_last_line bytes count + 1)
+column_behind : (bytes : List ℕ) (byte count : ℕ)
+    → after_last_line (bytes ++ byte ∷ []) count ≡ (if byte == 10 then 0 else after_last_line bytes count + 1)
 column_behind [] byte count = refl
 column_behind (b ∷ bytes) byte count = column_behind bytes byte (if b == 10 then 0 else count + 1)
 

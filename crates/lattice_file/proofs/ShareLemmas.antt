@@ -5,7 +5,8 @@ use Rattle.lattice_core.specs.View.{LatticeView}
 use Rattle.lattice_core.specs.Entries.{name_of, name_at, number_of}
 use Rattle.lattice_file.specs.Sharing.{IsNamedBefore, IsShared, AreApart}
 
-pub named_on : (lattices : List LatticeView) (at : ℕ) (word : List ℕ) (lattice : LatticeView) → slice_get lattices at ≡ Some lattice → number_of lattice.entries word ≡ None →
+pub named_on : (lattices : List LatticeView) (at : ℕ) (word : List ℕ) (lattice : LatticeView)
+    → slice_get lattices at ≡ Some lattice → number_of lattice.entries word ≡ None →
     (IsNamedBefore lattices at word → ⊥) → IsNamedBefore lattices (at + 1) word → ⊥
 named_on lattices at word lattice there none before h = elim (cases_lt h.at at) [
   | inl under ↦ before (record { at = h.at; within = under; lattice = h.lattice; there = h.there; elem = h.elem; named = h.named })
@@ -22,15 +23,18 @@ item_within f [] i y h = absurd cc
 item_within f (x ∷ xs) zero y h = omega arith
 item_within f (x ∷ xs) (suc i) y h = let under : i < length xs = item_within f xs i y h in omega arith
 
-pub shared_within : (lattices : List LatticeView) (at elem : ℕ) (name : List ℕ) (lattice : LatticeView) → slice_get lattices at ≡ Some lattice → IsShared lattices at elem name → elem < length lattice.entries
+pub shared_within : (lattices : List LatticeView) (at elem : ℕ) (name : List ℕ) (lattice : LatticeView)
+    → slice_get lattices at ≡ Some lattice → IsShared lattices at elem name → elem < length lattice.entries
 shared_within lattices at elem name lattice there h =
     let same : Some h.lattice ≡ Some lattice = sym h.there ∙ there in
     let is : h.lattice ≡ lattice = cc in
     let named : name_at lattice.entries elem ≡ Some name = rw (← is) h.named in
     item_within name_of lattice.entries elem name named
 
-pub shared_on : (lattices : List LatticeView) (at elem : ℕ) (word : List ℕ) (lattice : LatticeView) → slice_get lattices at ≡ Some lattice → name_at lattice.entries elem ≡ Some word →
-    (IsNamedBefore lattices at word → ⊥) → ((other : ℕ) (name : List ℕ) → other < elem → IsShared lattices at other name → ⊥) →
+pub shared_on : (lattices : List LatticeView) (at elem : ℕ) (word : List ℕ) (lattice : LatticeView)
+    → slice_get lattices at ≡ Some lattice → name_at lattice.entries elem ≡ Some word →
+    (IsNamedBefore lattices at word → ⊥)
+    → ((other : ℕ) (name : List ℕ) → other < elem → IsShared lattices at other name → ⊥) →
     (other : ℕ) (name : List ℕ) → other < elem + 1 → IsShared lattices at other name → ⊥
 shared_on lattices at elem word lattice there is apart before other name h shared = elim (cases_lt other elem) [
   | inl under ↦ before other name under shared
@@ -45,11 +49,14 @@ shared_on lattices at elem word lattice there is apart before other name h share
       apart named_before
 ]
 
-pub apart_at : (lattices : List LatticeView) (at : ℕ) (word : List ℕ) (r : Bool) → r ≡ false → MatchBool r (IsNamedBefore lattices at word) (IsNamedBefore lattices at word → ⊥) → IsNamedBefore lattices at word → ⊥
+pub apart_at : (lattices : List LatticeView) (at : ℕ) (word : List ℕ) (r : Bool) → r ≡ false
+    → MatchBool r (IsNamedBefore lattices at word) (IsNamedBefore lattices at word → ⊥) → IsNamedBefore lattices at word
+    → ⊥
 apart_at lattices at word true e h named = cc
 apart_at lattices at word false e h named = h named
 
-pub apart_on : (lattices : List LatticeView) (at : ℕ) → AreApart lattices at → ((elem : ℕ) (name : List ℕ) → IsShared lattices at elem name → ⊥) → AreApart lattices (at + 1)
+pub apart_on : (lattices : List LatticeView) (at : ℕ) → AreApart lattices at
+    → ((elem : ℕ) (name : List ℕ) → IsShared lattices at elem name → ⊥) → AreApart lattices (at + 1)
 apart_on lattices at before here other elem name h shared = elim (cases_lt other at) [
   | inl under ↦ before other elem name under shared
   | inr past ↦
@@ -58,6 +65,7 @@ apart_on lattices at before here other elem name h shared = elim (cases_lt other
       here elem name now
 ]
 
-pub named_at : (lattices : List LatticeView) (at : ℕ) (word : List ℕ) (r : Bool) → r ≡ true → MatchBool r (IsNamedBefore lattices at word) (IsNamedBefore lattices at word → ⊥) → IsNamedBefore lattices at word
+pub named_at : (lattices : List LatticeView) (at : ℕ) (word : List ℕ) (r : Bool) → r ≡ true
+    → MatchBool r (IsNamedBefore lattices at word) (IsNamedBefore lattices at word → ⊥) → IsNamedBefore lattices at word
 named_at lattices at word true e h = h
 named_at lattices at word false e h = absurd cc

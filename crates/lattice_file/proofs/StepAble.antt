@@ -37,14 +37,16 @@ IsReadyAt _ given draft = Unit {0}
 abbrev pub IsReady : Standing → Type 0
 IsReady standing = IsReadyAt standing.stage standing.given standing.draft
 
-ready_as : (wide : Bool) (to new : Standing) → to ≡ new → IsReady to → to.given.wide ≡ wide → IsReady new × (new.given.wide ≡ wide)
+ready_as : (wide : Bool) (to new : Standing) → to ≡ new → IsReady to → to.given.wide ≡ wide
+    → IsReady new × (new.given.wide ≡ wide)
 ready_as wide to new e h is = (subst IsReady e h, subst (λ (s : Standing). s.given.wide ≡ wide) e is)
 
 not_full : (b : Bool) → not b ≡ true → b ≡ false
 not_full true e = absurd cc
 not_full false e = refl
 
-ready_word : (stage : Stage) (given : Given) (draft : Draft) (word : List ℕ) (new : Standing) → next_by_word stage given draft word ≡ Some new → IsReady new × (new.given.wide ≡ given.wide)
+ready_word : (stage : Stage) (given : Given) (draft : Draft) (word : List ℕ) (new : Standing)
+    → next_by_word stage given draft word ≡ Some new → IsReady new × (new.given.wide ≡ given.wide)
 ready_word stages.Outside given draft word new e = let p = only_is (bytes_eq word (codes "partial")) (At stages.Order given draft) new e in ready_as given.wide (At stages.Order given draft) new p.1 tt refl
 ready_word stages.Order given draft word new e = let p = only_is (bytes_eq word (codes "order")) (At stages.Open given draft) new e in ready_as given.wide (At stages.Open given draft) new p.1 tt refl
 ready_word stages.Open given draft word new e = absurd cc
@@ -67,12 +69,14 @@ ready_word (stages.Value attribute) given draft word new e =
     let p = map_is (λ then. At stages.Attributed then draft) (with_value attribute given word) new e in ready_as given.wide (At stages.Attributed p.0 draft) new p.2 tt (gives_wide attribute given p.0 word (value_is attribute given p.0 word p.1))
 ready_word stages.Attributed given draft word new e = absurd cc
 
-ready_sign : (stage : Stage) (given : Given) (draft : Draft) (sign : ℕ) (new : Standing) → next_by_sign stage given draft sign ≡ Some new → IsReady new × (new.given.wide ≡ given.wide)
+ready_sign : (stage : Stage) (given : Given) (draft : Draft) (sign : ℕ) (new : Standing)
+    → next_by_sign stage given draft sign ≡ Some new → IsReady new × (new.given.wide ≡ given.wide)
 ready_sign stages.Outside given draft sign new e = absurd cc
 ready_sign stages.Order given draft sign new e = absurd cc
 ready_sign stages.Open given draft sign new e = by (first_is (only_if (nat_eq sign 123) (At stages.Items given (record draft { entries = []; pairs = []; flows = no_flows }))) _ new e)
   where
-    by : (only_if (nat_eq sign 123) (At stages.Items given (record draft { entries = []; pairs = []; flows = no_flows })) ≡ Some new) ⊎ (only_if (nat_eq sign 91) (At stages.FlowName given (record draft { flows = no_flows })) ≡ Some new) → IsReady new × (new.given.wide ≡ given.wide)
+    by : (only_if (nat_eq sign 123) (At stages.Items given (record draft { entries = []; pairs = []; flows = no_flows })) ≡ Some new) ⊎ (only_if (nat_eq sign 91) (At stages.FlowName given (record draft { flows = no_flows })) ≡ Some new)
+        → IsReady new × (new.given.wide ≡ given.wide)
     by (inl e) = let to = At stages.Items given (record draft { entries = []; pairs = []; flows = no_flows }) in let p = only_is (nat_eq sign 123) to new e in ready_as given.wide to new p.1 tt refl
     by (inr e) = let to = At stages.FlowName given (record draft { flows = no_flows }) in let p = only_is (nat_eq sign 91) to new e in ready_as given.wide to new p.1 refl refl
 ready_sign stages.FlowName given draft sign new e = absurd cc
@@ -81,7 +85,8 @@ ready_sign (stages.FlowEquals attribute) given draft sign new e =
 ready_sign (stages.FlowValue attribute) given draft sign new e = absurd cc
 ready_sign stages.Flowed given draft sign new e = by (first_is (only_if (nat_eq sign 44 && not (has_all_flows draft.flows)) (At stages.FlowName given draft)) _ new e)
   where
-    by : (only_if (nat_eq sign 44 && not (has_all_flows draft.flows)) (At stages.FlowName given draft) ≡ Some new) ⊎ (only_if (nat_eq sign 93) (At stages.Braced given draft) ≡ Some new) → IsReady new × (new.given.wide ≡ given.wide)
+    by : (only_if (nat_eq sign 44 && not (has_all_flows draft.flows)) (At stages.FlowName given draft) ≡ Some new) ⊎ (only_if (nat_eq sign 93) (At stages.Braced given draft) ≡ Some new)
+        → IsReady new × (new.given.wide ≡ given.wide)
     by (inl e) =
         let p = only_is (nat_eq sign 44 && not (has_all_flows draft.flows)) (At stages.FlowName given draft) new e in
         ready_as given.wide (At stages.FlowName given draft) new p.1 (not_full (has_all_flows draft.flows) (and_second (nat_eq sign 44) (not (has_all_flows draft.flows)) p.0)) refl
@@ -92,7 +97,8 @@ ready_sign stages.Items given draft sign new e =
     let p = only_is (nat_eq sign 125 && is_nonempty draft.entries) (At stages.Outside given (with_block draft)) new e in ready_as given.wide (At stages.Outside given (with_block draft)) new p.1 tt refl
 ready_sign stages.Named given draft sign new e = by (first_is (only_if (nat_eq sign 91) (At stages.Attribute (no_attribute given.wide) draft)) _ new e)
   where
-    by : (only_if (nat_eq sign 91) (At stages.Attribute (no_attribute given.wide) draft) ≡ Some new) ⊎ (only_if (nat_eq sign 60) (At stages.High given draft) ≡ Some new) → IsReady new × (new.given.wide ≡ given.wide)
+    by : (only_if (nat_eq sign 91) (At stages.Attribute (no_attribute given.wide) draft) ≡ Some new) ⊎ (only_if (nat_eq sign 60) (At stages.High given draft) ≡ Some new)
+        → IsReady new × (new.given.wide ≡ given.wide)
     by (inl e) = let p = only_is (nat_eq sign 91) (At stages.Attribute (no_attribute given.wide) draft) new e in ready_as given.wide (At stages.Attribute (no_attribute given.wide) draft) new p.1 refl refl
     by (inr e) = let p = only_is (nat_eq sign 60) (At stages.High given draft) new e in ready_as given.wide (At stages.High given draft) new p.1 tt refl
 ready_sign stages.High given draft sign new e = absurd cc
@@ -102,17 +108,20 @@ ready_sign (stages.Equals attribute) given draft sign new e =
 ready_sign (stages.Value attribute) given draft sign new e = absurd cc
 ready_sign stages.Attributed given draft sign new e = by (first_is (only_if (nat_eq sign 44 && not (is_full given)) (At stages.Attribute given draft)) _ new e)
   where
-    by : (only_if (nat_eq sign 44 && not (is_full given)) (At stages.Attribute given draft) ≡ Some new) ⊎ (only_if (nat_eq sign 93) (At stages.Items given (with_entry given draft)) ≡ Some new) → IsReady new × (new.given.wide ≡ given.wide)
+    by : (only_if (nat_eq sign 44 && not (is_full given)) (At stages.Attribute given draft) ≡ Some new) ⊎ (only_if (nat_eq sign 93) (At stages.Items given (with_entry given draft)) ≡ Some new)
+        → IsReady new × (new.given.wide ≡ given.wide)
     by (inl e) =
         let p = only_is (nat_eq sign 44 && not (is_full given)) (At stages.Attribute given draft) new e in
         ready_as given.wide (At stages.Attribute given draft) new p.1 (not_full (is_full given) (and_second (nat_eq sign 44) (not (is_full given)) p.0)) refl
     by (inr e) = let p = only_is (nat_eq sign 93) (At stages.Items given (with_entry given draft)) new e in ready_as given.wide (At stages.Items given (with_entry given draft)) new p.1 tt refl
 
-ready_text : (stage : Stage) (given : Given) (draft : Draft) (new : Standing) → next_by_text stage given draft ≡ Some new → IsReady new × (new.given.wide ≡ given.wide)
+ready_text : (stage : Stage) (given : Given) (draft : Draft) (new : Standing)
+    → next_by_text stage given draft ≡ Some new → IsReady new × (new.given.wide ≡ given.wide)
 ready_text (stages.Value attributes.Color) given draft new e = let to = At stages.Attributed (record given { color = true }) draft in ready_as given.wide to new (some_is to new e) tt refl
 ready_text _ given draft new e = absurd cc
 
-follows : (old : Standing) (lexeme : Lexeme) (new : Standing) → next old lexeme ≡ Some new → IsReady new × (new.given.wide ≡ old.given.wide)
+follows : (old : Standing) (lexeme : Lexeme) (new : Standing) → next old lexeme ≡ Some new
+    → IsReady new × (new.given.wide ≡ old.given.wide)
 follows old (WordLexeme word) new e = ready_word old.stage old.given old.draft word new e
 follows old (SignLexeme sign) new e = ready_sign old.stage old.given old.draft sign new e
 follows old TextLexeme new e = ready_text old.stage old.given old.draft new e
@@ -120,7 +129,8 @@ follows old TextLexeme new e = ready_text old.stage old.given old.draft new e
 pub ready : (old : Standing) (lexeme : Lexeme) (new : Standing) → next old lexeme ≡ Some new → IsReady new
 ready old lexeme new e = (follows old lexeme new e).0
 
-pub wide_stays : (old : Standing) (lexeme : Lexeme) (new : Standing) → next old lexeme ≡ Some new → new.given.wide ≡ old.given.wide
+pub wide_stays : (old : Standing) (lexeme : Lexeme) (new : Standing) → next old lexeme ≡ Some new
+    → new.given.wide ≡ old.given.wide
 wide_stays old lexeme new e = (follows old lexeme new e).1
 
 -- what may come is proper
@@ -155,11 +165,13 @@ name_proper word h = by_last (or_cases (begins_with_dollar word || bytes_eq word
     by_first (inl e) = dollar_proper word e
     by_first (inr e) = as_proper word (codes "const") (word_is word (codes "const") e) (99, codes "onst", refl, refl)
 
-    by_second : ((begins_with_dollar word || bytes_eq word (codes "const")) ≡ true) ⊎ (bytes_eq word (codes "volatile") ≡ true) → IsProper (WordLexeme word)
+    by_second : ((begins_with_dollar word || bytes_eq word (codes "const")) ≡ true) ⊎ (bytes_eq word (codes "volatile") ≡ true)
+        → IsProper (WordLexeme word)
     by_second (inl e) = by_first (or_cases (begins_with_dollar word) (bytes_eq word (codes "const")) e)
     by_second (inr e) = as_proper word (codes "volatile") (word_is word (codes "volatile") e) (118, codes "olatile", refl, refl)
 
-    by_last : ((begins_with_dollar word || bytes_eq word (codes "const") || bytes_eq word (codes "volatile")) ≡ true) ⊎ (bytes_eq word (codes "restrict") ≡ true) → IsProper (WordLexeme word)
+    by_last : ((begins_with_dollar word || bytes_eq word (codes "const") || bytes_eq word (codes "volatile")) ≡ true) ⊎ (bytes_eq word (codes "restrict") ≡ true)
+        → IsProper (WordLexeme word)
     by_last (inl e) = by_second (or_cases (begins_with_dollar word || bytes_eq word (codes "const")) (bytes_eq word (codes "volatile")) e)
     by_last (inr e) = as_proper word (codes "restrict") (word_is word (codes "restrict") e) (114, codes "estrict", refl, refl)
 
@@ -170,7 +182,8 @@ attribute_proper attributes.Color = (99, codes "olor", refl, refl)
 attribute_proper attributes.Write = (119, codes "rite", refl, refl)
 attribute_proper attributes.Deref = (100, codes "eref", refl, refl)
 
-value_proper : (attribute : Attribute) (given then : Given) (word : List ℕ) → Gives attribute word given then → IsProper (WordLexeme word)
+value_proper : (attribute : Attribute) (given then : Given) (word : List ℕ) → Gives attribute word given then
+    → IsProper (WordLexeme word)
 value_proper attributes.Level given then word (Ref, e, f) = as_proper word (codes "ref") e (114, codes "ef", refl, refl)
 value_proper attributes.Level given then word (Value, e, f) = as_proper word (codes "value") e (118, codes "alue", refl, refl)
 value_proper attributes.Sign given then word (Pos, e, f) = as_proper word (codes "pos") e (112, codes "os", refl, refl)
@@ -186,12 +199,14 @@ block_attribute_proper : (attribute : BlockAttribute) → IsProper (WordLexeme (
 block_attribute_proper Ptrflow = (112, codes "trflow", refl, refl)
 block_attribute_proper Fieldflow = (102, codes "ieldflow", refl, refl)
 
-flow_proper : (attribute : BlockAttribute) (flows then : Flows) (word : List ℕ) → GivesFlow attribute word flows then → IsProper (WordLexeme word)
+flow_proper : (attribute : BlockAttribute) (flows then : Flows) (word : List ℕ) → GivesFlow attribute word flows then
+    → IsProper (WordLexeme word)
 flow_proper Ptrflow flows then word (Up, e, f) = as_proper word (codes "up") e (117, codes "p", refl, refl)
 flow_proper Ptrflow flows then word (Down, e, f) = as_proper word (codes "down") e (100, codes "own", refl, refl)
 flow_proper Fieldflow flows then word (e, f) = as_proper word (codes "down") e (100, codes "own", refl, refl)
 
-proper_word : (stage : Stage) (given : Given) (draft : Draft) (word : List ℕ) (new : Standing) → next_by_word stage given draft word ≡ Some new → IsProper (WordLexeme word)
+proper_word : (stage : Stage) (given : Given) (draft : Draft) (word : List ℕ) (new : Standing)
+    → next_by_word stage given draft word ≡ Some new → IsProper (WordLexeme word)
 proper_word stages.Outside given draft word new e =
     let p = only_is (bytes_eq word (codes "partial")) (At stages.Order given draft) new e in as_proper word (codes "partial") (word_is word (codes "partial") p.0) (112, codes "artial", refl, refl)
 proper_word stages.Order given draft word new e =
@@ -220,12 +235,14 @@ proper_word stages.Attributed given draft word new e = absurd cc
 as_sign : (sign other : ℕ) → nat_eq sign other ≡ true → kind_of other ≡ AtSign → kind_of sign ≡ AtSign
 as_sign sign other e h = subst (λ (s : ℕ). kind_of s ≡ AtSign) (sym (eqb-true sign other e)) h
 
-proper_sign : (stage : Stage) (given : Given) (draft : Draft) (sign : ℕ) (new : Standing) → next_by_sign stage given draft sign ≡ Some new → kind_of sign ≡ AtSign
+proper_sign : (stage : Stage) (given : Given) (draft : Draft) (sign : ℕ) (new : Standing)
+    → next_by_sign stage given draft sign ≡ Some new → kind_of sign ≡ AtSign
 proper_sign stages.Outside given draft sign new e = absurd cc
 proper_sign stages.Order given draft sign new e = absurd cc
 proper_sign stages.Open given draft sign new e = by (first_is (only_if (nat_eq sign 123) (At stages.Items given (record draft { entries = []; pairs = []; flows = no_flows }))) _ new e)
   where
-    by : (only_if (nat_eq sign 123) (At stages.Items given (record draft { entries = []; pairs = []; flows = no_flows })) ≡ Some new) ⊎ (only_if (nat_eq sign 91) (At stages.FlowName given (record draft { flows = no_flows })) ≡ Some new) → kind_of sign ≡ AtSign
+    by : (only_if (nat_eq sign 123) (At stages.Items given (record draft { entries = []; pairs = []; flows = no_flows })) ≡ Some new) ⊎ (only_if (nat_eq sign 91) (At stages.FlowName given (record draft { flows = no_flows })) ≡ Some new)
+        → kind_of sign ≡ AtSign
     by (inl e) = as_sign sign 123 (only_is (nat_eq sign 123) (At stages.Items given (record draft { entries = []; pairs = []; flows = no_flows })) new e).0 refl
     by (inr e) = as_sign sign 91 (only_is (nat_eq sign 91) (At stages.FlowName given (record draft { flows = no_flows })) new e).0 refl
 proper_sign stages.FlowName given draft sign new e = absurd cc
@@ -233,7 +250,8 @@ proper_sign (stages.FlowEquals attribute) given draft sign new e = as_sign sign 
 proper_sign (stages.FlowValue attribute) given draft sign new e = absurd cc
 proper_sign stages.Flowed given draft sign new e = by (first_is (only_if (nat_eq sign 44 && not (has_all_flows draft.flows)) (At stages.FlowName given draft)) _ new e)
   where
-    by : (only_if (nat_eq sign 44 && not (has_all_flows draft.flows)) (At stages.FlowName given draft) ≡ Some new) ⊎ (only_if (nat_eq sign 93) (At stages.Braced given draft) ≡ Some new) → kind_of sign ≡ AtSign
+    by : (only_if (nat_eq sign 44 && not (has_all_flows draft.flows)) (At stages.FlowName given draft) ≡ Some new) ⊎ (only_if (nat_eq sign 93) (At stages.Braced given draft) ≡ Some new)
+        → kind_of sign ≡ AtSign
     by (inl e) = as_sign sign 44 (and_first (nat_eq sign 44) (not (has_all_flows draft.flows)) (only_is (nat_eq sign 44 && not (has_all_flows draft.flows)) (At stages.FlowName given draft) new e).0) refl
     by (inr e) = as_sign sign 93 (only_is (nat_eq sign 93) (At stages.Braced given draft) new e).0 refl
 proper_sign stages.Braced given draft sign new e = as_sign sign 123 (only_is (nat_eq sign 123) (At stages.Items given (record draft { entries = []; pairs = [] })) new e).0 refl
@@ -241,7 +259,8 @@ proper_sign stages.Items given draft sign new e =
     as_sign sign 125 (and_first (nat_eq sign 125) (is_nonempty draft.entries) (only_is (nat_eq sign 125 && is_nonempty draft.entries) (At stages.Outside given (with_block draft)) new e).0) refl
 proper_sign stages.Named given draft sign new e = by (first_is (only_if (nat_eq sign 91) (At stages.Attribute (no_attribute given.wide) draft)) _ new e)
   where
-    by : (only_if (nat_eq sign 91) (At stages.Attribute (no_attribute given.wide) draft) ≡ Some new) ⊎ (only_if (nat_eq sign 60) (At stages.High given draft) ≡ Some new) → kind_of sign ≡ AtSign
+    by : (only_if (nat_eq sign 91) (At stages.Attribute (no_attribute given.wide) draft) ≡ Some new) ⊎ (only_if (nat_eq sign 60) (At stages.High given draft) ≡ Some new)
+        → kind_of sign ≡ AtSign
     by (inl e) = as_sign sign 91 (only_is (nat_eq sign 91) (At stages.Attribute (no_attribute given.wide) draft) new e).0 refl
     by (inr e) = as_sign sign 60 (only_is (nat_eq sign 60) (At stages.High given draft) new e).0 refl
 proper_sign stages.High given draft sign new e = absurd cc
@@ -250,7 +269,8 @@ proper_sign (stages.Equals attribute) given draft sign new e = as_sign sign 61 (
 proper_sign (stages.Value attribute) given draft sign new e = absurd cc
 proper_sign stages.Attributed given draft sign new e = by (first_is (only_if (nat_eq sign 44 && not (is_full given)) (At stages.Attribute given draft)) _ new e)
   where
-    by : (only_if (nat_eq sign 44 && not (is_full given)) (At stages.Attribute given draft) ≡ Some new) ⊎ (only_if (nat_eq sign 93) (At stages.Items given (with_entry given draft)) ≡ Some new) → kind_of sign ≡ AtSign
+    by : (only_if (nat_eq sign 44 && not (is_full given)) (At stages.Attribute given draft) ≡ Some new) ⊎ (only_if (nat_eq sign 93) (At stages.Items given (with_entry given draft)) ≡ Some new)
+        → kind_of sign ≡ AtSign
     by (inl e) = as_sign sign 44 (and_first (nat_eq sign 44) (not (is_full given)) (only_is (nat_eq sign 44 && not (is_full given)) (At stages.Attribute given draft) new e).0) refl
     by (inr e) = as_sign sign 93 (only_is (nat_eq sign 93) (At stages.Items given (with_entry given draft)) new e).0 refl
 
@@ -265,7 +285,8 @@ pub record Able (standing : Standing) : Type 0 where
   pub all : List BlockView
   pub goes : GoesFrom standing (10 ∷ more) all
 
-pub able_by : (old : Standing) (lexeme : Lexeme) (new : Standing) (text : List ℕ) → next old lexeme ≡ Some new → ((more : List ℕ) → Spells lexeme (text ++ 10 ∷ more) (10 ∷ more)) → Able new → Able old
+pub able_by : (old : Standing) (lexeme : Lexeme) (new : Standing) (text : List ℕ) → next old lexeme ≡ Some new
+    → ((more : List ℕ) → Spells lexeme (text ++ 10 ∷ more) (10 ∷ more)) → Able new → Able old
 able_by old lexeme new text e spells a = record {
   more = text ++ 10 ∷ a.more;
   all = a.all;
@@ -273,7 +294,8 @@ able_by old lexeme new text e spells a = record {
       (record { behind = text ++ 10 ∷ a.more; gap = Blank 10 (text ++ 10 ∷ a.more) (text ++ 10 ∷ a.more) refl (Nothing (text ++ 10 ∷ a.more)); spells = spells a.more }) a.goes;
 }
 
-able_word : (old : Standing) (word : List ℕ) (new : Standing) → next old (WordLexeme word) ≡ Some new → Able new → Able old
+able_word : (old : Standing) (word : List ℕ) (new : Standing) → next old (WordLexeme word) ≡ Some new → Able new
+    → Able old
 able_word old word new e a = able_by old (WordLexeme word) new word e (λ more. (refl, refl)) a
 
 able_sign : (old : Standing) (sign : ℕ) (new : Standing) → next old (SignLexeme sign) ≡ Some new → Able new → Able old
@@ -309,19 +331,23 @@ able_attribute given draft h = by_level (is_some given.level) refl
     able_with : (attribute : Attribute) → has_attribute given attribute ≡ false → Able (At stages.Attribute given draft)
     able_with attribute e = able_word (At stages.Attribute given draft) (attribute_word attribute) (At (stages.Equals attribute) given draft) (rw (named_new given attribute e) refl) (able_equals attribute given draft)
 
-    by_deref : (e : is_some given.level ≡ true) (f : is_some given.sign ≡ true) (g : given.color ≡ true) (i : given.write ≡ true) (b : Bool) → is_deref given.deref ≡ b → Able (At stages.Attribute given draft)
+    by_deref : (e : is_some given.level ≡ true) (f : is_some given.sign ≡ true) (g : given.color ≡ true) (i : given.write ≡ true) (b : Bool)
+        → is_deref given.deref ≡ b → Able (At stages.Attribute given draft)
     by_deref e f g i false j = able_with attributes.Deref j
     by_deref e f g i true j = let full : is_full given ≡ true = rw (e, f, g, i, j) refl in let clash : false ≡ true = sym h ∙ full in absurd cc
 
-    by_write : (e : is_some given.level ≡ true) (f : is_some given.sign ≡ true) (g : given.color ≡ true) (b : Bool) → given.write ≡ b → Able (At stages.Attribute given draft)
+    by_write : (e : is_some given.level ≡ true) (f : is_some given.sign ≡ true) (g : given.color ≡ true) (b : Bool)
+        → given.write ≡ b → Able (At stages.Attribute given draft)
     by_write e f g false j = able_with attributes.Write j
     by_write e f g true j = by_deref e f g j (is_deref given.deref) refl
 
-    by_color : (e : is_some given.level ≡ true) (f : is_some given.sign ≡ true) (b : Bool) → given.color ≡ b → Able (At stages.Attribute given draft)
+    by_color : (e : is_some given.level ≡ true) (f : is_some given.sign ≡ true) (b : Bool) → given.color ≡ b
+        → Able (At stages.Attribute given draft)
     by_color e f false j = able_with attributes.Color j
     by_color e f true j = by_write e f j given.write refl
 
-    by_sign : (e : is_some given.level ≡ true) (b : Bool) → is_some given.sign ≡ b → Able (At stages.Attribute given draft)
+    by_sign : (e : is_some given.level ≡ true) (b : Bool) → is_some given.sign ≡ b
+        → Able (At stages.Attribute given draft)
     by_sign e false j = able_with attributes.Sign j
     by_sign e true j = by_color e j given.color refl
 
@@ -349,23 +375,27 @@ able_braced given draft = let then = record draft { entries = []; pairs = [] } i
 able_flowed : (given : Given) (draft : Draft) → Able (At stages.Flowed given draft)
 able_flowed given draft = able_sign (At stages.Flowed given draft) 93 (At stages.Braced given draft) refl (able_braced given draft)
 
-able_flow : (attribute : BlockAttribute) (given : Given) (draft : Draft) → Able (At (stages.FlowValue attribute) given draft)
+able_flow : (attribute : BlockAttribute) (given : Given) (draft : Draft)
+    → Able (At (stages.FlowValue attribute) given draft)
 able_flow Ptrflow given draft =
     let then = record draft { flows = record draft.flows { ptr = Some Up } } in able_word (At (stages.FlowValue Ptrflow) given draft) (codes "up") (At stages.Flowed given then) refl (able_flowed given then)
 able_flow Fieldflow given draft =
     let then = record draft { flows = record draft.flows { field = true } } in able_word (At (stages.FlowValue Fieldflow) given draft) (codes "down") (At stages.Flowed given then) refl (able_flowed given then)
 
-able_flow_equals : (attribute : BlockAttribute) (given : Given) (draft : Draft) → Able (At (stages.FlowEquals attribute) given draft)
+able_flow_equals : (attribute : BlockAttribute) (given : Given) (draft : Draft)
+    → Able (At (stages.FlowEquals attribute) given draft)
 able_flow_equals attribute given draft = able_sign (At (stages.FlowEquals attribute) given draft) 61 (At (stages.FlowValue attribute) given draft) refl (able_flow attribute given draft)
 
 able_flows : (given : Given) (draft : Draft) → has_all_flows draft.flows ≡ false → Able (At stages.FlowName given draft)
 able_flows given draft h = by_ptr (is_some draft.flows.ptr) refl
   where
-    able_with : (attribute : BlockAttribute) → has_flow draft.flows attribute ≡ false → Able (At stages.FlowName given draft)
+    able_with : (attribute : BlockAttribute) → has_flow draft.flows attribute ≡ false
+        → Able (At stages.FlowName given draft)
     able_with attribute e =
         able_word (At stages.FlowName given draft) (block_attribute_word attribute) (At (stages.FlowEquals attribute) given draft) (rw (flow_new draft.flows attribute e) refl) (able_flow_equals attribute given draft)
 
-    by_field : (e : is_some draft.flows.ptr ≡ true) (b : Bool) → draft.flows.field ≡ b → Able (At stages.FlowName given draft)
+    by_field : (e : is_some draft.flows.ptr ≡ true) (b : Bool) → draft.flows.field ≡ b
+        → Able (At stages.FlowName given draft)
     by_field e false j = able_with Fieldflow j
     by_field e true j = let full : has_all_flows draft.flows ≡ true = rw (e, j) refl in let clash : false ≡ true = sym h ∙ full in absurd cc
 

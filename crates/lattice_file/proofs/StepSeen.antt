@@ -22,9 +22,11 @@ use Rattle.lattice_file.proofs.StepLeads.{At, word_takes, sign_takes, text_takes
 
 pub data Seen (old : Standing) (rest : List ℕ) (all : List BlockView) : Type 0 where
   AtEnd : old.stage ≡ stages.Outside → Gap rest [] → all ≡ old.draft.blocks → Seen old rest all
-  Further : (lexeme : Lexeme) (new : Standing) (after : List ℕ) → next old lexeme ≡ Some new → Takes lexeme rest after → GoesFrom new after all → Seen old rest all
+  Further : (lexeme : Lexeme) (new : Standing) (after : List ℕ) → next old lexeme ≡ Some new → Takes lexeme rest after
+      → GoesFrom new after all → Seen old rest all
 
-sees_outside : (given : Given) (draft : Draft) (rest : List ℕ) (all more : List BlockView) → IsLatticeText given.wide more rest → all ≡ draft.blocks ++ more → Seen (At stages.Outside given draft) rest all
+sees_outside : (given : Given) (draft : Draft) (rest : List ℕ) (all more : List BlockView)
+    → IsLatticeText given.wide more rest → all ≡ draft.blocks ++ more → Seen (At stages.Outside given draft) rest all
 sees_outside given draft rest all more (End _ gap) is = AtEnd refl gap (is ∙ append-nil draft.blocks)
 sees_outside given draft rest all more (NextBlock block blocks _ b1 b2 b3 behind partial order head items filled others) is =
     Further (WordLexeme (codes "partial")) (At stages.Order given draft) b1 refl (word_takes (codes "partial") rest b1 partial) (
@@ -38,7 +40,8 @@ sees_outside given draft rest all more (NextBlock block blocks _ b1 b2 b3 behind
       },
     )
 
-sees_items : (given : Given) (draft : Draft) (rest behind : List ℕ) (all more : List BlockView) (more_entries : List Entry) (more_pairs : List Pair) → Items given.wide more_entries more_pairs rest behind →
+sees_items : (given : Given) (draft : Draft) (rest behind : List ℕ) (all more : List BlockView) (more_entries : List Entry) (more_pairs : List Pair)
+    → Items given.wide more_entries more_pairs rest behind →
     0 < length (draft.entries ++ more_entries) → IsLatticeText given.wide more behind → all ≡ draft.blocks ++ record { entries = draft.entries ++ more_entries; pairs = draft.pairs ++ more_pairs; flows = draft.flows } ∷ more →
     Seen (At stages.Items given draft) rest all
 sees_items given draft rest behind all more more_entries more_pairs (Close _ _ sign) filled others is =
@@ -90,12 +93,14 @@ sees_items given draft rest behind all more more_entries more_pairs (LineItem lo
       };
     }))
 
-as_then : (attribute : Attribute) (given then end : Given) (draft : Draft) (b2 b3 behind : List ℕ) (all : List BlockView) → TakesValue attribute given then b2 b3 →
+as_then : (attribute : Attribute) (given then end : Given) (draft : Draft) (b2 b3 behind : List ℕ) (all : List BlockView)
+    → TakesValue attribute given then b2 b3 →
     GoesOnItems given.wide draft.flows (draft.entries ++ entry_of draft.name end ∷ []) draft.pairs draft.blocks behind all → GoesOnItems then.wide draft.flows (draft.entries ++ entry_of draft.name end ∷ []) draft.pairs draft.blocks behind all
 as_then attribute given then end draft b2 b3 behind all value items =
     subst (λ (w : Bool). GoesOnItems w draft.flows (draft.entries ++ entry_of draft.name end ∷ []) draft.pairs draft.blocks behind all) (sym (value_wide attribute given then b2 b3 value)) items
 
-sees_attributes : (given end : Given) (draft : Draft) (rest behind : List ℕ) (all : List BlockView) → Attributes given end rest behind →
+sees_attributes : (given end : Given) (draft : Draft) (rest behind : List ℕ) (all : List BlockView)
+    → Attributes given end rest behind →
     GoesOnItems given.wide draft.flows (draft.entries ++ entry_of draft.name end ∷ []) draft.pairs draft.blocks behind all → Seen (At stages.Attribute given draft) rest all
 sees_attributes given end draft rest behind all (Last attribute _ _ _ b1 b2 b3 _ free word equals value sign) items =
     Further (WordLexeme (attribute_word attribute)) (At (stages.Equals attribute) given draft) b1 (rw (named_new given attribute free) refl) (word_takes (attribute_word attribute) rest b1 word)
@@ -104,7 +109,8 @@ sees_attributes given end draft rest behind all (More attribute _ then _ _ b1 b2
     Further (WordLexeme (attribute_word attribute)) (At (stages.Equals attribute) given draft) b1 (rw (named_new given attribute free) refl) (word_takes (attribute_word attribute) rest b1 word)
     (b2, equals, record { then = then; behind = b3; value = value; attributes = Comma b4 sign (record { end = end; behind = behind; attributes = others; items = as_then attribute given then end draft b2 b3 behind all value items }) })
 
-sees_value : (attribute : Attribute) (given then : Given) (draft : Draft) (rest behind : List ℕ) (all : List BlockView) → TakesValue attribute given then rest behind →
+sees_value : (attribute : Attribute) (given then : Given) (draft : Draft) (rest behind : List ℕ) (all : List BlockView)
+    → TakesValue attribute given then rest behind →
     GoesBehindAttribute then draft behind all → Seen (At (stages.Value attribute) given draft) rest all
 sees_value attribute given then draft rest behind all (Word _ word _ _ _ _ gives takes) goes =
     Further (WordLexeme word) (At stages.Attributed then draft) behind (rw (is_value attribute given then word gives) refl) (word_takes word rest behind takes) goes
@@ -138,7 +144,8 @@ attributes_free : (given end : Given) (rest behind : List ℕ) → Attributes gi
 attributes_free given end rest behind (Last attribute _ _ _ b1 b2 b3 _ free word equals value sign) = free_full given attribute free
 attributes_free given end rest behind (More attribute _ then _ _ b1 b2 b3 b4 _ free word equals value sign others) = free_full given attribute free
 
-sees_flows : (given : Given) (draft : Draft) (end : Flows) (rest behind : List ℕ) (all : List BlockView) → BlockAttributes draft.flows end rest behind →
+sees_flows : (given : Given) (draft : Draft) (end : Flows) (rest behind : List ℕ) (all : List BlockView)
+    → BlockAttributes draft.flows end rest behind →
     GoesOnBraced given.wide end draft.blocks behind all → Seen (At stages.FlowName given draft) rest all
 sees_flows given draft end rest behind all (LastFlow _ _ _ b1 _ takes sign) braced =
     Further (WordLexeme (block_attribute_word takes.attribute)) (At (stages.FlowEquals takes.attribute) given draft) takes.b1 (rw (flow_new draft.flows takes.attribute takes.free) refl)
@@ -159,14 +166,17 @@ sees_flows given draft end rest behind all (MoreFlows _ then _ _ b1 b2 _ takes s
       },
     )
 
-sees_open : (given : Given) (draft : Draft) (flows : Flows) (rest behind : List ℕ) (all : List BlockView) → Head flows rest behind → GoesOnItems given.wide flows [] [] draft.blocks behind all → Seen (At stages.Open given draft) rest all
+sees_open : (given : Given) (draft : Draft) (flows : Flows) (rest behind : List ℕ) (all : List BlockView)
+    → Head flows rest behind → GoesOnItems given.wide flows [] [] draft.blocks behind all
+    → Seen (At stages.Open given draft) rest all
 sees_open given draft flows rest behind all (Plain _ _ sign) items =
     Further (SignLexeme 123) (At stages.Items given (record draft { entries = []; pairs = []; flows = no_flows })) behind refl (sign_takes 123 rest behind sign) items
 sees_open given draft flows rest behind all (WithFlows _ _ b1 b2 _ sign attributes brace) items =
     Further (SignLexeme 91) (At stages.FlowName given (record draft { flows = no_flows })) b1 refl (sign_takes 91 rest b1 sign)
     (record { end = flows; behind = b2; attributes = attributes; braced = record { behind = behind; sign = brace; items = items } })
 
-free_flows : (flows : Flows) (attribute : BlockAttribute) → has_flow flows attribute ≡ false → has_all_flows flows ≡ false
+free_flows : (flows : Flows) (attribute : BlockAttribute) → has_flow flows attribute ≡ false
+    → has_all_flows flows ≡ false
 free_flows flows Ptrflow e = rw e refl
 free_flows flows Fieldflow e = by (is_some flows.ptr)
   where
@@ -174,11 +184,13 @@ free_flows flows Fieldflow e = by (is_some flows.ptr)
     by true = e
     by false = refl
 
-flows_free : (flows end : Flows) (rest behind : List ℕ) → BlockAttributes flows end rest behind → has_all_flows flows ≡ false
+flows_free : (flows end : Flows) (rest behind : List ℕ) → BlockAttributes flows end rest behind
+    → has_all_flows flows ≡ false
 flows_free flows end rest behind (LastFlow _ _ _ b1 _ takes sign) = free_flows flows takes.attribute takes.free
 flows_free flows end rest behind (MoreFlows _ then _ _ b1 b2 _ takes sign others) = free_flows flows takes.attribute takes.free
 
-sees_at : (stage : Stage) (given : Given) (draft : Draft) (rest : List ℕ) (all : List BlockView) → Goes stage given draft rest all → Seen (At stage given draft) rest all
+sees_at : (stage : Stage) (given : Given) (draft : Draft) (rest : List ℕ) (all : List BlockView)
+    → Goes stage given draft rest all → Seen (At stage given draft) rest all
 sees_at stages.Outside given draft rest all (more, text, is) = sees_outside given draft rest all more text is
 sees_at stages.Order given draft rest all (behind, word, goes) = Further (WordLexeme (codes "order")) (At stages.Open given draft) behind refl (word_takes (codes "order") rest behind word) goes
 sees_at stages.Open given draft rest all goes = sees_open given draft goes.flows rest goes.behind all goes.head goes.items

@@ -4,6 +4,7 @@ use Rattle.std.specs.List.{list_all, slice_range}
 use Rattle.lattice_file.specs.Text.{Gap, StaysOpen, stays_on_line, ends_line, is_blank}
 use Rattle.lattice_file.specs.Steps.{Lexeme, Spells, Standing, next, next_by_word}
 
+-- the first of some bytes
 abbrev pub first : List ℕ → Option ℕ
 first [] = None
 first (b ∷ bytes) = Some b
@@ -34,7 +35,8 @@ pub record CommentFails (bytes : List ℕ) (at place : ℕ) : Type 0 where
   pub slash : first (drop at bytes) ≡ Some 47
   pub more : List ℕ
   pub ends : (tail : List ℕ) → Gap (slice_range bytes at place ++ (more ++ tail)) tail
-  pub stuck : (tail rest : List ℕ) → first tail ≡ first (drop place bytes) → Gap (slice_range bytes at place ++ tail) rest → rest ≡ slice_range bytes at place ++ tail
+  pub stuck : (tail rest : List ℕ) → first tail ≡ first (drop place bytes)
+      → Gap (slice_range bytes at place ++ tail) rest → rest ≡ slice_range bytes at place ++ tail
 
 -- a gap goes to such a comment
 pub record GapFails (bytes : List ℕ) (from place : ℕ) : Type 0 where
@@ -78,4 +80,5 @@ pub record LexemeFails (old : Standing) (bytes : List ℕ) (at place : ℕ) : Ty
   pub later : at ≤ place
   pub within : place ≤ length bytes
   pub begins : (place ≡ at) ⊎ LexemeBegins old bytes at place
-  pub fails : (tail rest : List ℕ) (lexeme : Lexeme) (new : Standing) → first tail ≡ first (drop place bytes) → Spells lexeme (slice_range bytes at place ++ tail) rest → next old lexeme ≡ Some new → ⊥
+  pub fails : (tail rest : List ℕ) (lexeme : Lexeme) (new : Standing) → first tail ≡ first (drop place bytes)
+      → Spells lexeme (slice_range bytes at place ++ tail) rest → next old lexeme ≡ Some new → ⊥

@@ -39,8 +39,11 @@ pub record GoesOnAttributes (given : Given) (draft : Draft) (rest : List ℕ) (a
 
 -- behind an attribute: the entry ends, or a comma and others follow
 pub data GoesBehindAttribute (given : Given) (draft : Draft) (rest : List ℕ) (all : List BlockView) : Type 0 where
-  EndEntry : (behind : List ℕ) → TakesSign 93 rest behind → GoesOnItems given.wide draft.flows (draft.entries ++ entry_of draft.name given ∷ []) draft.pairs draft.blocks behind all → GoesBehindAttribute given draft rest all
-  Comma : (behind : List ℕ) → TakesSign 44 rest behind → GoesOnAttributes given draft behind all → GoesBehindAttribute given draft rest all
+  EndEntry : (behind : List ℕ) → TakesSign 93 rest behind
+      → GoesOnItems given.wide draft.flows (draft.entries ++ entry_of draft.name given ∷ []) draft.pairs draft.blocks behind all
+      → GoesBehindAttribute given draft rest all
+  Comma : (behind : List ℕ) → TakesSign 44 rest behind → GoesOnAttributes given draft behind all
+      → GoesBehindAttribute given draft rest all
 
 -- the upper name of an order line
 pub record GoesOnHigh (wide : Bool) (draft : Draft) (rest : List ℕ) (all : List BlockView) : Type 0 where
@@ -52,8 +55,10 @@ pub record GoesOnHigh (wide : Bool) (draft : Draft) (rest : List ℕ) (all : Lis
 
 -- behind the name of an item
 pub data GoesBehindName (wide : Bool) (draft : Draft) (rest : List ℕ) (all : List BlockView) : Type 0 where
-  Bracket : (behind : List ℕ) → TakesSign 91 rest behind → GoesOnAttributes (no_attribute wide) draft behind all → GoesBehindName wide draft rest all
-  Below : (behind : List ℕ) → TakesSign 60 rest behind → GoesOnHigh wide draft behind all → GoesBehindName wide draft rest all
+  Bracket : (behind : List ℕ) → TakesSign 91 rest behind → GoesOnAttributes (no_attribute wide) draft behind all
+      → GoesBehindName wide draft rest all
+  Below : (behind : List ℕ) → TakesSign 60 rest behind → GoesOnHigh wide draft behind all
+      → GoesBehindName wide draft rest all
 
 -- { and a block's items, behind its attributes
 pub record GoesOnBraced (wide : Bool) (flows : Flows) (blocks : List BlockView) (rest : List ℕ) (all : List BlockView) : Type 0 where
@@ -70,8 +75,10 @@ pub record GoesOnFlows (wide : Bool) (flows : Flows) (blocks : List BlockView) (
 
 -- behind an attribute of a block: its items follow, or a comma and others
 pub data GoesBehindFlow (wide : Bool) (flows : Flows) (blocks : List BlockView) (rest : List ℕ) (all : List BlockView) : Type 0 where
-  EndFlows : (behind : List ℕ) → TakesSign 93 rest behind → GoesOnBraced wide flows blocks behind all → GoesBehindFlow wide flows blocks rest all
-  CommaFlows : (behind : List ℕ) → TakesSign 44 rest behind → GoesOnFlows wide flows blocks behind all → GoesBehindFlow wide flows blocks rest all
+  EndFlows : (behind : List ℕ) → TakesSign 93 rest behind → GoesOnBraced wide flows blocks behind all
+      → GoesBehindFlow wide flows blocks rest all
+  CommaFlows : (behind : List ℕ) → TakesSign 44 rest behind → GoesOnFlows wide flows blocks behind all
+      → GoesBehindFlow wide flows blocks rest all
 
 -- a value of an attribute of a block and what follows it
 pub record GoesOnFlow (wide : Bool) (attribute : BlockAttribute) (flows : Flows) (blocks : List BlockView) (rest : List ℕ) (all : List BlockView) : Type 0 where
@@ -96,6 +103,7 @@ pub record GoesOnValue (attribute : Attribute) (given : Given) (draft : Draft) (
   pub value : TakesValue attribute given then rest behind
   pub attributes : GoesBehindAttribute then draft behind all
 
+-- at a stage the rest is what a text of all these blocks has behind it
 abbrev pub Goes : Stage → Given → Draft → List ℕ → List BlockView → Type 0
 Goes stages.Outside given draft rest all = (more : List BlockView) × IsLatticeText given.wide more rest × (all ≡ draft.blocks ++ more)
 Goes stages.Order given draft rest all = (behind : List ℕ) × TakesWord (codes "order") rest behind × GoesOnOpen given.wide draft behind all

@@ -8,9 +8,11 @@ use Rattle.lattice_file.specs.Steps.{Standing, Lexeme, next, only_if}
 use Rattle.lattice_file.specs.Extents.{LexemeFails}
 use Rattle.lattice_file.specs.Begins.{IsFirstBad}
 
+-- what a reader has read
 abbrev pub draft_of : Reader → Draft
 draft_of reader = record { name = reader.name; entries = reader.entries.items; pairs = reader.pairs.items; flows = reader.flows; blocks = reader.blocks.items }
 
+-- where a reader stands
 abbrev pub standing_of : Reader → Standing
 standing_of reader = record { stage = reader.stage; given = reader.given; draft = draft_of reader }
 

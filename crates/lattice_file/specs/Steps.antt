@@ -25,6 +25,7 @@ use Rattle.lattice_file.specs.Going.{Draft, Goes}
 use Rattle.lattice_core.specs.declared.Deref.{Deref}
 use Rattle.lattice_core.specs.declared.Deref.TheVariants as derefs
 
+-- a word, a sign by its byte, or a colour text
 pub data Lexeme : Type 0 where
   WordLexeme : List ℕ → Lexeme
   SignLexeme : ℕ → Lexeme
@@ -46,10 +47,12 @@ pub record Standing : Type 0 where
 abbrev pub GoesFrom : Standing → List ℕ → List BlockView → Type 0
 GoesFrom standing rest all = Goes standing.stage standing.given standing.draft rest all
 
+-- a value, where a test holds
 abbrev pub only_if : {A : Type 0} → Bool → A → Option A
 only_if true to = Some to
 only_if false to = None
 
+-- a function on a value that may be there
 abbrev pub map_some : {A B : Type 0} → (A → B) → Option A → Option B
 map_some f (Some one) = Some (f one)
 map_some f None = None
@@ -64,9 +67,11 @@ attribute_named given word =
     option_or (if_named given word attributes.Level) (option_or (if_named given word attributes.Sign)
     (option_or (if_named given word attributes.Color) (option_or (if_named given word attributes.Write) (if_named given word attributes.Deref))))
 
+-- the level of a word, if it is one: `ref` or `value`
 abbrev pub level_named : List ℕ → Option Level
 level_named word = option_or (only_if (bytes_eq word (codes "ref")) Ref) (only_if (bytes_eq word (codes "value")) Value)
 
+-- the sign of a word, if it is one: `pos`, `neg` or `eq`
 abbrev pub sign_named : List ℕ → Option Sign
 sign_named word = option_or (only_if (bytes_eq word (codes "pos")) Pos) (option_or (only_if (bytes_eq word (codes "neg")) Neg) (only_if (bytes_eq word (codes "eq")) Eq))
 
@@ -94,6 +99,7 @@ if_flow flows word attribute = only_if (bytes_eq word (block_attribute_word attr
 abbrev pub flow_named : Flows → List ℕ → Option BlockAttribute
 flow_named flows word = option_or (if_flow flows word Ptrflow) (if_flow flows word Fieldflow)
 
+-- the direction of a word, if it is one: `up` or `down`
 abbrev pub direction_named : List ℕ → Option Direction
 direction_named word = option_or (only_if (bytes_eq word (codes "up")) Up) (only_if (bytes_eq word (codes "down")) Down)
 
@@ -106,6 +112,7 @@ with_flow Fieldflow flows word = only_if (bytes_eq word (codes "down")) (record 
 abbrev pub has_all_flows : Flows → Bool
 has_all_flows flows = is_some flows.ptr && flows.field
 
+-- whether a block has an entry
 abbrev pub is_nonempty : List Entry → Bool
 is_nonempty [] = false
 is_nonempty (entry ∷ entries) = true
@@ -139,6 +146,7 @@ with_block draft = record {
   blocks = draft.blocks ++ record { entries = draft.entries; pairs = draft.pairs; flows = draft.flows } ∷ [];
 }
 
+-- an entry more, of the name that was read and these attributes
 abbrev pub with_entry : Given → Draft → Draft
 with_entry given draft = record draft { entries = draft.entries ++ entry_of draft.name given ∷ [] }
 
@@ -181,10 +189,12 @@ abbrev pub next_by_text : Stage → Given → Draft → Option Standing
 next_by_text (stages.Value attributes.Color) given draft = Some (record { stage = stages.Attributed; given = record given { color = true }; draft = draft })
 next_by_text _ given draft = None
 
+-- where a reader stands behind a lexeme, if it may come at a stage
 abbrev pub next_by : Stage → Given → Draft → Lexeme → Option Standing
 next_by stage given draft (WordLexeme word) = next_by_word stage given draft word
 next_by stage given draft (SignLexeme sign) = next_by_sign stage given draft sign
 next_by stage given draft TextLexeme = next_by_text stage given draft
 
+-- where a reader stands behind a lexeme, if it may come
 abbrev pub next : Standing → Lexeme → Option Standing
 next standing lexeme = next_by standing.stage standing.given standing.draft lexeme

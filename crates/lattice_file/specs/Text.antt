@@ -26,6 +26,7 @@ use Rattle.lattice_core.specs.declared.Deref.TheVariants as derefs
 abbrev pub is_blank : ℕ → Bool
 is_blank b = nat_eq b 32 || nat_eq b 9 || nat_eq b 13 || nat_eq b 10
 
+-- a letter of ASCII
 abbrev pub is_letter : ℕ → Bool
 is_letter b = (nat_le 97 b && nat_le b 122) || (nat_le 65 b && nat_le b 90)
 
@@ -60,7 +61,8 @@ pub data Gap : List ℕ → List ℕ → Type 0 where
   Nothing : (rest : List ℕ) → Gap rest rest
   Blank : (b : ℕ) (bytes rest : List ℕ) → is_blank b ≡ true → Gap bytes rest → Gap (b ∷ bytes) rest
   Comment : (text bytes rest : List ℕ) → StaysOpen text → Gap bytes rest → Gap (47 ∷ 42 ∷ text ++ 42 ∷ 47 ∷ bytes) rest
-  Line : (text bytes rest : List ℕ) → list_all stays_on_line text ≡ true → ends_line bytes ≡ true → Gap bytes rest → Gap (47 ∷ 47 ∷ text ++ bytes) rest
+  Line : (text bytes rest : List ℕ) → list_all stays_on_line text ≡ true → ends_line bytes ≡ true → Gap bytes rest
+      → Gap (47 ∷ 47 ∷ text ++ bytes) rest
 
 -- a word behind a gap, as long as it goes
 pub record TakesWord (word bytes rest : List ℕ) : Type 0 where
@@ -105,6 +107,7 @@ attribute_word attributes.Color = codes "color"
 attribute_word attributes.Write = codes "write"
 attribute_word attributes.Deref = codes "deref"
 
+-- whether an entry has the attribute `deref`
 abbrev pub is_deref : Deref → Bool
 is_deref derefs.No = false
 is_deref derefs.Yes = true
@@ -118,18 +121,22 @@ has_attribute given attributes.Color = given.color
 has_attribute given attributes.Write = given.write
 has_attribute given attributes.Deref = is_deref given.deref
 
+-- the word of a level
 abbrev pub level_word : Level → List ℕ
 level_word Ref = codes "ref"
 level_word Value = codes "value"
 
+-- the word of a sign
 abbrev pub sign_word : Sign → List ℕ
 sign_word Pos = codes "pos"
 sign_word Neg = codes "neg"
 sign_word Eq = codes "eq"
 
+-- a word is that of a level
 abbrev pub IsLevel : List ℕ → Level → Type 0
 IsLevel word level = word ≡ level_word level
 
+-- a word is that of a sign
 abbrev pub IsSign : List ℕ → Sign → Type 0
 IsSign word sign = word ≡ sign_word sign
 
@@ -149,14 +156,18 @@ Gives attributes.Deref word given then = (deref : Deref) × IsDeref given.wide w
 
 -- a value of an attribute
 pub data TakesValue : Attribute → Given → Given → List ℕ → List ℕ → Type 0 where
-  Word : (attribute : Attribute) (word : List ℕ) (given then : Given) (bytes rest : List ℕ) → Gives attribute word given then → TakesWord word bytes rest → TakesValue attribute given then bytes rest
-  Color : (given : Given) (bytes rest : List ℕ) → TakesText bytes rest → TakesValue attributes.Color given (record given { color = true }) bytes rest
+  Word : (attribute : Attribute) (word : List ℕ) (given then : Given) (bytes rest : List ℕ)
+      → Gives attribute word given then → TakesWord word bytes rest → TakesValue attribute given then bytes rest
+  Color : (given : Given) (bytes rest : List ℕ) → TakesText bytes rest
+      → TakesValue attributes.Color given (record given { color = true }) bytes rest
 
 -- the attributes of an entry, none of which it has already, with commas between them, and ]
 pub data Attributes : Given → Given → List ℕ → List ℕ → Type 0 where
-  Last : (attribute : Attribute) (given then : Given) (b0 b1 b2 b3 rest : List ℕ) → has_attribute given attribute ≡ false → TakesWord (attribute_word attribute) b0 b1 → TakesSign 61 b1 b2 →
+  Last : (attribute : Attribute) (given then : Given) (b0 b1 b2 b3 rest : List ℕ)
+      → has_attribute given attribute ≡ false → TakesWord (attribute_word attribute) b0 b1 → TakesSign 61 b1 b2 →
       TakesValue attribute given then b2 b3 → TakesSign 93 b3 rest → Attributes given then b0 rest
-  More : (attribute : Attribute) (given then end : Given) (b0 b1 b2 b3 b4 rest : List ℕ) → has_attribute given attribute ≡ false → TakesWord (attribute_word attribute) b0 b1 → TakesSign 61 b1 b2 →
+  More : (attribute : Attribute) (given then end : Given) (b0 b1 b2 b3 b4 rest : List ℕ)
+      → has_attribute given attribute ≡ false → TakesWord (attribute_word attribute) b0 b1 → TakesSign 61 b1 b2 →
       TakesValue attribute given then b2 b3 → TakesSign 44 b3 b4 → Attributes then end b4 rest → Attributes given end b0 rest
 
 -- an element by its name and its attributes: on values and both ways where they do not say otherwise
@@ -170,9 +181,11 @@ no_attribute wide = record { wide = wide; level = None; sign = None; color = fal
 -- entries and order lines, mixed in any order, and }
 pub data Items (wide : Bool) : List Entry → List Pair → List ℕ → List ℕ → Type 0 where
   Close : (bytes rest : List ℕ) → TakesSign 125 bytes rest → Items wide [] [] bytes rest
-  EntryItem : (name : List ℕ) (given : Given) (entries : List Entry) (pairs : List Pair) (b0 b1 b2 b3 rest : List ℕ) → is_element_name name ≡ true → TakesWord name b0 b1 → TakesSign 91 b1 b2 →
+  EntryItem : (name : List ℕ) (given : Given) (entries : List Entry) (pairs : List Pair) (b0 b1 b2 b3 rest : List ℕ)
+      → is_element_name name ≡ true → TakesWord name b0 b1 → TakesSign 91 b1 b2 →
       Attributes (no_attribute wide) given b2 b3 → Items wide entries pairs b3 rest → Items wide (entry_of name given ∷ entries) pairs b0 rest
-  LineItem : (low high : List ℕ) (entries : List Entry) (pairs : List Pair) (b0 b1 b2 b3 rest : List ℕ) → is_element_name low ≡ true → is_element_name high ≡ true → TakesWord low b0 b1 → TakesSign 60 b1 b2 →
+  LineItem : (low high : List ℕ) (entries : List Entry) (pairs : List Pair) (b0 b1 b2 b3 rest : List ℕ)
+      → is_element_name low ≡ true → is_element_name high ≡ true → TakesWord low b0 b1 → TakesSign 60 b1 b2 →
       TakesWord high b2 b3 → Items wide entries pairs b3 rest → Items wide entries (record { low = low; high = high } ∷ pairs) b0 rest
 
 -- the word of an attribute of a block
@@ -185,6 +198,7 @@ abbrev pub has_flow : Flows → BlockAttribute → Bool
 has_flow flows Ptrflow = is_some flows.ptr
 has_flow flows Fieldflow = flows.field
 
+-- the word of a direction
 abbrev pub direction_word : Direction → List ℕ
 direction_word Up = codes "up"
 direction_word Down = codes "down"
@@ -208,16 +222,20 @@ pub record TakesFlow (flows then : Flows) (bytes rest : List ℕ) : Type 0 where
 
 -- the attributes of a block, none of which it has already, with commas between them, and ]
 pub data BlockAttributes : Flows → Flows → List ℕ → List ℕ → Type 0 where
-  LastFlow : (flows then : Flows) (b0 b1 rest : List ℕ) → TakesFlow flows then b0 b1 → TakesSign 93 b1 rest → BlockAttributes flows then b0 rest
-  MoreFlows : (flows then end : Flows) (b0 b1 b2 rest : List ℕ) → TakesFlow flows then b0 b1 → TakesSign 44 b1 b2 → BlockAttributes then end b2 rest → BlockAttributes flows end b0 rest
+  LastFlow : (flows then : Flows) (b0 b1 rest : List ℕ) → TakesFlow flows then b0 b1 → TakesSign 93 b1 rest
+      → BlockAttributes flows then b0 rest
+  MoreFlows : (flows then end : Flows) (b0 b1 b2 rest : List ℕ) → TakesFlow flows then b0 b1 → TakesSign 44 b1 b2
+      → BlockAttributes then end b2 rest → BlockAttributes flows end b0 rest
 
 -- what stands before the items of a block: its attributes, where it has any, and {
 pub data Head : Flows → List ℕ → List ℕ → Type 0 where
   Plain : (b0 rest : List ℕ) → TakesSign 123 b0 rest → Head no_flows b0 rest
-  WithFlows : (flows : Flows) (b0 b1 b2 rest : List ℕ) → TakesSign 91 b0 b1 → BlockAttributes no_flows flows b1 b2 → TakesSign 123 b2 rest → Head flows b0 rest
+  WithFlows : (flows : Flows) (b0 b1 b2 rest : List ℕ) → TakesSign 91 b0 b1 → BlockAttributes no_flows flows b1 b2
+      → TakesSign 123 b2 rest → Head flows b0 rest
 
 -- the bytes are a lattice text of these blocks, each with at least one entry, which is read as one of wider C or not
 pub data IsLatticeText (wide : Bool) : List BlockView → List ℕ → Type 0 where
   End : (bytes : List ℕ) → Gap bytes [] → IsLatticeText wide [] bytes
-  NextBlock : (block : BlockView) (blocks : List BlockView) (b0 b1 b2 b3 rest : List ℕ) → TakesWord (codes "partial") b0 b1 → TakesWord (codes "order") b1 b2 → Head block.flows b2 b3 →
+  NextBlock : (block : BlockView) (blocks : List BlockView) (b0 b1 b2 b3 rest : List ℕ)
+      → TakesWord (codes "partial") b0 b1 → TakesWord (codes "order") b1 b2 → Head block.flows b2 b3 →
       Items wide block.entries block.pairs b3 rest → 0 < length block.entries → IsLatticeText wide blocks rest → IsLatticeText wide (block ∷ blocks) b0

@@ -21,21 +21,25 @@ use Rattle.lattice_solver.proofs.Bits.{none_in}
 use Rattle.lattice_solver.proofs.Links.{one_link}
 
 -- a flow carries each phase on, an Enter both to the second
-pub flow_leads : (sys : System) (lattice u v n : ℕ) → Stands sys lattice n (Le u v) → (p : Phase) (e : ℕ) → LeadsIn sys lattice p e u → LeadsIn sys lattice p e v
+pub flow_leads : (sys : System) (lattice u v n : ℕ) → Stands sys lattice n (Le u v) → (p : Phase) (e : ℕ)
+    → LeadsIn sys lattice p e u → LeadsIn sys lattice p e v
 flow_leads sys lattice u v n st First e path = flows u v n path st
 flow_leads sys lattice u v n st Second e path = flows_on u v n path st
 
-pub call_leads : (sys : System) (lattice s u v n : ℕ) → Stands sys lattice n (Enter s u v) → (p : Phase) (e : ℕ) → LeadsIn sys lattice p e u → LeadsIn sys lattice Second e v
+pub call_leads : (sys : System) (lattice s u v n : ℕ) → Stands sys lattice n (Enter s u v) → (p : Phase) (e : ℕ)
+    → LeadsIn sys lattice p e u → LeadsIn sys lattice Second e v
 call_leads sys lattice s u v n st First e path = calls u v s n path st
 call_leads sys lattice s u v n st Second e path = calls_on u v s n path st
 
 abbrev Keeps : PhaseSets → PhaseSets → Type 0
 Keeps old new = (p : Phase) (v e : ℕ) → HasIn old p v e → HasIn new p v e
 
-includes_on : (a b : ℕ) (old new : PhaseSets) (p : Phase) (v : ℕ) → b ≡ a → Keeps old new → Includes a old p v → Includes b new p v
+includes_on : (a b : ℕ) (old new : PhaseSets) (p : Phase) (v : ℕ) → b ≡ a → Keeps old new → Includes a old p v
+    → Includes b new p v
 includes_on a b old new p v same keeps all e has = keeps p v e (all e (subst (λ set. bit_at set e ≡ 1) same has))
 
-pub anew_on : (sys : System) (old new : PhaseSets) (v : ℕ) → ((p : Phase) → set_of new p v ≡ set_of old p v) → StartsAnew sys old v → StartsAnew sys new v
+pub anew_on : (sys : System) (old new : PhaseSets) (v : ℕ) → ((p : Phase) → set_of new p v ≡ set_of old p v)
+    → StartsAnew sys old v → StartsAnew sys new v
 anew_on sys old new v same anew nobody e has =
     subst (λ set. bit_at set e ≡ 1) (sym (same First)) (anew nobody e (subst (λ set. bit_at set e ≡ 1) (same Second) has))
 
@@ -53,7 +57,9 @@ module _ (sys : System) (lattice : ℕ) (rows : List Summary) where
     }
 
   -- a constraint that does not begin at the variable carries nothing from it
-  pub carried_elsewhere : (had : Phase → ℕ) (sets : PhaseSets) (u n : ℕ) → (IsKeyed sys link_begins u n → IsCarried sys lattice rows had sets u n) → IsCarried sys lattice rows had sets u n
+  pub carried_elsewhere : (had : Phase → ℕ) (sets : PhaseSets) (u n : ℕ)
+      → (IsKeyed sys link_begins u n → IsCarried sys lattice rows had sets u n)
+      → IsCarried sys lattice rows had sets u n
   carried_elsewhere had sets u n carried = record {
     flow = λ v st. (carried (record { constraint = st.constraint; there = st.there; keyed = subst (λ l. link_begins l ≡ Some u) (sym st.link_is) refl })).flow v st;
     back = λ s v st. (carried (record { constraint = st.constraint; there = st.there; keyed = subst (λ l. link_begins l ≡ Some u) (sym st.link_is) refl })).back s v st;
@@ -76,7 +82,8 @@ module _ (sys : System) (lattice : ℕ) (rows : List Summary) where
       }
 
   -- who agrees and keeps what he has agrees with greater sets
-  pub agrees_on : (old new : PhaseSets) (v : ℕ) → Keeps old new → ((p : Phase) → set_of new p v ≡ set_of old p v) → AgreesAt sys lattice rows old v → AgreesAt sys lattice rows new v
+  pub agrees_on : (old new : PhaseSets) (v : ℕ) → Keeps old new → ((p : Phase) → set_of new p v ≡ set_of old p v)
+      → AgreesAt sys lattice rows old v → AgreesAt sys lattice rows new v
   agrees_on old new v keeps same agrees = record {
     carried = λ n. carried_on (λ p. set_of old p v) (λ p. set_of new p v) old new same keeps v n (agrees.carried n);
     anew = anew_on sys old new v same agrees.anew;
@@ -85,7 +92,8 @@ module _ (sys : System) (lattice : ℕ) (rows : List Summary) where
   -- after a turn who does not wait agrees, if that was so before
   pub turn_agrees : (a b c : Held) (taken : Taken) → IsTakenUp sys a b taken → Gains b c →
       ((n : ℕ) → IsCarried sys lattice rows (had_of taken) c.sets taken.at n) →
-      ((v : ℕ) → waits a.waiting v ≡ false → AgreesAt sys lattice rows a.sets v) → (v : ℕ) → waits c.waiting v ≡ false → AgreesAt sys lattice rows c.sets v
+      ((v : ℕ) → waits a.waiting v ≡ false → AgreesAt sys lattice rows a.sets v) → (v : ℕ) → waits c.waiting v ≡ false
+      → AgreesAt sys lattice rows c.sets v
   turn_agrees a b c taken up gains carried agree v quiet = elim (cases_eq v taken.at) [
     | inl is ↦
         let same : (p : Phase) → set_of c.sets p taken.at ≡ set_of b.sets p taken.at = (gains.still taken.at (subst (λ w. waits c.waiting w ≡ false) is quiet)).1 in
@@ -99,8 +107,10 @@ module _ (sys : System) (lattice : ℕ) (rows : List Summary) where
         agrees_on a.sets c.sets v (λ p w e has. gains.kept p w e (up.kept p w e has)) (λ p. late.1 p ∙ early.1 p) (agree v early.0)
   ]
 
-  pub enter_carried : (had : Phase → ℕ) (sets : PhaseSets) (n : ℕ) (constraint : Constraint) (s u a w : ℕ) → slice_get sys.constraints n ≡ Some constraint → constraint.link ≡ Enter s w a →
-      ((p : Phase) → Includes (had p) sets Second a) → ((m : ℕ) → IsPassed sys lattice rows had sets s a m) → IsCarried sys lattice rows had sets u n
+  pub enter_carried : (had : Phase → ℕ) (sets : PhaseSets) (n : ℕ) (constraint : Constraint) (s u a w : ℕ)
+      → slice_get sys.constraints n ≡ Some constraint → constraint.link ≡ Enter s w a →
+      ((p : Phase) → Includes (had p) sets Second a) → ((m : ℕ) → IsPassed sys lattice rows had sets s a m)
+      → IsCarried sys lattice rows had sets u n
   enter_carried had sets n constraint s u a w there is called passed = record {
     flow = λ v st. let no = one_link sys lattice n constraint (Enter s w a) there is (Le u v) st in absurd cc;
     back = λ t v st. let no = one_link sys lattice n constraint (Enter s w a) there is (Leave t u v) st in absurd cc;

@@ -24,7 +24,8 @@ module _ (old new : PhaseSets) (phase : Phase) (at elems : ℕ) (here : set_of n
   was_or_came : (e : ℕ) → HasIn new phase at e → (HasIn old phase at e) ⊎ (bit_at elems e ≡ 1)
   was_or_came e has = in_union (set_of old phase at) elems e (subst (λ set. bit_at set e ≡ 1) here has)
 
-  pub raised_leads : (sys : System) (lattice : ℕ) → ((p : Phase) (v : ℕ) → (p ≡ phase → v ≢ at) → set_of new p v ≡ set_of old p v) →
+  pub raised_leads : (sys : System) (lattice : ℕ)
+      → ((p : Phase) (v : ℕ) → (p ≡ phase → v ≢ at) → set_of new p v ≡ set_of old p v) →
       AllLeadIn sys lattice old → AllLeadTo sys lattice elems phase at → AllLeadIn sys lattice new
   raised_leads sys lattice others all come p v e has = elim (same_phase p phase) [
     | inl same ↦ elim (cases_eq v at) [
@@ -42,7 +43,8 @@ module _ (old new : PhaseSets) (phase : Phase) (at elems : ℕ) (here : set_of n
   pub raised_has : Includes elems new phase at
   raised_has e has = subst (λ set. bit_at set e ≡ 1) (sym here) (from_right (set_of old phase at) elems e has)
 
-  pub raised_keeps : ((p : Phase) (v : ℕ) → (p ≡ phase → v ≢ at) → set_of new p v ≡ set_of old p v) → (p : Phase) (v e : ℕ) → HasIn old p v e → HasIn new p v e
+  pub raised_keeps : ((p : Phase) (v : ℕ) → (p ≡ phase → v ≢ at) → set_of new p v ≡ set_of old p v)
+      → (p : Phase) (v e : ℕ) → HasIn old p v e → HasIn new p v e
   raised_keeps others p v e has = elim (same_phase p phase) [
     | inl same ↦ elim (cases_eq v at) [
       | inl is ↦
@@ -54,7 +56,8 @@ module _ (old new : PhaseSets) (phase : Phase) (at elems : ℕ) (here : set_of n
   ]
 
   -- an element of a set is an old one or one of those added
-  pub raised_only : ((p : Phase) (v : ℕ) → (p ≡ phase → v ≢ at) → set_of new p v ≡ set_of old p v) → (p : Phase) (v e : ℕ) → HasIn new p v e →
+  pub raised_only : ((p : Phase) (v : ℕ) → (p ≡ phase → v ≢ at) → set_of new p v ≡ set_of old p v)
+      → (p : Phase) (v e : ℕ) → HasIn new p v e →
       HasIn old p v e ⊎ ((p ≡ phase) × (v ≡ at) × (bit_at elems e ≡ 1))
   raised_only others p v e has = elim (same_phase p phase) [
     | inl same ↦ elim (cases_eq v at) [

@@ -57,7 +57,8 @@ module _ (sys : System) (solution : Solution) (order : Order) (solved : IsSolved
   same_bound e = (cc, cc)
 
   -- where all that reaches the variable of a bound is at or below it, nothing exceeds the bound
-  pub bound_under : (n v b : ℕ) → Stands sys solution.lattice n (Bound v solution.lattice b) → AllUnder order (reached_at solution v) b → IsUnder sys solution order n
+  pub bound_under : (n v b : ℕ) → Stands sys solution.lattice n (Bound v solution.lattice b)
+      → AllUnder order (reached_at solution v) b → IsUnder sys solution order n
   bound_under n v b st under w d e other has =
       let link = sym st.link_is ∙ ap (λ (k : Constraint). k.link) (some_is (sym st.there ∙ other.there)) ∙ other.link_is in
       let same = same_bound link in
@@ -81,7 +82,8 @@ module _ (sys : System) (solution : Solution) (order : Order) (solved : IsSolved
     matched : ℕ → ℕ → Bool
     matched u v = (test_of (HasPair solved.summaries u v) (pair_tells solved.summaries u v)).0
 
-    matched_is : (n s w u v : ℕ) → Stands sys solution.lattice n (Enter s w u) → (matched u v ≡ true) ↔ Match sys solution.lattice u v
+    matched_is : (n s w u v : ℕ) → Stands sys solution.lattice n (Enter s w u)
+        → (matched u v ≡ true) ↔ Match sys solution.lattice u v
     unfolding matched
     matched_is n s w u v st =
         let test = (test_of (HasPair solved.summaries u v) (pair_tells solved.summaries u v)).1 in
@@ -102,13 +104,15 @@ module _ (sys : System) (solution : Solution) (order : Order) (solved : IsSolved
         decided.under n exceeded.var exceeded.element exceeded.bound (λ e lead. under exceeded.var exceeded.element e exceeded.bound ((leads e exceeded.var).1 lead)) exceeded
 
     -- the bound is exceeded exactly where an element over it is found
-    pub found_exceeds : (n : ℕ) (found : Option ℕ) → MatchOption found (IsUnder sys solution order n) (Exceeds sys solution order n) →
+    pub found_exceeds : (n : ℕ) (found : Option ℕ)
+        → MatchOption found (IsUnder sys solution order n) (Exceeds sys solution order n) →
         IsSome found ↔ IsExceeded sys solution.lattice order n
     found_exceeds n None under = (λ some. absurd cc, λ exceeded. absurd (under_keeps n under exceeded))
     found_exceeds n (Some e) over = (λ some. over_exceeds n e over, λ exceeded. refl)
 
     -- the join of a set is the least element over all that leads to the variable
-    joined : (v r : ℕ) → IsJoinOf order (reached_at solution v) r → IsLeastOver order (λ e. Lead sys solution.lattice e v) r
+    joined : (v r : ℕ) → IsJoinOf order (reached_at solution v) r
+        → IsLeastOver order (λ e. Lead sys solution.lattice e v) r
     joined v r join = record {
       element = join.element;
       upper = λ e lead. let has = (leads e v).1 lead in join.upper e (reached_element v e has) has;
@@ -127,7 +131,8 @@ module _ (sys : System) (solution : Solution) (order : Order) (solved : IsSolved
           at_once = record { copies = is.map; meets = is.meets; below = is.below };
         }
 
-pub found_none : (Under : Type 0) (Over : ℕ → Type 0) (found : Option ℕ) → MatchOption found Under Over → IfNone found Under
+pub found_none : (Under : Type 0) (Over : ℕ → Type 0) (found : Option ℕ) → MatchOption found Under Over
+    → IfNone found Under
 found_none Under Over None under = under
 found_none Under Over (Some e) over = tt
 

@@ -3,13 +3,11 @@ use Rattle.std.proofs.Common.{◌≡◌, ◌≢◌, ℕ, ◌+◌, ◌<◌, ◌�
 use Rattle.std.proofs.lemmas.Bool.{cases_eq}
 use Rattle.flow_graph.specs.System.{System, AllBelow}
 use Rattle.flow_graph.specs.declared.phase.Phase.{Phase}
-use Rattle.lattice_solver.specs.PhaseSets.{PhaseSets}
-use Rattle.lattice_solver.specs.Phases.{set_of, size_of, room_of, IsRaised, StartsAnew}
-use Rattle.lattice_solver.specs.Waiting.{Waiters, waits, IsTaken}
-use Rattle.lattice_solver.specs.Working.{Held, Gains, IsTakenUp, had_of}
+use Rattle.lattice_solver.specs.Phases.{set_of, size_of, room_of}
+use Rattle.lattice_solver.specs.Waiting.{waits}
+use Rattle.lattice_solver.specs.Working.{Held, Gains}
 use Rattle.lattice_solver.specs.Stable.{AreOfSystem}
 use Rattle.lattice_solver.specs.declared.turns.Flows.{Flows}
-use Rattle.lattice_solver.specs.declared.work.Taken.{Taken}
 use Rattle.lattice_solver.proofs.Carried.{raised_keeps}
 
 pub gains_same : (held : Held) → Gains held held
@@ -30,7 +28,8 @@ not_waiting : {b : Bool} → b ≡ true → b ≡ false → ⊥
 not_waiting is not = let both : true ≡ false = sym is ∙ not in cc
 
 -- a set was raised, and its variable waits
-pub gained : (old new : Held) (phase : Phase) (at elems : ℕ) → room_of new.sets < room_of old.sets → size_of new.sets ≡ size_of old.sets →
+pub gained : (old new : Held) (phase : Phase) (at elems : ℕ) → room_of new.sets < room_of old.sets
+    → size_of new.sets ≡ size_of old.sets →
     set_of new.sets phase at ≡ bit_or (set_of old.sets phase at) elems → ((p : Phase) (v : ℕ) → (p ≡ phase → v ≢ at) → set_of new.sets p v ≡ set_of old.sets p v) →
     waits new.waiting at ≡ true → ((v : ℕ) → v ≢ at → waits new.waiting v ≡ waits old.waiting v) → new.waiting.count ≤ old.waiting.count + 1 → Gains old new
 gained old new phase at elems less size here others is_waiting wait count = record {
@@ -41,19 +40,6 @@ gained old new phase at elems less size here others is_waiting wait count = reco
     | inl is ↦ absurd (not_waiting is_waiting (subst (λ w. waits new.waiting w ≡ false) is quiet))
     | inr ne ↦ (sym (wait v ne) ∙ quiet, λ p. others p v (λ q. ne))
   ];
-}
-
--- a variable that waited was taken, and its sets were raised
-pub taken_up : (sys : System) (sets new : PhaseSets) (waiting left : Waiters) (taken : Taken) → IsTaken waiting left taken.at → IsRaised sets new taken.at →
-    StartsAnew sys new taken.at → ((p : Phase) → had_of taken p ≡ set_of new p taken.at) →
-    IsTakenUp sys (record { sets = sets; waiting = waiting }) (record { sets = new; waiting = left }) taken
-taken_up sys sets new waiting left taken is raised anew had = record {
-  size = raised.size;
-  left = omega (arith, raised.room, is.count);
-  kept = raised.kept;
-  others = λ v ne quiet. (sym (is.others v ne) ∙ quiet, λ p. raised.others p v ne);
-  had = had;
-  anew = anew;
 }
 
 pub below_same : (sys : System) (old new : ℕ) → new ≡ old → AllBelow sys old → AllBelow sys new

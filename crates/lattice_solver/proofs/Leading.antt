@@ -9,7 +9,8 @@ use Rattle.lattice_solver.specs.PhaseSets.{PhaseSets}
 use Rattle.lattice_solver.specs.Phases.{set_of, HasIn, LeadsIn}
 use Rattle.lattice_solver.proofs.Bits.{in_union, from_left, from_right}
 
-pub union_leads : (sys : System) (lattice : ℕ) (sets : PhaseSets) → ((p : Phase) (v e : ℕ) → HasIn sets p v e ↔ LeadsIn sys lattice p e v) → (v e : ℕ) →
+pub union_leads : (sys : System) (lattice : ℕ) (sets : PhaseSets)
+    → ((p : Phase) (v e : ℕ) → HasIn sets p v e ↔ LeadsIn sys lattice p e v) → (v e : ℕ) →
     (bit_at (bit_or (set_of sets First v) (set_of sets Second v)) e ≡ 1) ↔ Lead sys lattice e v
 union_leads sys lattice sets exact v e = (
   λ has. elim (in_union (set_of sets First v) (set_of sets Second v) e has) [

@@ -8,14 +8,16 @@ marked_most (true ∷ marks) = let rest = marked_most marks in omega (arith, res
 marked_most (false ∷ marks) = let rest = marked_most marks in omega (arith, rest)
 
 -- where a mark is not set there is room for one more
-pub marked_less : (marks : List Bool) (i : ℕ) → i < length marks → get_or marks i false ≡ false → marked marks < length marks
+pub marked_less : (marks : List Bool) (i : ℕ) → i < length marks → get_or marks i false ≡ false
+    → marked marks < length marks
 marked_less [] i within is = absurd (omega (arith, within))
 marked_less (true ∷ marks) zero within is = absurd cc
 marked_less (false ∷ marks) zero within is = let rest = marked_most marks in omega (arith, rest)
 marked_less (true ∷ marks) (suc i) within is = let rest = marked_less marks i (omega (arith, within)) is in omega (arith, rest)
 marked_less (false ∷ marks) (suc i) within is = let rest = marked_less marks i (omega (arith, within)) is in omega (arith, rest)
 
-pub marked_set : (marks : List Bool) (i : ℕ) → i < length marks → get_or marks i false ≡ false → marked (set marks i true) ≡ marked marks + 1
+pub marked_set : (marks : List Bool) (i : ℕ) → i < length marks → get_or marks i false ≡ false
+    → marked (set marks i true) ≡ marked marks + 1
 marked_set [] i within is = absurd (omega (arith, within))
 marked_set (true ∷ marks) zero within is = absurd cc
 marked_set (false ∷ marks) zero within is = refl

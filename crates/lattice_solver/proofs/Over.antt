@@ -19,11 +19,13 @@ abbrev pub IsOnly : PhaseSets → PhaseSets → ℕ → (Phase → ℕ) → Type
 IsOnly old new at had = (p : Phase) (n e : ℕ) → HasIn new p n e → HasIn old p n e ⊎ ((n ≡ at) × (bit_at (had p) e ≡ 1))
 
 module _ (sys : System) (lattice : ℕ) (rows : List Summary) where
-  pub from_on : (had : Phase → ℕ) (old new : PhaseSets) (s a b m : ℕ) → ((p : Phase) (v e : ℕ) → HasIn old p v e → HasIn new p v e) → IsPassedFrom sys lattice rows had old s a b m →
+  pub from_on : (had : Phase → ℕ) (old new : PhaseSets) (s a b m : ℕ)
+      → ((p : Phase) (v e : ℕ) → HasIn old p v e → HasIn new p v e) → IsPassedFrom sys lattice rows had old s a b m →
       IsPassedFrom sys lattice rows had new s a b m
   from_on had old new s a b m keeps passed v st leads one p e has = keeps p v e (passed v st leads one p e has)
 
-  pub over_on : (passed old new : PhaseSets) → ((p : Phase) (v e : ℕ) → HasIn old p v e → HasIn new p v e) → IsOver sys lattice rows passed old → IsOver sys lattice rows passed new
+  pub over_on : (passed old new : PhaseSets) → ((p : Phase) (v e : ℕ) → HasIn old p v e → HasIn new p v e)
+      → IsOver sys lattice rows passed old → IsOver sys lattice rows passed new
   over_on passed old new keeps o = record {
     room = o.room;
     groups = λ n s u a m has b v st leads one p e h. keeps p v e (o.groups n s u a m has b v st leads one p e h);
@@ -31,7 +33,8 @@ module _ (sys : System) (lattice : ℕ) (rows : List Summary) where
   }
 
   -- nothing was carried
-  pub empty_over : (passed sets : PhaseSets) → length sys.constraints ≤ size_of passed → ((p : Phase) (n : ℕ) → set_of passed p n ≡ 0) → IsOver sys lattice rows passed sets
+  pub empty_over : (passed sets : PhaseSets) → length sys.constraints ≤ size_of passed
+      → ((p : Phase) (n : ℕ) → set_of passed p n ≡ 0) → IsOver sys lattice rows passed sets
   empty_over passed sets room empty =
       let nothing = λ (p : Phase) (n e : ℕ) (has : HasIn passed p n e). none_in e (subst (λ set. bit_at set e ≡ 1) (empty p n) has) in
       record {
@@ -42,12 +45,14 @@ module _ (sys : System) (lattice : ℕ) (rows : List Summary) where
 
   module _ (passed sets : PhaseSets) (over : IsOver sys lattice rows passed sets) (had : Phase → ℕ) (n : ℕ) (covered : (p : Phase) → Includes (had p) passed p n) where
     -- what a constraint has was carried on
-    pub enter_covered : (s a : ℕ) → Crosses sys (record { way = In; site = s; at = a }) n → (m : ℕ) → IsPassed sys lattice rows had sets s a m
+    pub enter_covered : (s a : ℕ) → Crosses sys (record { way = In; site = s; at = a }) n → (m : ℕ)
+        → IsPassed sys lattice rows had sets s a m
     enter_covered s a c m b v st leads one p e has =
         let link = has_enter s a c.constraint.link c.has in
         over.groups n s link.0 a m (record { constraint = c.constraint; there = c.there; link_is = link.1 }) b v st leads one p e (covered p e has)
 
-    pub leave_covered : (s b : ℕ) → Crosses sys (record { way = Out; site = s; at = b }) n → (m v : ℕ) → Stands sys lattice m (Leave s b v) → (p : Phase) → Includes (had p) sets p v
+    pub leave_covered : (s b : ℕ) → Crosses sys (record { way = Out; site = s; at = b }) n → (m v : ℕ)
+        → Stands sys lattice m (Leave s b v) → (p : Phase) → Includes (had p) sets p v
     leave_covered s b c m v st p e has =
         let link = has_leave s b c.constraint.link c.has in
         over.leaves n s b link.0 m v (record { constraint = c.constraint; there = c.there; link_is = link.1 }) st p e (covered p e has)
@@ -57,7 +62,8 @@ module _ (sys : System) (lattice : ℕ) (rows : List Summary) where
     room_on = subst (λ k. length sys.constraints ≤ k) (sym size) over.room
 
     -- what was carried round the groups of an Enter was added to it
-    pub enter_over : (s a : ℕ) → Crosses sys (record { way = In; site = s; at = a }) at → ((m : ℕ) → IsPassed sys lattice rows had sets s a m) → IsOver sys lattice rows new sets
+    pub enter_over : (s a : ℕ) → Crosses sys (record { way = In; site = s; at = a }) at
+        → ((m : ℕ) → IsPassed sys lattice rows had sets s a m) → IsOver sys lattice rows new sets
     enter_over s a c done = record {
       room = room_on;
       groups = λ n t u b m has d v st leads one p e h. elim (only p n e h) [
@@ -73,7 +79,8 @@ module _ (sys : System) (lattice : ℕ) (rows : List Summary) where
     }
 
     -- what was carried over the Leaves of a site from a variable was added to one of them
-    pub leave_over : (s b : ℕ) → Crosses sys (record { way = Out; site = s; at = b }) at → ((m v : ℕ) → Stands sys lattice m (Leave s b v) → (p : Phase) → Includes (had p) sets p v) →
+    pub leave_over : (s b : ℕ) → Crosses sys (record { way = Out; site = s; at = b }) at
+        → ((m v : ℕ) → Stands sys lattice m (Leave s b v) → (p : Phase) → Includes (had p) sets p v) →
         IsOver sys lattice rows new sets
     leave_over s b c done = record {
       room = room_on;

@@ -12,7 +12,8 @@ test_of A (inl a) = (true, (λ e. a, λ a. refl))
 test_of A (inr not) = (false, (λ e. absurd cc, λ a. absurd (not a)))
 
 -- a pair of a longer list stands at its head or in the rest
-pair_cases : (row : Summary) (rows : List Summary) (u v : ℕ) → HasPair (row ∷ rows) u v → ((row.from ≡ u) × (row.to ≡ v)) ⊎ HasPair rows u v
+pair_cases : (row : Summary) (rows : List Summary) (u v : ℕ) → HasPair (row ∷ rows) u v
+    → ((row.from ≡ u) × (row.to ≡ v)) ⊎ HasPair rows u v
 pair_cases row rows u v (why, (zero, within, is)) = inl (ap (λ (r : Summary). r.from) is, ap (λ (r : Summary). r.to) is)
 pair_cases row rows u v (why, (suc k, within, is)) = inr (why, (k, omega (arith, within), is))
 

@@ -18,7 +18,8 @@ slice_set_same places i at within =
     let inside : i < length (set places i at) = subst (λ n. i < n) (sym (length-set places i at)) within in
     slice_get-get_or (set places i at) i 0 inside ∙ subst (λ x. Some (get_or (set places i at) i 0) ≡ Some x) (get_or-set_same places i at 0 within) refl
 
-slice_set_other : (places : List ℕ) (i j at v : ℕ) → j ≢ i → slice_get places j ≡ Some v → slice_get (set places i at) j ≡ Some v
+slice_set_other : (places : List ℕ) (i j at v : ℕ) → j ≢ i → slice_get places j ≡ Some v
+    → slice_get (set places i at) j ≡ Some v
 slice_set_other places i j at v ne there =
     let within = slice_get_within places j v there in
     let inside : j < length (set places i at) = subst (λ n. j < n) (sym (length-set places i at)) within in
@@ -71,12 +72,14 @@ module _ (places : List ℕ) (count at : ℕ) (marks : List Bool) (some : 0 < co
       ]
 
 -- a variable that is not marked finds a place
-pub free_place : (places : List ℕ) (count at : ℕ) (marks : List Bool) (mark : Bool) → length places ≡ length marks → count ≤ marked marks → at < length marks →
+pub free_place : (places : List ℕ) (count at : ℕ) (marks : List Bool) (mark : Bool) → length places ≡ length marks
+    → count ≤ marked marks → at < length marks →
     mark ≡ get_or marks at mark → mark ≡ false → count < length places
 free_place places count at marks mark same height within is unset =
     let less = marked_less marks at within (sym (get_or_read marks at mark within is false) ∙ unset) in
     omega (arith, less, height, same)
 
 -- the top of the stack
-pub top_there : (places : List ℕ) (count top : ℕ) → count - 1 < length places → top ≡ get_or places (count - 1) top → slice_get places (count - 1) ≡ Some top
+pub top_there : (places : List ℕ) (count top : ℕ) → count - 1 < length places → top ≡ get_or places (count - 1) top
+    → slice_get places (count - 1) ≡ Some top
 top_there places count top within is = slice_get_read places (length places) (count - 1) top refl within is

@@ -10,13 +10,16 @@ use Rattle.flow_graph.specs.declared.phase.Phase.TheVariants.{First, Second}
 use Rattle.lattice_solver.specs.PhaseSets.{PhaseSets}
 use Rattle.lattice_solver.specs.Sets.{room}
 
+-- the set of a variable in a phase
 abbrev pub set_of : PhaseSets → Phase → ℕ → ℕ
 set_of sets First v = slice_index sets.first v
 set_of sets Second v = slice_index sets.second v
 
+-- for how many variables there are sets
 abbrev pub size_of : PhaseSets → ℕ
 size_of sets = length sets.first
 
+-- a variable has an element in a phase
 abbrev pub HasIn : PhaseSets → Phase → ℕ → ℕ → Type 0
 HasIn sets p v e = bit_at (set_of sets p v) e ≡ 1
 
@@ -41,6 +44,7 @@ Includes set sets p v = (e : ℕ) → bit_at set e ≡ 1 → HasIn sets p v e
 abbrev pub StartsAnew : System → PhaseSets → ℕ → Type 0
 StartsAnew sys sets v = owner_of sys v ≡ Nobody → Includes (set_of sets Second v) sets First v
 
+-- how much the sets of both phases may still grow
 abbrev pub room_of : PhaseSets → ℕ
 room_of sets = room sets.first + room sets.second
 

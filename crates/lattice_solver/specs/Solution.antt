@@ -1,4 +1,5 @@
--- What a solver holds: its lattice, the sets of the constants that reach each variable in each phase, where the constraints
+-- What a solver holds: its lattice, the sets of the constants that reach each variable in each phase, where the
+-- constraints
 -- begin and end, the calls and returns by their inner ends, and the sets that were carried round groups.
 use Rattle.std.specs.Prelude.{◌≡◌, ◌<◌, ◌≤◌, ℕ, List, length, true, false, bit_or, ◌↔◌}
 use Rattle.std.specs.Int.{bit_at}
@@ -16,6 +17,7 @@ use Rattle.flow_graph.specs.declared.phase.Phase.TheVariants.{First, Second}
 use Rattle.lattice_solver.specs.PhaseSets.{PhaseSets}
 use Rattle.lattice_solver.specs.Phases.{set_of, size_of, HasIn, LeadsIn}
 
+-- what a solver holds of a lattice
 pub record Solution : Type 0 where
   pub lattice : ℕ
   pub phases : PhaseSets
@@ -27,17 +29,20 @@ pub record Solution : Type 0 where
 abbrev pub reached_at : Solution → ℕ → ℕ
 reached_at solution v = bit_or (set_of solution.phases First v) (set_of solution.phases Second v)
 
+-- an element is in the set of a variable in either phase
 abbrev pub HasElement : Solution → ℕ → ℕ → Type 0
 HasElement solution v e = bit_at (reached_at solution v) e ≡ 1
 
--- it fits a system: it has sets for each variable of a constraint and for each constraint, and the indices of the constraints
+-- it fits a system: it has sets for each variable of a constraint and for each constraint, and the indices of the
+-- constraints
 pub record Fits (sys : System) (solution : Solution) : Type 0 where
   pub below : AllBelow sys (size_of solution.phases)
   pub indexed : IsIndexOf sys solution.index
   pub crossings : AreCrossings sys solution.crossings
   pub room : length sys.constraints ≤ size_of solution.passed
 
--- Its sets have exactly what leads to each variable in each phase, by the summaries of the system, and its index is that of
+-- Its sets have exactly what leads to each variable in each phase, by the summaries of the system, and its index is
+-- that of
 -- the constraints.
 pub record IsSolved (sys : System) (solution : Solution) : Type 0 where
   pub exact : (p : Phase) (v e : ℕ) → HasIn solution.phases p v e ↔ LeadsIn sys solution.lattice p e v
@@ -70,13 +75,15 @@ pub record IsFirstExceeded (sys : System) (lattice : ℕ) (order : Order) (n : �
   pub exceeded : IsExceeded sys lattice order n
   pub before : (m : ℕ) → m < n → IsExceeded sys lattice order m → ⊥
 
--- One assignment meets the unfolding at every depth, and is at or below the printed elements on all copies of all variables.
+-- One assignment meets the unfolding at every depth, and is at or below the printed elements on all copies of all
+-- variables.
 pub record IsMetAtOnce (sys : System) (solution : Solution) (order : Order) : Type 0 where
   pub copies : Assignment
   pub meets : (depth : ℕ) → Meets sys solution.lattice order depth copies
   pub below : (v r : ℕ) (sites : List ℕ) → Printed sys solution.lattice order v r → leq order (copies v sites) r ≡ true
 
--- No bound is exceeded: the system is accepted in the lattice, the least element over the set of a variable is the one that
+-- No bound is exceeded: the system is accepted in the lattice, the least element over the set of a variable is the one
+-- that
 -- is printed, and all of them can be kept at once.
 pub record IsKept (sys : System) (solution : Solution) (order : Order) : Type 0 where
   pub accepted : IsAcceptedIn sys solution.lattice order

@@ -23,7 +23,8 @@ pub record AreOfSystem (flows : Flows) (vars : ℕ) : Type 0 where
   pub summarised : Summarises flows.graph.now flows.lattice flows.summaries.now
 
 module _ (sys : System) (lattice : ℕ) (rows : List Summary) where
-  -- the group of an Enter of a site to a variable and of a constraint that leaves from another brings sets from its beginning
+  -- the group of an Enter of a site to a variable and of a constraint that leaves from another brings sets from its
+  -- beginning
   -- to its end
   abbrev pub IsPassedFrom : (Phase → ℕ) → PhaseSets → ℕ → ℕ → ℕ → ℕ → Type 0
   IsPassedFrom had sets site inner b leave = (v : ℕ) → Stands sys lattice leave (Leave site b v) → Leads rows inner b → AreOfOne sys inner b →
@@ -33,12 +34,14 @@ module _ (sys : System) (lattice : ℕ) (rows : List Summary) where
   abbrev pub IsPassed : (Phase → ℕ) → PhaseSets → ℕ → ℕ → ℕ → Type 0
   IsPassed had sets site inner leave = (b : ℕ) → IsPassedFrom had sets site inner b leave
 
-  -- What an Enter has is at the end of each group of its site that begins at its variable, and what a Leave has at the end
+  -- What an Enter has is at the end of each group of its site that begins at its variable, and what a Leave has at the
+  -- end
   -- of each Leave of its site from its variable.
   pub record IsOver (passed sets : PhaseSets) : Type 0 where
     pub room : length sys.constraints ≤ size_of passed
     pub groups : (n s u a m : ℕ) → Has sys n (Enter s u a) → IsPassed (λ p. set_of passed p n) sets s a m
-    pub leaves : (n s b w m v : ℕ) → Has sys n (Leave s b w) → Stands sys lattice m (Leave s b v) → (p : Phase) → Includes (set_of passed p n) sets p v
+    pub leaves : (n s b w m v : ℕ) → Has sys n (Leave s b w) → Stands sys lattice m (Leave s b v) → (p : Phase)
+        → Includes (set_of passed p n) sets p v
 
   -- A constraint that begins at a variable brings the variable's sets to its end, and to the ends of the groups that it
   -- begins, in the phases that it leads to.

@@ -14,4 +14,5 @@ pub record IsStack (w : Inside) : Type 0 where
   pub few : length w.marks.items < 2 ^ 32
   pub height : w.count ≤ marked w.marks.items
   pub low : (i v : ℕ) → i < w.count → slice_get w.places.items i ≡ Some v → v < length w.marks.items
-  pub held : (v : ℕ) → slice_index_or w.marks.items v false ≡ true → (i : ℕ) × (i < w.count) × (slice_get w.places.items i ≡ Some v)
+  pub held : (v : ℕ) → slice_index_or w.marks.items v false ≡ true
+      → (i : ℕ) × (i < w.count) × (slice_get w.places.items i ≡ Some v)

@@ -6,6 +6,7 @@ pub record Waiters : Type 0 where
   pub marks : List Bool
   pub count : ℕ
 
+-- whether a variable waits
 abbrev pub waits : Waiters → ℕ → Bool
 waits waiters v = slice_index_or waiters.marks v false
 

@@ -8,6 +8,7 @@ use Rattle.lattice_solver.specs.Phases.{set_of, size_of, HasIn, StartsAnew, room
 use Rattle.lattice_solver.specs.Waiting.{Waiters, waits}
 use Rattle.lattice_solver.specs.declared.work.Taken.{Taken}
 
+-- the sets of variables, and which of these wait
 pub record Held : Type 0 where
   pub sets : PhaseSets
   pub waiting : Waiters
@@ -25,7 +26,8 @@ pub record Gains (old new : Held) : Type 0 where
   pub size : size_of new.sets ≡ size_of old.sets
   pub left : left_in new ≤ left_in old
   pub kept : (p : Phase) (v e : ℕ) → HasIn old.sets p v e → HasIn new.sets p v e
-  pub still : (v : ℕ) → waits new.waiting v ≡ false → (waits old.waiting v ≡ false) × ((p : Phase) → set_of new.sets p v ≡ set_of old.sets p v)
+  pub still : (v : ℕ) → waits new.waiting v ≡ false
+      → (waits old.waiting v ≡ false) × ((p : Phase) → set_of new.sets p v ≡ set_of old.sets p v)
 
 -- the set that a variable had in a phase when it was taken
 abbrev pub had_of : Taken → Phase → ℕ
@@ -37,6 +39,7 @@ pub record IsTakenUp (sys : System) (old new : Held) (taken : Taken) : Type 0 wh
   pub size : size_of new.sets ≡ size_of old.sets
   pub left : left_in new < left_in old
   pub kept : (p : Phase) (v e : ℕ) → HasIn old.sets p v e → HasIn new.sets p v e
-  pub others : (v : ℕ) → v ≢ taken.at → waits new.waiting v ≡ false → (waits old.waiting v ≡ false) × ((p : Phase) → set_of new.sets p v ≡ set_of old.sets p v)
+  pub others : (v : ℕ) → v ≢ taken.at → waits new.waiting v ≡ false
+      → (waits old.waiting v ≡ false) × ((p : Phase) → set_of new.sets p v ≡ set_of old.sets p v)
   pub had : (p : Phase) → had_of taken p ≡ set_of new.sets p taken.at
   pub anew : StartsAnew sys new.sets taken.at

@@ -42,10 +42,12 @@ module _ {m l n o : ℕ} where
   both_so p h = record { both = (let a = p.both in omega (arith, a, h)) }
 
   -- the first tape is that of the front of the text, or the second is
-  pub pair : {xs us : List Op} {t u k : List Lexeme} → Fits m l xs t u → Fits n o us u k → FitBoth (m + n) (l + o) xs us t k
+  pub pair : {xs us : List Op} {t u k : List Lexeme} → Fits m l xs t u → Fits n o us u k
+      → FitBoth (m + n) (l + o) xs us t k
   pair p q = record { both = (let a = p.most in let b = q.most in omega (arith, a, b)) }
 
-  pub crossed : {xs us : List Op} {t u k : List Lexeme} → Fits m l us t u → Fits n o xs u k → FitBoth (m + n) (l + o) xs us t k
+  pub crossed : {xs us : List Op} {t u k : List Lexeme} → Fits m l us t u → Fits n o xs u k
+      → FitBoth (m + n) (l + o) xs us t k
   crossed p q = record { both = (let a = p.most in let b = q.most in omega (arith, a, b)) }
 
   pub side_by_side : {xs us ys vs : List Op} {t u k : List Lexeme} → FitBoth m l xs us t u → FitBoth n o ys vs u k →
@@ -94,7 +96,8 @@ module _ {m l n o : ℕ} where
   }
 
   -- the same with an op between them
-  pub join_parted : {xs ys vs op : List Op} {t u k : List Lexeme} → Fits m l xs t u → FitBoth n o ys vs u k → Fits 1 0 op k k →
+  pub join_parted : {xs ys vs op : List Op} {t u k : List Lexeme} → Fits m l xs t u → FitBoth n o ys vs u k
+      → Fits 1 0 op k k →
       Fits (1 + (m + n)) (l + o) (xs ++ ys ++ op ++ vs) t k
   join_parted {xs} {ys} {vs} {op} p q r = record {
     most = (let e = length-append (xs ++ ys ++ op) vs in let f = length-append (xs ++ ys) op in
@@ -117,7 +120,8 @@ module _ {m l : ℕ} where
   pub text_only : {xs : List Op} {t k : List Lexeme} → Fits m l xs t k → Fits m l [] t k
   text_only p = record { most = (let a = p.most in omega (arith, a)) }
 
-  pub both_skip : {xs us : List Op} {it : Lexeme} {t k : List Lexeme} → FitBoth m l xs us t k → FitBoth m (2 + l) xs us (it ∷ t) k
+  pub both_skip : {xs us : List Op} {it : Lexeme} {t k : List Lexeme} → FitBoth m l xs us t k
+      → FitBoth m (2 + l) xs us (it ∷ t) k
   both_skip p = record { both = (let a = p.both in omega (arith, a)) }
 
   pub first_of : {xs us : List Op} {t k : List Lexeme} → FitBoth m l xs us t k → Fits m l xs t k
@@ -133,7 +137,8 @@ module _ {m l : ℕ} where
   one_by_one {xs} {us} p = record { most = (let e = length-append xs us in let a = p.both in omega (arith, e, a)) }
 
   -- the second tape with an op before it and one behind it
-  pub listed : {xs us begin end : List Op} {t k : List Lexeme} → Fits 1 0 begin k k → FitBoth m l xs us t k → Fits 1 0 end k k →
+  pub listed : {xs us begin end : List Op} {t k : List Lexeme} → Fits 1 0 begin k k → FitBoth m l xs us t k
+      → Fits 1 0 end k k →
       FitBoth (2 + m) l xs (begin ++ us ++ end) t k
   listed {us = us} {begin = begin} {end = end} p q r = record {
     both = (let e = length-append (begin ++ us) end in let f = length-append begin us in

@@ -67,14 +67,16 @@ module _ {m l : ℕ} where
   pub scope_fits : {tape : List Op} {t k : List Lexeme} → Fits m l tape t k → Fits (2 + m) l (in_scope tape) t k
   scope_fits p = so (join (join one p) one) (omega arith)
 
-  pub specs_fit : {words us : List Op} {t k : List Lexeme} → FitBoth m l words us t k → Fits (1 + m) l (specs_with words) t k
+  pub specs_fit : {words us : List Op} {t k : List Lexeme} → FitBoth m l words us t k
+      → Fits (1 + m) l (specs_with words) t k
   specs_fit p = so (join (first_of p) one) (omega arith)
 
   pub params_fit : (own none : Bool) {tape : List Op} {t k : List Lexeme} → Fits m l tape t k →
       Fits (2 + m) l (params_with own none tape) t k
   params_fit own none p = so (join (join one (unless none p)) one) (omega arith)
 
-pub type_name_fits : {words us d : List Op} {t u k : List Lexeme} (first : ℕ) → FitBoth 0 0 words us t u → Fits 0 0 d u k →
+pub type_name_fits : {words us d : List Op} {t u k : List Lexeme} (first : ℕ) → FitBoth 0 0 words us t u
+    → Fits 0 0 d u k →
     Fits 2 0 (type_name_with words d first) t k
 type_name_fits first p q = join (join (specs_fit p) q) one
 
@@ -108,7 +110,8 @@ module _ {m l : ℕ} where
   names_skip [] h = h
   names_skip (name ∷ names) h = so (skip (other_names_skip names h)) (omega arith)
 
-  pub words_skip : (words : List Word) {xs : List Op} {t k : List Lexeme} → Fits m l xs t k → Fits m l xs (words_text words t) k
+  pub words_skip : (words : List Word) {xs : List Op} {t k : List Lexeme} → Fits m l xs t k
+      → Fits m l xs (words_text words t) k
   words_skip [] h = h
   words_skip (word ∷ words) h = so (skip (words_skip words h)) (omega arith)
 
@@ -117,12 +120,14 @@ module _ {m l : ℕ} where
   extensions_skip [] h = h
   extensions_skip (token ∷ tokens) h = so (skip (extensions_skip tokens h)) (omega arith)
 
-  pub texts_skip : (tokens : List ℕ) {xs : List Op} {t k : List Lexeme} → Fits m l xs t k → Fits m l xs (texts_text tokens t) k
+  pub texts_skip : (tokens : List ℕ) {xs : List Op} {t k : List Lexeme} → Fits m l xs t k
+      → Fits m l xs (texts_text tokens t) k
   texts_skip [] h = h
   texts_skip (token ∷ tokens) h = so (skip (texts_skip tokens h)) (omega arith)
 
   module _ (all : List Lexeme) where
-    pub group_skip : (group : Group) {xs : List Op} {t k : List Lexeme} → Fits m l xs t k → Fits m l xs (group_text all group t) k
+    pub group_skip : (group : Group) {xs : List Op} {t k : List Lexeme} → Fits m l xs t k
+        → Fits m l xs (group_text all group t) k
     group_skip group h = skips (tokens_between all group.first group.last) h
 
     pub attrs_skip : (attrs : List Attr) {xs : List Op} {t k : List Lexeme} → Fits m l xs t k →
@@ -135,12 +140,14 @@ module _ {m l : ℕ} where
     label_skip None h = h
     label_skip (Some label) h = so (skip (group_skip label.group h)) (omega arith)
 
-    pub assert_skip : (it : Assert) {xs : List Op} {t k : List Lexeme} → Fits m l xs t k → Fits m l xs (assert_text all it t) k
+    pub assert_skip : (it : Assert) {xs : List Op} {t k : List Lexeme} → Fits m l xs t k
+        → Fits m l xs (assert_text all it t) k
     assert_skip it h = so (skip (group_skip it.group (so (skip h) (omega arith)))) (omega arith)
 
 -- identifiers of a list: each is a token
 
-other_names_fit : (names : List Identifier) {k : List Lexeme} → Fits 0 0 (identifiers_tape names) (other_names_text names k) k
+other_names_fit : (names : List Identifier) {k : List Lexeme}
+    → Fits 0 0 (identifiers_tape names) (other_names_text names k) k
 other_names_fit [] = nothing
 other_names_fit (name ∷ names) = so (skip (skip (join one (other_names_fit names)))) (lit≤ tt)
 
@@ -162,7 +169,8 @@ module _ (all : List Lexeme) where
   qual_fits (quals.Element token) h = element_fits (tokens_between all token token) h
   qual_fits (quals.Index token) h = so (skip one) (lit≤ tt)
 
-  quals_fit : (qs : List Qual) → All (IsWordQual all) qs → {k : List Lexeme} → Fits 0 0 (quals_tape qs) (quals_text all qs k) k
+  quals_fit : (qs : List Qual) → All (IsWordQual all) qs → {k : List Lexeme}
+      → Fits 0 0 (quals_tape qs) (quals_text all qs k) k
   quals_fit [] h = nothing
   quals_fit (q ∷ qs) h =
       so (join (qual_fits q (All-head (IsWordQual all) q qs h).0) (quals_fit qs (All-tail (IsWordQual all) q qs h))) (lit≤ tt)

@@ -1,4 +1,5 @@
--- A tree's tape has at most two ops for each token of the tree's text. That of an expression or of a word has one fewer.
+-- A tree's tape has at most two ops for each token of the tree's text. That of an expression or of a word has one
+-- fewer.
 use Rattle.std.proofs.Common.{◌≢◌, ℕ, All, Bool, true, false, List, [], ◌∷◌, ◌++◌, Option, None, Some, refl, lit≤, length, arith}
 use Rattle.std.proofs.lemmas.List.Elements.{All-head, All-tail}
 use Rattle.c_words.specs.declared.kinds.Punct.{Punct}
@@ -93,7 +94,8 @@ module _ (all : List Lexeme) where
         so (skip (skip (ends (join (join (join (join one (expr_fits e h.0 false false)) one) (assocs_fit xs h.3)) one))))
         (lit≤ tt)
 
-    assocs_fit : (xs : Assocs) → AreAssocs all xs → {k : List Lexeme} → Fits 0 0 (assocs_tape xs) (assocs_text all xs k) k
+    assocs_fit : (xs : Assocs) → AreAssocs all xs → {k : List Lexeme}
+        → Fits 0 0 (assocs_tape xs) (assocs_text all xs k) k
     assocs_fit no_assocs h = nothing
     assocs_fit (more_assocs x xs) h = so (skip (join (assoc_fits x h.0) (assocs_fit xs h.1))) (lit≤ tt)
 
@@ -104,7 +106,8 @@ module _ (all : List Lexeme) where
     assoc_fits (default_assoc keyword colon e) h = so (skip (skip (join one (expr_fits e h.0 false false)))) (lit≤ tt)
 
     -- behind its first operand, before its second
-    operator_fits : (op : Operator) → IsMiddle all op → (token first last : ℕ) → {xs ys : List Op} {t u k : List Lexeme} →
+    operator_fits : (op : Operator) → IsMiddle all op → (token first last : ℕ)
+        → {xs ys : List Op} {t u k : List Lexeme} →
         Fits 0 1 xs t (operator_text all op token u) → Fits 0 1 ys u k →
         Fits 0 1 (xs ++ middle_tape op ++ ys ++ operator_tape op token first last) t k
     operator_fits comma h token first last p q = so (join (join (join p (skip nothing)) q) one) (lit≤ tt)
@@ -131,7 +134,8 @@ module _ (all : List Lexeme) where
     other_exprs_fit (more_exprs e es) h =
         both_so (both_skip (side_by_side (pair (expr_fits e h.0 false false) one) (other_exprs_fit es h.2))) (lit≤ tt)
 
-    dropped_fits : (e : SomeExpr) → IsSomeExpr all e → {k : List Lexeme} → Fits 0 0 (dropped_tape e) (some_expr_text all e k) k
+    dropped_fits : (e : SomeExpr) → IsSomeExpr all e → {k : List Lexeme}
+        → Fits 0 0 (dropped_tape e) (some_expr_text all e k) k
     dropped_fits no_expr h = nothing
     dropped_fits (some_expr e) h = so (join (expr_fits e h false false) one) (lit≤ tt)
 
@@ -249,7 +253,8 @@ module _ (all : List Lexeme) where
     enum_fits (enum_of keyword attrs (Some tag) body) h =
         so (skip (attrs_skip all attrs (skip (enum_body_fits body h.2 keyword (Some tag))))) (lit≤ tt)
 
-    enum_body_fits : (body : SomeEnumBody) → IsEnumBody all body → (keyword : ℕ) (tag : Option Identifier) → {k : List Lexeme} →
+    enum_body_fits : (body : SomeEnumBody) → IsEnumBody all body → (keyword : ℕ) (tag : Option Identifier)
+        → {k : List Lexeme} →
         Fits 1 0 (enum_body_tape keyword tag body) (some_enum_body_text all body k) k
     enum_body_fits no_enum_body h keyword tag = tag_fits false tags.Enum tag
     enum_body_fits (some_enum_body opening es last closing) h keyword tag =
@@ -449,7 +454,8 @@ module _ (all : List Lexeme) where
     block_item_fits (block_stmt s) h kept = stmt_fits s h kept
     block_item_fits (block_labels keyword names semi) h kept = so (skip (names_skip names (skip nothing))) (lit≤ tt)
 
-    stmt_fits : (s : Stmt) → IsStmt all s → (kept : Bool) → {k : List Lexeme} → Fits 0 0 (stmt_tape kept s) (stmt_text all s k) k
+    stmt_fits : (s : Stmt) → IsStmt all s → (kept : Bool) → {k : List Lexeme}
+        → Fits 0 0 (stmt_tape kept s) (stmt_text all s k) k
     stmt_fits (block opening items closing) h kept = so (skip (ends (scope_fits (block_items_fit items h.0 false)))) (lit≤ tt)
     stmt_fits (expr_stmt e semi) h kept = so (ends (either kept (some_expr_fits e h) (dropped_fits e h))) (lit≤ tt)
     stmt_fits (attr_stmt attrs semi) h kept = attrs_skip all attrs (so (skip nothing) (lit≤ tt))

@@ -8,7 +8,8 @@ use Rattle.match_summary.specs.Chained.{AreChained, IsLink}
 use Rattle.match_summary.proofs.Growth.{push_cases, push_left, push_last}
 
 -- a link below a bound within the list
-link_on : (keys : List ℕ) (last key bound link : ℕ) → bound ≤ length keys → IsLink keys key bound link → IsLink (keys ++ last ∷ []) key bound link
+link_on : (keys : List ℕ) (last key bound link : ℕ) → bound ≤ length keys → IsLink keys key bound link
+    → IsLink (keys ++ last ∷ []) key bound link
 link_on keys last key bound link le is = record {
   within = is.within;
   there = λ n at. push_left keys last key n (is.there n at);
@@ -19,7 +20,8 @@ link_on keys last key bound link le is = record {
 }
 
 -- the newest place of another key
-link_other : (keys : List ℕ) (last key link : ℕ) → (last ≡ key → ⊥) → IsLink keys key (length keys) link → IsLink (keys ++ last ∷ []) key (length keys + 1) link
+link_other : (keys : List ℕ) (last key link : ℕ) → (last ≡ key → ⊥) → IsLink keys key (length keys) link
+    → IsLink (keys ++ last ∷ []) key (length keys + 1) link
 link_other keys last key link other is = record {
   within = let le = is.within in omega (arith, le);
   there = λ n at. push_left keys last key n (is.there n at);
@@ -52,7 +54,8 @@ module _ (keys : List ℕ) (key at : ℕ) (old new : Chains) (are : AreChained k
         subst (λ link. IsLink (keys ++ key ∷ []) k (length keys + 1) link) value (link_other keys key k _ other (are.newest k))
   ])
 
-  before_more : (n k : ℕ) → slice_get (keys ++ key ∷ []) n ≡ Some k → IsLink (keys ++ key ∷ []) k n (get_or new.before.items n 0)
+  before_more : (n k : ℕ) → slice_get (keys ++ key ∷ []) n ≡ Some k
+      → IsLink (keys ++ key ∷ []) k n (get_or new.before.items n 0)
   before_more n k there = elim (push_cases keys key n k there) [
     | inl early ↦
         let lt = early.0 in
@@ -76,7 +79,8 @@ module _ (keys : List ℕ) (key at : ℕ) (old new : Chains) (are : AreChained k
   }
 
 -- a link below a bound within a list that has lost its last place
-link_off : (keys : List ℕ) (last key bound link : ℕ) → bound ≤ length keys → IsLink (keys ++ last ∷ []) key bound link → IsLink keys key bound link
+link_off : (keys : List ℕ) (last key bound link : ℕ) → bound ≤ length keys → IsLink (keys ++ last ∷ []) key bound link
+    → IsLink keys key bound link
 link_off keys last key bound link le is = record {
   within = is.within;
   there = λ n at. elim (push_cases keys last n key (is.there n at)) [
@@ -87,7 +91,8 @@ link_off keys last key bound link le is = record {
 }
 
 -- the newest place of another key than the one that was lost
-link_other_off : (keys : List ℕ) (last key link : ℕ) → (last ≡ key → ⊥) → IsLink (keys ++ last ∷ []) key (length keys + 1) link → IsLink keys key (length keys) link
+link_other_off : (keys : List ℕ) (last key link : ℕ) → (last ≡ key → ⊥)
+    → IsLink (keys ++ last ∷ []) key (length keys + 1) link → IsLink keys key (length keys) link
 link_other_off keys last key link other is = record {
   within = elim (cases_lt (length keys) link) [
     | inl over ↦

@@ -25,7 +25,8 @@ length-codes : (w : ℕ) (rows : List Summary) → length (codes w rows) ≡ len
 length-codes w [] = refl
 length-codes w (row ∷ rows) = ap suc (length-codes w rows)
 
-code_at : (w : ℕ) (rows : List Summary) (n x : ℕ) → slice_get (codes w rows) n ≡ Some x → (row : Summary) × (slice_get rows n ≡ Some row) × (code w row ≡ x)
+code_at : (w : ℕ) (rows : List Summary) (n x : ℕ) → slice_get (codes w rows) n ≡ Some x
+    → (row : Summary) × (slice_get rows n ≡ Some row) × (code w row ≡ x)
 code_at w [] n x is = absurd cc
 code_at w (row ∷ rows) zero x is = (row, refl, cc)
 code_at w (row ∷ rows) (suc n) x is = code_at w rows n x is
@@ -36,7 +37,8 @@ code_below w row a b =
     let next : (row.from + 1) * w ≡ row.from * w + w = grind arith in
     grind (arith, most, next, b)
 
-all_below : (w : ℕ) (rows : List Summary) → ((n : ℕ) (row : Summary) → slice_get rows n ≡ Some row → code w row < w * w) →
+all_below : (w : ℕ) (rows : List Summary)
+    → ((n : ℕ) (row : Summary) → slice_get rows n ≡ Some row → code w row < w * w) →
     (q : ℕ) → list_any (eqb q) (codes w rows) ≡ true → q < w * w
 all_below w [] each q has = absurd cc
 all_below w (row ∷ rows) each q has = elim (cases_Bool (eqb q (code w row))) [
@@ -65,7 +67,8 @@ module _ (sys : System) (lattice : ℕ) (marks : List Bool) (rows : List Summary
   to_known n row is = let one = (good.grounded n row is).inside in known_owner sys row.to one.0 one.2
 
   -- two rows of one pair stand in one place
-  one_place : (n m : ℕ) (p q : Summary) → slice_get rows n ≡ Some p → slice_get rows m ≡ Some q → code (length sys.owners) p ≡ code (length sys.owners) q → n ≡ m
+  one_place : (n m : ℕ) (p q : Summary) → slice_get rows n ≡ Some p → slice_get rows m ≡ Some q
+      → code (length sys.owners) p ≡ code (length sys.owners) q → n ≡ m
   one_place n m p q a b e =
       let from = same_from (length sys.owners) p q (to_known n p a) (to_known m q b) e in
       let to = same_to (length sys.owners) p q (to_known n p a) (to_known m q b) e in

@@ -17,18 +17,21 @@ some_constraint : {x y : Constraint} → Some x ≡ Some y → x ≡ y
 some_constraint e = cc
 
 -- the bucket of a constraint by its place
-bucket_there : (count : ℕ) (cs : List Constraint) (n : ℕ) (c : Constraint) → slice_get cs n ≡ Some c → slice_get (buckets_in count cs) n ≡ Some (bucket_in count c.link)
+bucket_there : (count : ℕ) (cs : List Constraint) (n : ℕ) (c : Constraint) → slice_get cs n ≡ Some c
+    → slice_get (buckets_in count cs) n ≡ Some (bucket_in count c.link)
 bucket_there count [] n c is = absurd cc
 bucket_there count (x ∷ cs) zero c is = let same : x ≡ c = cc in ap (λ (k : Constraint). Some (bucket_in count k.link)) same
 bucket_there count (x ∷ cs) (suc n) c is = bucket_there count cs n c is
 
-pub place_within : (count : ℕ) (cs : List Constraint) (n bucket : ℕ) → slice_get (buckets_in count cs) n ≡ Some bucket → n < length cs
+pub place_within : (count : ℕ) (cs : List Constraint) (n bucket : ℕ) → slice_get (buckets_in count cs) n ≡ Some bucket
+    → n < length cs
 place_within count [] n bucket is = absurd cc
 place_within count (x ∷ cs) zero bucket is = omega arith
 place_within count (x ∷ cs) (suc n) bucket is = let deeper = place_within count cs n bucket is in omega (arith, deeper)
 
 -- a link is in the bucket of its inner end
-has_bucket : (count : ℕ) (way : Way) (site at : ℕ) (link : Link) → HasEnd way site at link → bucket_in count link ≡ bucket_at count way site at
+has_bucket : (count : ℕ) (way : Way) (site at : ℕ) (link : Link) → HasEnd way site at link
+    → bucket_in count link ≡ bucket_at count way site at
 has_bucket count In site at (Le u v) has = absurd has
 has_bucket count In site at (Const l e v) has = absurd has
 has_bucket count In site at (Bound v l e) has = absurd has
@@ -40,7 +43,8 @@ has_bucket count Out site at (Bound v l e) has = absurd has
 has_bucket count Out site at (Enter s u v) has = absurd has
 has_bucket count Out site at (Leave s u v) has = ap (λ x. bucket_at count Out x u) has.0 ∙ ap (λ x. bucket_at count Out site x) has.1
 
-pub crosses_bucket : (count : ℕ) (sys : System) (end : InnerEnd) (n : ℕ) → Crosses sys end n → slice_get (buckets_in count sys.constraints) n ≡ Some (bucket_at count end.way end.site end.at)
+pub crosses_bucket : (count : ℕ) (sys : System) (end : InnerEnd) (n : ℕ) → Crosses sys end n
+    → slice_get (buckets_in count sys.constraints) n ≡ Some (bucket_at count end.way end.site end.at)
 crosses_bucket count sys end n c =
     bucket_there count sys.constraints n c.constraint c.there ∙ ap (λ (x : ℕ). Some x) (has_bucket count end.way end.site end.at c.constraint.link c.has)
 
@@ -73,10 +77,12 @@ pub crosses_site : (sys : System) (end : InnerEnd) (n : ℕ) → Crosses sys end
 crosses_site sys end n c = record { constraint = c.constraint; there = c.there; keyed = end_site end.way end.site end.at c.constraint.link c.has }
 
 -- the links in a lattice and their inner ends
-pub enter_crosses : (sys : System) (lattice n s u v : ℕ) → Stands sys lattice n (Enter s u v) → Crosses sys (record { way = In; site = s; at = v }) n
+pub enter_crosses : (sys : System) (lattice n s u v : ℕ) → Stands sys lattice n (Enter s u v)
+    → Crosses sys (record { way = In; site = s; at = v }) n
 enter_crosses sys lattice n s u v st = record { constraint = st.constraint; there = st.there; has = subst (HasEnd In s v) (sym st.link_is) (refl, refl) }
 
-pub leave_crosses : (sys : System) (lattice n s u v : ℕ) → Stands sys lattice n (Leave s u v) → Crosses sys (record { way = Out; site = s; at = u }) n
+pub leave_crosses : (sys : System) (lattice n s u v : ℕ) → Stands sys lattice n (Leave s u v)
+    → Crosses sys (record { way = Out; site = s; at = u }) n
 leave_crosses sys lattice n s u v st = record { constraint = st.constraint; there = st.there; has = subst (HasEnd Out s u) (sym st.link_is) (refl, refl) }
 
 pub buckets_length : (count : ℕ) (cs : List Constraint) → length (buckets_in count cs) ≡ length cs
@@ -84,7 +90,8 @@ buckets_length count [] = refl
 buckets_length count (c ∷ cs) = ap suc (buckets_length count cs)
 
 -- a constraint that has an inner end has it by its link
-pub has_end_at : (sys : System) (end : InnerEnd) (n : ℕ) (constraint : Constraint) → Crosses sys end n → slice_get sys.constraints n ≡ Some constraint →
+pub has_end_at : (sys : System) (end : InnerEnd) (n : ℕ) (constraint : Constraint) → Crosses sys end n
+    → slice_get sys.constraints n ≡ Some constraint →
     HasEnd end.way end.site end.at constraint.link
 has_end_at sys end n constraint crosses there =
     let same : crosses.constraint ≡ constraint = some_constraint (sym crosses.there ∙ there) in subst (λ (c : Constraint). HasEnd end.way end.site end.at c.link) same crosses.has
@@ -109,13 +116,16 @@ has_leave site at (Leave s u v) has =
 pub crosses_within : (sys : System) (end : InnerEnd) (n : ℕ) → Crosses sys end n → n < length sys.constraints
 crosses_within sys end n c = slice_get_within sys.constraints n c.constraint c.there
 
-pub has_end_of : (sys : System) (end : InnerEnd) (n : ℕ) (link : Link) → Crosses sys end n → Has sys n link → HasEnd end.way end.site end.at link
+pub has_end_of : (sys : System) (end : InnerEnd) (n : ℕ) (link : Link) → Crosses sys end n → Has sys n link
+    → HasEnd end.way end.site end.at link
 has_end_of sys end n link c has =
     let same : c.constraint ≡ has.constraint = some_constraint (sym c.there ∙ has.there) in
     subst (HasEnd end.way end.site end.at) (ap (λ (k : Constraint). k.link) same ∙ has.link_is) c.has
 
--- One turn along the constraints with an inner end, the last first: what holds of the others and of this one holds from the next one on.
-pub crossed_more : (sys : System) (end : InnerEnd) (P : ℕ → Type 0) (at link : ℕ) → IsLastCrossing sys end at link → ((n : ℕ) → at < n → P n) → P at →
+-- One turn along the constraints with an inner end, the last first: what holds of the others and of this one holds from
+-- the next one on.
+pub crossed_more : (sys : System) (end : InnerEnd) (P : ℕ → Type 0) (at link : ℕ) → IsLastCrossing sys end at link
+    → ((n : ℕ) → at < n → P n) → P at →
     ((n : ℕ) → (Crosses sys end n → ⊥) → P n) → (n : ℕ) → link ≤ n → P n
 crossed_more sys end P at link is after here elsewhere n le = elim (cases_lt at n) [
   | inl lt ↦ after n lt
@@ -125,6 +135,7 @@ crossed_more sys end P at link is after here elsewhere n le = elim (cases_lt at 
   ]
 ]
 
-pub crossed_first : (sys : System) (end : InnerEnd) (P : ℕ → Type 0) (link : ℕ) → IsLastCrossing sys end (length sys.constraints) link → ((n : ℕ) → (Crosses sys end n → ⊥) → P n) →
+pub crossed_first : (sys : System) (end : InnerEnd) (P : ℕ → Type 0) (link : ℕ)
+    → IsLastCrossing sys end (length sys.constraints) link → ((n : ℕ) → (Crosses sys end n → ⊥) → P n) →
     (n : ℕ) → link ≤ n → P n
 crossed_first sys end P link is elsewhere n le = elsewhere n (λ crosses. is.last n le (crosses_within sys end n crosses) crosses)

@@ -27,7 +27,8 @@ module _ (sys : System) (lattice : ℕ) (marks : List Bool) (marked : (a : ℕ) 
   inside_at a b (inl same) = inl same
   inside_at a b (inr more) = leads_at a b more
 
-  group_more : (n m s u x a b w : ℕ) → IsMarked marks u → Path u x → Leads old u x → Stands sys lattice n (Enter s x a) → (a ≡ b) ⊎ More a b → AreOfOne sys a b →
+  group_more : (n m s u x a b w : ℕ) → IsMarked marks u → Path u x → Leads old u x → Stands sys lattice n (Enter s x a)
+      → (a ≡ b) ⊎ More a b → AreOfOne sys a b →
       Stands sys lattice m (Leave s b w) → AreOfOne sys u w → HasPair new u w
   group_more n m s u x a b w inner early leads enter (inl same) one leave ends = has_grown old new u w grows (done.group n m s u x a b w inner early enter (inl same) one leave ends)
   group_more n m s u x a b w inner early leads enter (inr more) one leave ends = elim (cover a b more) [
@@ -52,19 +53,9 @@ pub looked_known : (rows : List Summary) (low at u v : ℕ) → Looked rows low 
 looked_known rows low at u v (inl same) = inl same.0
 looked_known rows low at u v (inr pair) = inr (pair.1, contains_at rows pair.0 _ pair.3)
 
--- nothing was looked at
-pub done_none : (sys : System) (lattice : ℕ) (marks : List Bool) (rows : List Summary) → AreDone sys lattice marks (Looked rows 0 0) rows
-done_none sys lattice marks rows = record {
-  flow = λ n u v w inner path. absurd (none u v path);
-  group = λ n m s u x a b w inner path. absurd (none u x path);
-}
-  where
-    none : (u v : ℕ) → Looked rows 0 0 u v → ⊥
-    none u v (inl same) = let lt = same.1 in absurd (omega (arith, lt))
-    none u v (inr pair) = let lt = pair.2 in absurd (omega (arith, lt))
-
 -- the paths looked at after one variable more
-pub cover_end : (old new : List Summary) (low u v : ℕ) → Looked new (low + 1) 0 u v → Looked old low 0 u v ⊎ ((u ≡ low) × (v ≡ low))
+pub cover_end : (old new : List Summary) (low u v : ℕ) → Looked new (low + 1) 0 u v
+    → Looked old low 0 u v ⊎ ((u ≡ low) × (v ≡ low))
 cover_end old new low u v (inl same) = elim (cases_lt u low) [
   | inl less ↦ inl (inl (same.0, less))
   | inr ge ↦ let lt = same.1 in let is : u ≡ low = omega (arith, lt, ge) in inr (is, sym same.0 ∙ is)
@@ -72,7 +63,8 @@ cover_end old new low u v (inl same) = elim (cases_lt u low) [
 cover_end old new low u v (inr pair) = let lt = pair.2 in absurd (omega (arith, lt))
 
 -- the paths looked at after one pair more
-pub cover_pair : (old new : List Summary) (low at : ℕ) (row : Summary) → Grows old new → at < length old → slice_get old at ≡ Some row → (u v : ℕ) → Looked new low (at + 1) u v →
+pub cover_pair : (old new : List Summary) (low at : ℕ) (row : Summary) → Grows old new → at < length old
+    → slice_get old at ≡ Some row → (u v : ℕ) → Looked new low (at + 1) u v →
     Looked old low at u v ⊎ ((u ≡ row.from) × (v ≡ row.to))
 cover_pair old new low at row grows within there u v (inl same) = inl (inl same)
 cover_pair old new low at row grows within there u v (inr pair) = elim (cases_lt pair.0 at) [
@@ -89,7 +81,8 @@ cover_pair old new low at row grows within there u v (inr pair) = elim (cases_lt
     some_is a b e = cc
 
 -- where each path was looked at, all that follows is there
-pub done_closed : (sys : System) (lattice : ℕ) (marks : List Bool) (vars : ℕ) (rows : List Summary) → ((a : ℕ) → IsInnerEnd sys lattice a → IsMarked marks a) → AllBelow sys vars →
+pub done_closed : (sys : System) (lattice : ℕ) (marks : List Bool) (vars : ℕ) (rows : List Summary)
+    → ((a : ℕ) → IsInnerEnd sys lattice a → IsMarked marks a) → AllBelow sys vars →
     AreDone sys lattice marks (Looked rows vars (length rows)) rows → IsClosed sys lattice marks rows
 done_closed sys lattice marks vars rows marked below done = record {
   flow = λ n u v w begins path st. done.flow n u v w begins (each u v (flow_below n v w st) path) st;

@@ -31,7 +31,8 @@ one_function : (f g : ℕ) → Function f ≡ Function g → f ≡ g
 one_function f g e = cc
 
 -- what leads from one variable of a function to another, where each pair is a matched path
-leads_matches : (sys : System) (lattice f u v : ℕ) (rows : List Summary) → ((x y : ℕ) → HasPair rows x y → Match sys lattice x y) →
+leads_matches : (sys : System) (lattice f u v : ℕ) (rows : List Summary)
+    → ((x y : ℕ) → HasPair rows x y → Match sys lattice x y) →
     owner_of sys u ≡ Function f → Leads rows u v → Matches sys lattice f u v
 leads_matches sys lattice f u v rows early o (inl same) = subst (λ x. Matches sys lattice f u x) same (stay f u o)
 leads_matches sys lattice f u v rows early o (inr pair) =
@@ -40,7 +41,8 @@ leads_matches sys lattice f u v rows early o (inr pair) =
     let same : path.0 ≡ f = one_function path.0 f (sym (matches_begin sys lattice path.0 u v whole) ∙ o) in
     subst (λ g. Matches sys lattice g u v) same whole
 
-part_of : (sys : System) (lattice f v : ℕ) (rows : List Summary) (why : Reason) → ((x y : ℕ) → HasPair rows x y → Match sys lattice x y) →
+part_of : (sys : System) (lattice f v : ℕ) (rows : List Summary) (why : Reason)
+    → ((x y : ℕ) → HasPair rows x y → Match sys lattice x y) →
     owner_of sys v ≡ Function f → EndsAt sys lattice rows why v → Part sys lattice f (before_of why) v
 part_of sys lattice f v rows (Last edge before) early o st = flow f before v edge st o
 part_of sys lattice f v rows (Group before enter leave) early o h =
@@ -48,7 +50,8 @@ part_of sys lattice f v rows (Group before enter leave) early o h =
     group f before h.1 h.2 v h.0 inside.0 enter leave h.3 (leads_matches sys lattice inside.0 h.1 h.2 rows early inside.1 h.4) h.6 o
 
 -- a pair of the front of a list stands at an earlier place
-early_place : (rows : List Summary) (n : ℕ) (row : Summary) → Contains (take n rows) row → (k : ℕ) × (k < n) × (slice_get rows k ≡ Some row)
+early_place : (rows : List Summary) (n : ℕ) (row : Summary) → Contains (take n rows) row
+    → (k : ℕ) × (k < n) × (slice_get rows k ≡ Some row)
 early_place rows n row there =
     let few = there.1 in
     let size = length-take n rows in
@@ -56,7 +59,8 @@ early_place rows n row there =
     let within : there.0 < length rows = omega (arith, few, size) in
     (there.0, lt, slice_get-get_or rows there.0 row within ∙ ap (λ (x : Summary). Some x) (sym (get_or-take n rows there.0 row lt) ∙ there.2))
 
-grounded_match : (sys : System) (lattice : ℕ) (rows : List Summary) → IsGrounded sys lattice rows → (bound n : ℕ) (row : Summary) → n < bound →
+grounded_match : (sys : System) (lattice : ℕ) (rows : List Summary) → IsGrounded sys lattice rows
+    → (bound n : ℕ) (row : Summary) → n < bound →
     slice_get rows n ≡ Some row → Match sys lattice row.from row.to
 grounded_match sys lattice rows grounded zero n row lt is = absurd (omega arith)
 grounded_match sys lattice rows grounded (suc bound) n row lt is =
@@ -72,7 +76,8 @@ grounded_match sys lattice rows grounded (suc bound) n row lt is =
       part_of sys lattice f row.to (take n rows) row.why early r.inside.2 r.part,
     )
 
-pub good_match : (sys : System) (lattice : ℕ) (marks : List Bool) (rows : List Summary) → IsGood sys lattice marks rows → (u v : ℕ) → HasPair rows u v → Match sys lattice u v
+pub good_match : (sys : System) (lattice : ℕ) (marks : List Bool) (rows : List Summary) → IsGood sys lattice marks rows
+    → (u v : ℕ) → HasPair rows u v → Match sys lattice u v
 good_match sys lattice marks rows good u v pair =
     let there = pair.1 in
     grounded_match sys lattice rows good.grounded (suc there.0) there.0 (record { from = u; to = v; why = pair.0 }) (omega arith)
@@ -82,14 +87,16 @@ good_match sys lattice marks rows good u v pair =
 flow_from : (sys : System) (lattice vars n x v : ℕ) → AllBelow sys vars → Stands sys lattice n (Le x v) → x < vars
 flow_from sys lattice vars n x v below st = let le = below n (Le x v) (record { constraint = st.constraint; there = st.there; link_is = st.link_is }) in omega (arith, le)
 
-enter_from : (sys : System) (lattice vars n s x a : ℕ) → AllBelow sys vars → Stands sys lattice n (Enter s x a) → x < vars
+enter_from : (sys : System) (lattice vars n s x a : ℕ) → AllBelow sys vars → Stands sys lattice n (Enter s x a)
+    → x < vars
 enter_from sys lattice vars n s x a below st = let le = below n (Enter s x a) (record { constraint = st.constraint; there = st.there; link_is = st.link_is }) in omega (arith, le)
 
 part_from : (sys : System) (lattice vars f x v : ℕ) → AllBelow sys vars → Part sys lattice f x v → x < vars
 part_from sys lattice vars f x v below (flow _ _ _ n st o) = flow_from sys lattice vars n x v below st
 part_from sys lattice vars f x v below (group _ _ a b _ s g n m st p st2 o) = enter_from sys lattice vars n s x a below st
 
-path_from : (sys : System) (lattice vars f u x v : ℕ) → AllBelow sys vars → Matches sys lattice f u x → Part sys lattice f x v → u < vars
+path_from : (sys : System) (lattice vars f u x v : ℕ) → AllBelow sys vars → Matches sys lattice f u x
+    → Part sys lattice f x v → u < vars
 path_from sys lattice vars f u x v below (stay _ _ o) part = part_from sys lattice vars f u v below part
 path_from sys lattice vars f u x v below (longer _ _ y _ m p) part = path_from sys lattice vars f u y x below m p
 
@@ -100,7 +107,8 @@ module _ (sys : System) (lattice : ℕ) (marks : List Bool) (rows : List Summary
     matches_lead f u x begins (stay _ _ o) = inl refl
     matches_lead f u x begins (longer _ _ y _ m p) = inr (part_leads f u y x begins (matches_begin sys lattice f u y m) (matches_lead f u y begins m) p)
 
-    part_leads : (f u y x : ℕ) → IsMarked marks u → owner_of sys u ≡ Function f → Leads rows u y → Part sys lattice f y x → HasPair rows u x
+    part_leads : (f u y x : ℕ) → IsMarked marks u → owner_of sys u ≡ Function f → Leads rows u y
+        → Part sys lattice f y x → HasPair rows u x
     part_leads f u y x begins owned front (flow _ _ _ n st o) = closed.flow n u y x begins front st (f, owned, o)
     part_leads f u y x begins owned front (group _ _ a b _ s g n m st p st2 o) =
         closed.group n m s u y a b x begins front st (inr (matches_lead g a b (marked a (n, s, y, st)) p)) (g, matches_begin sys lattice g a b p, matches_end sys lattice g a b p) st2
@@ -119,8 +127,10 @@ module _ (sys : System) (lattice : ℕ) (marks : List Bool) (rows : List Summary
   }
 
   -- from inner ends and the starts, where these are what is marked of the variables of the system
-  pub closed_from : (starts : List ℕ) (vars : ℕ) → AllBelow sys vars → ((a : ℕ) → IsMarked marks a → IsStart sys lattice starts a) →
-      ((a : ℕ) → Contains starts a → a < vars → IsMarked marks a) → IsGood sys lattice marks rows → SummarisesFrom sys lattice starts rows
+  pub closed_from : (starts : List ℕ) (vars : ℕ) → AllBelow sys vars
+      → ((a : ℕ) → IsMarked marks a → IsStart sys lattice starts a) →
+      ((a : ℕ) → Contains starts a → a < vars → IsMarked marks a) → IsGood sys lattice marks rows
+      → SummarisesFrom sys lattice starts rows
   closed_from starts vars below only all good = record {
     summaries = closed_summarises good;
     begins = λ u v pair. only u (good.begins u v pair);

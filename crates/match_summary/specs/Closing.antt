@@ -47,7 +47,8 @@ pub record AreMarkedToo (starts : List ℕ) (old new : List Bool) : Type 0 where
   pub only : (a : ℕ) → IsMarked new a → IsMarked old a ⊎ Contains starts a
   pub all : (a : ℕ) → Contains starts a → a < length new → IsMarked new a
 
--- The lists are the index of the system, the number is above its variables, and its inner ends in the lattice are marked.
+-- The lists are the index of the system, the number is above its variables, and its inner ends in the lattice are
+-- marked.
 pub record AreReady (given : Premises) : Type 0 where
   pub low : given.lattice < 16
   pub index : IsIndexOf given.graph.now given.index.now
@@ -79,7 +80,8 @@ IsEntered sys lattice marks old new u s w m = (x : ℕ) → Stands sys lattice m
 pub record IsFollowed (sys : System) (lattice : ℕ) (marks : List Bool) (old new : List Summary) (u v n : ℕ) : Type 0 where
   pub flow : (w : ℕ) → Stands sys lattice n (Le v w) → Follows sys new u w
   pub enter : (s a m : ℕ) → Stands sys lattice n (Enter s v a) → IsLeft sys lattice old new u s a m
-  pub leave : (s w m : ℕ) → Stands sys lattice n (Leave s v w) → AreOfOne sys u v → IsEntered sys lattice marks old new u s w m
+  pub leave : (s w m : ℕ) → Stands sys lattice n (Leave s v w) → AreOfOne sys u v
+      → IsEntered sys lattice marks old new u s w m
 
 -- What follows from a path from u to v is there.
 abbrev pub IsLookedAt : System → ℕ → List Bool → List Summary → List Summary → ℕ → ℕ → Type 0
@@ -92,7 +94,8 @@ Looked rows low at u v = ((u ≡ v) × (u < low)) ⊎ ((n : ℕ) × (why : Reaso
 -- What follows by the rules from such paths is there.
 pub record AreDone (sys : System) (lattice : ℕ) (marks : List Bool) (Path : ℕ → ℕ → Type 0) (rows : List Summary) : Type 0 where
   pub flow : (n u v w : ℕ) → IsMarked marks u → Path u v → Stands sys lattice n (Le v w) → Follows sys rows u w
-  pub group : (n m s u x a b w : ℕ) → IsMarked marks u → Path u x → Stands sys lattice n (Enter s x a) → (a ≡ b) ⊎ Path a b → AreOfOne sys a b →
+  pub group : (n m s u x a b w : ℕ) → IsMarked marks u → Path u x → Stands sys lattice n (Enter s x a)
+      → (a ≡ b) ⊎ Path a b → AreOfOne sys a b →
       Stands sys lattice m (Leave s b w) → Follows sys rows u w
 
 -- All that follows by the rules is there.

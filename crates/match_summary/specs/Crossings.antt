@@ -49,6 +49,7 @@ bucket_in count (Bound v l e) = 2 * count
 bucket_in count (Enter s u v) = bucket_at count In s v
 bucket_in count (Leave s u v) = bucket_at count Out s u
 
+-- the buckets of constraints, in their order
 abbrev pub buckets_in : ℕ → List Constraint → List ℕ
 buckets_in count constraints = map (λ c. bucket_in count c.link) constraints
 

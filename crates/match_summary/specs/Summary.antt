@@ -47,7 +47,8 @@ StandsOnce rows = (n m : ℕ) (u v : ℕ) (p q : Reason) → slice_get rows n �
 abbrev pub IsInnerEnd : System → ℕ → ℕ → Type 0
 IsInnerEnd sys lattice a = (n s u : ℕ) × Stands sys lattice n (Enter s u a)
 
--- Summaries of a system in a lattice: the pairs are joined by matched paths, all that such a path joins to an inner end of an
+-- Summaries of a system in a lattice: the pairs are joined by matched paths, all that such a path joins to an inner end
+-- of an
 -- Enter are there, each once, and each reason rests on pairs that stand earlier.
 pub record Summarises (sys : System) (lattice : ℕ) (rows : List Summary) : Type 0 where
   pub sound : (u v : ℕ) → HasPair rows u v → Match sys lattice u v
@@ -59,7 +60,8 @@ pub record Summarises (sys : System) (lattice : ℕ) (rows : List Summary) : Typ
 abbrev pub IsStart : System → ℕ → List ℕ → ℕ → Type 0
 IsStart sys lattice starts a = IsInnerEnd sys lattice a ⊎ Contains starts a
 
--- The summaries from inner ends of Enters and from the variables of a list: the pairs begin at these, and all that a matched
+-- The summaries from inner ends of Enters and from the variables of a list: the pairs begin at these, and all that a
+-- matched
 -- path joins to one of these are there.
 pub record SummarisesFrom (sys : System) (lattice : ℕ) (starts : List ℕ) (rows : List Summary) : Type 0 where
   pub summaries : Summarises sys lattice rows

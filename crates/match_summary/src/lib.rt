@@ -1,4 +1,8 @@
 //! Which variables of a function matched paths join: the closure of the constraints under calls whose returns match.
+//!
+//! Entry: `summarise`, `Summaries`. Invariant: each pair of the list has a reason in the pairs before it; a closed list
+//! has all pairs.
+//! It does not know lattice elements. Above: `lattice_solver`, `error_path`, `bounds_below`.
 #![tactic(auto)]
 
 mod buckets;

@@ -56,7 +56,8 @@ module _ (w : World) (members : MembersBegin w) (links : LinksAreMet w) (k l : F
   abbrev W : ℕ → Type 0
   W token = RoleHasSkeleton w token
 
-  -- a name has a row of names where the first declaration of what it declares is met, and one of parameters where it has a skeleton
+  -- a name has a row of names where the first declaration of what it declares is met, and one of parameters where it
+  -- has a skeleton
   abbrev pub RowMet : RowKind → Option Named → Type 0
   RowMet row_of_name it = NamedHas V it
   RowMet no_row it = Unit {0}
@@ -195,7 +196,8 @@ module _ (w : World) (members : MembersBegin w) (links : LinksAreMet w) (k l : F
         (params_is None false without_skeleton 0 ps (λ i. tt) has.1
         (back w (some_declr_starts a h d) _ found))
 
-    pub some_declr_is : (row : RowKind) (h : Having) (d : SomeDeclr) → RowFits row h → RowMet row (some_declared_name d) →
+    pub some_declr_is : (row : RowKind) (h : Having) (d : SomeDeclr) → RowFits row h
+        → RowMet row (some_declared_name d) →
         SomeDeclrHas U V W d →
         AreFound w (some_declr_starts a h d) → some_declr_demand wk row d ≡ some_declr_demand wl row d
     some_declr_is row h no_declr fits met has found = refl

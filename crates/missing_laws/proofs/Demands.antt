@@ -64,10 +64,12 @@ module _ (w : World) (members : MembersBegin w) (links : LinksAreMet w) (k l : F
   abbrev pub Typed : Expr → Type 0
   Typed e = HasType w e
 
-  specs_is : (ws : SpecWords) → WordsHave U V W ws → AreFound w (words_starts b ws) → words_demand u ws ≡ words_demand v ws
+  specs_is : (ws : SpecWords) → WordsHave U V W ws → AreFound w (words_starts b ws)
+      → words_demand u ws ≡ words_demand v ws
   specs_is ws h found = words_is w members links k l false f ws h found
 
-  type_is : (d : SomeDeclr) → some_declared_name d ≡ None → SomeDeclrHas U V W d → AreFound w (some_declr_starts b with_skeleton d) →
+  type_is : (d : SomeDeclr) → some_declared_name d ≡ None → SomeDeclrHas U V W d
+      → AreFound w (some_declr_starts b with_skeleton d) →
       some_declr_demand u row_of_name d ≡ some_declr_demand v row_of_name d
   type_is d none h found = some_declr_is w members links k l false f row_of_name with_skeleton d tt
       (subst (λ (it : Option Named). NamedHas V it) (sym none) tt) h found
@@ -204,7 +206,8 @@ module _ (w : World) (members : MembersBegin w) (links : LinksAreMet w) (k l : F
   selection_is token (Some c) all fs are e is found = pick_is token (selected c all) fs (are c refl) e is found
 
   mutual
-    pub demand_is : (aims : Bool) (e : Expr) → ExprHas Fits U V W e → ExprHas Typed U V W e → AreFound w (expr_starts b e) →
+    pub demand_is : (aims : Bool) (e : Expr) → ExprHas Fits U V W e → ExprHas Typed U V W e
+        → AreFound w (expr_starts b e) →
         demand_in u aims e ≡ demand_in v aims e
     demand_is aims (operation e comma token e2) s t h = joined _ _ _ _
         (demand_is false e s.1.0 t.1.0 (front w (expr_starts b e) _ h))
@@ -374,7 +377,8 @@ module _ (w : World) (members : MembersBegin w) (links : LinksAreMet w) (k l : F
         (demand_is false e s.1.1 t.1.1 (back w (some_declr_starts b with_skeleton d) _ hd)))
     assoc_is (default_assoc keyword colon e) s t h = demand_is false e s t h
 
-    some_expr_is : (e : SomeExpr) → SomeExprHas Fits U V W e → SomeExprHas Typed U V W e → AreFound w (some_expr_starts b e) →
+    some_expr_is : (e : SomeExpr) → SomeExprHas Fits U V W e → SomeExprHas Typed U V W e
+        → AreFound w (some_expr_starts b e) →
         some_expr_demand u e ≡ some_expr_demand v e
     some_expr_is no_expr s t h = refl
     some_expr_is (some_expr e) s t h = demand_is false e s t h
@@ -410,7 +414,8 @@ module _ (w : World) (members : MembersBegin w) (links : LinksAreMet w) (k l : F
         joined _ _ _ _ (init_is it s.0 t.0 (front w (init_starts b it) _ behind))
         (init_items_is items s.1 t.1 (back w (init_starts b it) _ behind))
 
-    rule_is : (o : Option Skel) (it : Init) → InitHas Fits U V W it → InitHas Typed U V W it → AreFound w (init_starts b it) →
+    rule_is : (o : Option Skel) (it : Init) → InitHas Fits U V W it → InitHas Typed U V W it
+        → AreFound w (init_starts b it) →
         rule u o it ≡ rule v o it
     rule_is None it s t h = refl
     rule_is (Some c) (init_value e) s t h =
@@ -514,7 +519,8 @@ module _ (w : World) (members : MembersBegin w) (links : LinksAreMet w) (k l : F
         stmt_is it s t (back w (expr_starts _ e2) _ (back w (expr_starts _ e) _ h))
     stmt_is (goto_value keyword star e semi) s t h = demand_is false e s t h
 
-    some_else_is : (it : SomeElse) → SomeElseHas Fits U V W it → SomeElseHas Typed U V W it → AreFound w (some_else_starts b it) →
+    some_else_is : (it : SomeElse) → SomeElseHas Fits U V W it → SomeElseHas Typed U V W it
+        → AreFound w (some_else_starts b it) →
         some_else_demand u it ≡ some_else_demand v it
     some_else_is no_else s t h = refl
     some_else_is (some_else keyword it) s t h = stmt_is it s t h
@@ -545,7 +551,8 @@ module _ (w : World) (members : MembersBegin w) (links : LinksAreMet w) (k l : F
   role_met own it d (field_role n i) e is = tt
   role_met own it d enumerator_role e is = tt
 
-  identified_met : (own : Option Skel) (o : Option Named) → RowMet w members links k l false f (identified_kind v own o) o
+  identified_met : (own : Option Skel) (o : Option Named)
+      → RowMet w members links k l false f (identified_kind v own o) o
   identified_met own None = tt
   identified_met own (Some it) = by (declared_at w.names.declared (at w it.token)) refl
     where

@@ -125,7 +125,8 @@ module _ (u : Spelling) where
     words_grow alone (more_words word words) t annotations s =
         joins (word_grows alone word t s) (words_grow alone words _ (words_behind u word annotations) _)
 
-    pub word_grows : (alone : Bool) (word : SpecWord) (t : CType) (s : Names) → Grows s (word_named u alone word t s).names
+    pub word_grows : (alone : Bool) (word : SpecWord) (t : CType) (s : Names)
+        → Grows s (word_named u alone word t s).names
     word_grows alone (storage word) t s = stays s
     word_grows alone (thread token) t s = stays s
     word_grows alone (inline_word token) t s = stays s

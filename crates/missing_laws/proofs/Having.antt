@@ -56,7 +56,8 @@ module _ (w : World) (members : MembersBegin w) where
     it_has e t s h = (t.0, t.1, has_its w U V W f e t.0 members s h t.1)
 
     mutual
-      pub expr_has : (e : Expr) → ExprHas S U V W e → ExprHas T U V W e → AreFound w (expr_starts b e) → ExprHas H U V W e
+      pub expr_has : (e : Expr) → ExprHas S U V W e → ExprHas T U V W e → AreFound w (expr_starts b e)
+          → ExprHas H U V W e
       expr_has (operation e comma token e2) s t h = (
         it_has (operation e comma token e2) t.0 s h,
         (
@@ -197,30 +198,35 @@ module _ (w : World) (members : MembersBegin w) where
         assocs_have xs s.1 t.1 (back w (assoc_starts b x) _ h),
       )
 
-      assoc_has : (x : Assoc) → AssocHas S U V W x → AssocHas T U V W x → AreFound w (assoc_starts b x) → AssocHas H U V W x
+      assoc_has : (x : Assoc) → AssocHas S U V W x → AssocHas T U V W x → AreFound w (assoc_starts b x)
+          → AssocHas H U V W x
       assoc_has (typed_assoc ws d colon e) s t h = (
         s.0,
         (s.1.0, expr_has e s.1.1 t.1.1 (back w (some_declr_starts b with_skeleton d) _ (back w (words_starts b ws) _ h))),
       )
       assoc_has (default_assoc keyword colon e) s t h = expr_has e s t h
 
-      some_expr_has : (e : SomeExpr) → SomeExprHas S U V W e → SomeExprHas T U V W e → AreFound w (some_expr_starts b e) →
+      some_expr_has : (e : SomeExpr) → SomeExprHas S U V W e → SomeExprHas T U V W e
+          → AreFound w (some_expr_starts b e) →
           SomeExprHas H U V W e
       some_expr_has no_expr s t h = tt
       some_expr_has (some_expr e) s t h = expr_has e s t h
 
-      exprs_have : (es : Exprs) → ExprsHave S U V W es → ExprsHave T U V W es → AreFound w (exprs_starts b es) → ExprsHave H U V W es
+      exprs_have : (es : Exprs) → ExprsHave S U V W es → ExprsHave T U V W es → AreFound w (exprs_starts b es)
+          → ExprsHave H U V W es
       exprs_have no_exprs s t h = tt
       exprs_have (more_exprs e es) s t h = (
         expr_has e s.0 t.0 (front w (expr_starts b e) _ h),
         exprs_have es s.1 t.1 (back w (expr_starts b e) _ h),
       )
 
-      init_has : (it : Init) → InitHas S U V W it → InitHas T U V W it → AreFound w (init_starts b it) → InitHas H U V W it
+      init_has : (it : Init) → InitHas S U V W it → InitHas T U V W it → AreFound w (init_starts b it)
+          → InitHas H U V W it
       init_has (init_value e) s t h = expr_has e s t h
       init_has (init_braced list) s t h = list_has list s t h
 
-      list_has : (list : InitList) → InitListHas S U V W list → InitListHas T U V W list → AreFound w (init_list_starts b list) →
+      list_has : (list : InitList) → InitListHas S U V W list → InitListHas T U V W list
+          → AreFound w (init_list_starts b list) →
           InitListHas H U V W list
       list_has (init_list opening items last closing) s t h = init_items_have items s t h
 
@@ -233,7 +239,8 @@ module _ (w : World) (members : MembersBegin w) where
             init_items_have items s.1 t.1 (back w (init_starts b it) _ behind),
           )
 
-      some_init_has : (it : SomeInit) → SomeInitHas S U V W it → SomeInitHas T U V W it → AreFound w (some_init_starts b it) →
+      some_init_has : (it : SomeInit) → SomeInitHas S U V W it → SomeInitHas T U V W it
+          → AreFound w (some_init_starts b it) →
           SomeInitHas H U V W it
       some_init_has no_init s t h = tt
       some_init_has (some_init equal it) s t h = init_has it s t h
@@ -258,7 +265,8 @@ module _ (w : World) (members : MembersBegin w) where
       declaration_has (declaration exts ws ds semi) s t h =
           (s.0, init_declrs_have ds s.1 t.1 (back w (words_starts b ws) _ h))
 
-      pub decl_has : (d : Decl) → DeclHas S U V W d → DeclHas T U V W d → AreFound w (decl_starts b d) → DeclHas H U V W d
+      pub decl_has : (d : Decl) → DeclHas S U V W d → DeclHas T U V W d → AreFound w (decl_starts b d)
+          → DeclHas H U V W d
       decl_has (decl_declaration d) s t h = declaration_has d s t h
       decl_has (decl_assert it) s t h = tt
 
@@ -276,7 +284,8 @@ module _ (w : World) (members : MembersBegin w) where
       block_item_has (block_stmt it) s t h = stmt_has it s t h
       block_item_has (block_labels keyword names semi) s t h = tt
 
-      stmt_has : (it : Stmt) → StmtHas S U V W it → StmtHas T U V W it → AreFound w (stmt_starts b it) → StmtHas H U V W it
+      stmt_has : (it : Stmt) → StmtHas S U V W it → StmtHas T U V W it → AreFound w (stmt_starts b it)
+          → StmtHas H U V W it
       stmt_has (block opening items closing) s t h = block_items_have items s t h
       stmt_has (expr_stmt e semi) s t h = some_expr_has e s t h
       stmt_has (attr_stmt attrs semi) s t h = tt
@@ -322,7 +331,8 @@ module _ (w : World) (members : MembersBegin w) where
           stmt_has it s t (back w (expr_starts _ e2) _ (back w (expr_starts _ e) _ h))
       stmt_has (goto_value keyword star e semi) s t h = expr_has e s t h
 
-      some_else_has : (it : SomeElse) → SomeElseHas S U V W it → SomeElseHas T U V W it → AreFound w (some_else_starts b it) →
+      some_else_has : (it : SomeElse) → SomeElseHas S U V W it → SomeElseHas T U V W it
+          → AreFound w (some_else_starts b it) →
           SomeElseHas H U V W it
       some_else_has no_else s t h = tt
       some_else_has (some_else keyword it) s t h = stmt_has it s t h
@@ -361,7 +371,8 @@ module _ (w : World) (members : MembersBegin w) where
       old_declarations_have g ds s.1 t.1 (back w (old_declaration_starts b (of_function g) d) _ h),
     )
 
-    old_has : (g : Option Place) (ds : List Declaration) (d : Declr) → OldDeclrHas S U V W ds d → OldDeclrHas T U V W ds d →
+    old_has : (g : Option Place) (ds : List Declaration) (d : Declr) → OldDeclrHas S U V W ds d
+        → OldDeclrHas T U V W ds d →
         AreFound w (old_declr_starts b (of_function g) ds d) → OldDeclrHas H U V W ds d
     old_has g ds (identifiers d opening names closing) s t h =
         (s.0, old_declarations_have g ds s.1 t.1 (back w (declr_starts b with_skeleton without_skeleton d) _ h))
@@ -378,7 +389,8 @@ module _ (w : World) (members : MembersBegin w) where
     old_has g ds (abs_array d opening words size closing) s t h = s
     old_has g ds (abs_params d opening ps dots closing) s t h = s
 
-  item_has : (item : Item) → ItemHas S U V W item → ItemHas T U V W item → AreFound w (item_starts (has_access w.lattices) w.spelling w.names item) →
+  item_has : (item : Item) → ItemHas S U V W item → ItemHas T U V W item
+      → AreFound w (item_starts (has_access w.lattices) w.spelling w.names item) →
       ItemHas H U V W item
   item_has (function_item exts ws d attrs opening items closing) s t h =
       let f = declared_function w.spelling w.names (declared_name d) in

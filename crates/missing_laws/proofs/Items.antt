@@ -56,7 +56,8 @@ module _ (w : World) (members : MembersBegin w) (links : LinksAreMet w) (k l : F
   function_is ws d items f c e same p q r = joined _ _ _ _ p (joined _ _ _ _
       (q ∙ ap (λ o. declr_demand (world w l) row_of_name o d) same) r)
 
-  item_is : (item : Item) → ItemHas P U V W item → ItemHas T U V W item → AreFound w (item_starts (has_access w.lattices) w.spelling w.names item) →
+  item_is : (item : Item) → ItemHas P U V W item → ItemHas T U V W item
+      → AreFound w (item_starts (has_access w.lattices) w.spelling w.names item) →
       item_demand (world w k) item ≡ item_demand (world w l) item
   item_is (function_item exts ws d attrs opening items closing) s t h =
       let f = declared_function w.spelling w.names (declared_name d) in

@@ -7,7 +7,7 @@ use Rattle.name_rules.specs.Scopes.{Aggregate, Body, Known, StructKey, is_place,
 use Rattle.name_rules.specs.Values.{member_in}
 use Rattle.name_rules.specs.Declaring.{or_at}
 use Rattle.name_rules.specs.Linking.{defines, first_external, is_elsewhere, is_external, linked_in, member_among, member_link, member_where, name_found, place_of, place_where, thing_link, thing_linked}
-use Rattle.meaning_laws.specs.Meanings.{ThingsAre}
+use Rattle.name_rules.specs.MeaningLaws.Meanings.{ThingsAre}
 use Rattle.row_rules.specs.Worlds.{World}
 use Rattle.missing_laws.specs.Finding.{LinksAreMet, PlaceBegins}
 use Rattle.missing_laws.proofs.Meant.{AllGood, AreWell, BodyGood, Stands, body_known, stood}

@@ -12,8 +12,8 @@ use Rattle.name_rules.specs.Pieces.{is_function}
 use Rattle.name_rules.specs.Declaring.{Numbered, begun_body, begun_in, body_entered, body_left, declared_here, declared_member, declared_param, declared_some, declared_thing, declared_typedef, declaring, found_or_new, has_word, keep, linked, opened, or_at, owner_where, scope_kept, static_where, struct_number, tag_known, the_thing, thing_where, type_named, typedef_known, unnamed_member, untagged, used}
 use Rattle.name_rules.specs.Units.{is_shared, no_names, shared, shared_name, unit_begun}
 use Rattle.name_rules.specs.Values.{known_named, member_in, own_of}
-use Rattle.meaning_laws.specs.Meanings.{Differ, KeptIs, MeaningIs, NamesAre, ThingsAre}
-use Rattle.meaning_laws.proofs.Lists.{place_is, place_itself}
+use Rattle.name_rules.specs.MeaningLaws.Meanings.{Differ, KeptIs, MeaningIs, NamesAre, ThingsAre}
+use Rattle.name_rules.proofs.MeaningLaws.Lists.{place_is, place_itself}
 use Rattle.row_rules.specs.Starting.{declared_start, name_start, some_declared_start}
 use Rattle.row_rules.specs.Worlds.{World, at}
 use Rattle.first_laws.specs.Firsts.{FirstsHaveSkeletons, HasSkeletonAt, has_skeleton}
@@ -98,7 +98,8 @@ module _ (w : World) (well : AreWell w.names.declared) where
   named_as d (parameter_role i) h = h
   named_as d (field_role n i) h = h
 
-  one_declared : (p : Place) (c d : Declared) → declared_at S.declared p ≡ Some c → declared_at S.declared p ≡ Some d → c ≡ d
+  one_declared : (p : Place) (c d : Declared) → declared_at S.declared p ≡ Some c → declared_at S.declared p ≡ Some d
+      → c ≡ d
   one_declared p c d e k = by (sym e ∙ k)
     where
       by : Some c ≡ Some d → c ≡ d
@@ -578,7 +579,8 @@ module _ (w : World) (well : AreWell w.names.declared) where
       by true e next = let same : x ≡ it = cc in subst (λ (y : Known). Begins w y.at (pointer [] y.type)) same h.0
       by false e next = next e
 
-  own_at : (xs : List Own) (i : ℕ) (it : Own) → OwnGood xs → slice_get xs i ≡ Some it → Begins w it.at (pointer [] it.type)
+  own_at : (xs : List Own) (i : ℕ) (it : Own) → OwnGood xs → slice_get xs i ≡ Some it
+      → Begins w it.at (pointer [] it.type)
   own_at [] i it h e = absurd cc
   own_at (x ∷ xs) zero it h e = let same : x ≡ it = cc in subst (λ (y : Own). Begins w y.at (pointer [] y.type)) same h.0
   own_at (x ∷ xs) (suc i) it h e = own_at xs i it h.1 e

@@ -199,7 +199,8 @@ module _ (w : World) (well : AreWell w.names.declared) (uses_differ : UsesDiffer
   old_faults_ok [] bs s h = h
   old_faults_ok (it ∷ others) bs s h = old_faults_ok others bs _ (good_faults w well bs _ s h)
 
-  pub old_declr_ok : (ds : List Declaration) (d : Declr) (b : Bool) (bs : List Bool) (s : Names) → AllTrue w well (b ∷ bs) →
+  pub old_declr_ok : (ds : List Declaration) (d : Declr) (b : Bool) (bs : List Bool) (s : Names)
+      → AllTrue w well (b ∷ bs) →
       All (IsDeclaration all) ds → IsDeclr all d → AreChosen w (old_declr_selections u S ds d) →
       AreFound w (old_declr_starts a (of_function f) ds d) → Grows (old_declr_named u (Some own) ds d s).names S →
       G (b ∷ bs) s → G (b ∷ bs) (old_declr_named u (Some own) ds d s).names × OldDeclrHas P U V W ds d

@@ -84,7 +84,8 @@ pub name_found : (w : World) (a : Around) (h g : Having) (d : Declr) (it : Named
     AreFound w (declr_starts a h g d) → AreFound w (had_name h a it.token)
 name_found = named_found
 
-pub some_name_found : (w : World) (a : Around) (h : Having) (d : SomeDeclr) (it : Named) → some_declared_name d ≡ Some it →
+pub some_name_found : (w : World) (a : Around) (h : Having) (d : SomeDeclr) (it : Named)
+    → some_declared_name d ≡ Some it →
     AreFound w (some_declr_starts a h d) → AreFound w (had_name h a it.token)
 some_name_found = some_named_found
 
@@ -165,7 +166,8 @@ module _ (w : World) (members : MembersBegin w) (k l : Further) (same_own : k.2 
   pub own_is_same : (token : ℕ) (t : CType) → AreFound w (fresh a token t) → own wk token ≡ own wl token
   own_is_same token t h = found_same w members k l (at w token) t h.0.0
 
-  pub some_own_is : (token : ℕ) (o : Option CType) → Is o → AreFound w (some_fresh a token o) → own wk token ≡ own wl token
+  pub some_own_is : (token : ℕ) (o : Option CType) → Is o → AreFound w (some_fresh a token o)
+      → own wk token ≡ own wl token
   some_own_is token None is h = absurd cc
   some_own_is token (Some t) is h = own_is_same token t h
 
@@ -332,7 +334,8 @@ module _ (w : World) (members : MembersBegin w) (k l : Further) (same_own : k.2 
   behind_is s (more_desigs (range_desig opening e dots e2 closing) ds) next = refl
   behind_is s (more_desigs (old_desig name colon) ds) next = refl
 
-  pub role_is : (d : Declared) (role : Role) → skeleton wk d.at ≡ skeleton wl d.at → by_role wk d role ≡ by_role wl d role
+  pub role_is : (d : Declared) (role : Role) → skeleton wk d.at ≡ skeleton wl d.at
+      → by_role wk d role ≡ by_role wl d role
   role_is d typedef_role e = refl
   role_is d function_role e = refl
   role_is d object_role e = ap (λ s. Some (contents s)) e

@@ -33,7 +33,8 @@ module _ {K : Type 0} where
   are_same [] f g e h = λ k. e k ∙ h k
   are_same (c ∷ cs) f g e h = (h.0, h.1, (λ k. e k ∙ h.2.0 k, h.2.1))
 
-  zeros_of : (cs : List Candidate) (f : K → List vals.Candidate) → AreOf cs f → AreOf (no_zeros cs) (λ k. vals.no_zeros (f k))
+  zeros_of : (cs : List Candidate) (f : K → List vals.Candidate) → AreOf cs f
+      → AreOf (no_zeros cs) (λ k. vals.no_zeros (f k))
   zeros_of [] f h = λ k. ap vals.no_zeros (h k)
   zeros_of (c ∷ cs) f h =
       are_same (if c.is_zero then no_zeros cs else c ∷ no_zeros cs) (λ k. vals.no_zeros (f k))
@@ -53,7 +54,8 @@ module _ {K : Type 0} where
       are_same (x ∷ xs) (λ k. vals.or_all (f k) (g k)) f
       (λ k. ap (λ fs. vals.or_all fs (g k)) (h.2.0 k) ∙ sym (h.2.0 k)) h
 
-  pub left_are : (cs : List Candidate) (f : K → List vals.Candidate) → AreOf cs f → AreOf (left_of cs) (λ k. vals.left_of (f k))
+  pub left_are : (cs : List Candidate) (f : K → List vals.Candidate) → AreOf cs f
+      → AreOf (left_of cs) (λ k. vals.left_of (f k))
   left_are cs f h = or_all_of (no_zeros cs) cs (λ k. vals.no_zeros (f k)) f (zeros_of cs f h) h
 
   pub as_many : (cs : List Candidate) (f : K → List vals.Candidate) → AreOf cs f → (k : K) → length (f k) ≡ length cs

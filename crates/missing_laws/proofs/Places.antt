@@ -5,8 +5,8 @@ use Rattle.type_table.specs.Types.{size}
 use Rattle.qual_types.specs.Skel.{Skel, numbered}
 use Rattle.name_rules.specs.Spellings.{Place}
 use Rattle.name_rules.specs.Scopes.{Declared, NameUse, declared_at, is_place}
-use Rattle.meaning_laws.specs.Meanings.{Differ}
-use Rattle.meaning_laws.proofs.Lists.{place_is, place_itself}
+use Rattle.name_rules.specs.MeaningLaws.Meanings.{Differ}
+use Rattle.name_rules.proofs.MeaningLaws.Lists.{place_is, place_itself}
 use Rattle.row_rules.specs.Sites.{AreDifferent, has_place, place_of, site_places}
 use Rattle.row_rules.specs.Starting.{Selection, Start, flag_among}
 use Rattle.row_rules.specs.Worlds.{World, Numbered, numbered_from, skeleton_among}

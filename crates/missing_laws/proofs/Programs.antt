@@ -97,7 +97,8 @@ module _ (w : World) (well : AreWell w.names.declared) (uses : UsesDiffer w.name
   named_or (Some it) = it.token
 
   -- the name of a function with a list of identifiers has a skeleton
-  old_name_found : (f : Option Place) (ds : List Declaration) (d : Declr) → ((it : Named) × (declared_name d ≡ Some it)) →
+  old_name_found : (f : Option Place) (ds : List Declaration) (d : Declr)
+      → ((it : Named) × (declared_name d ≡ Some it)) →
       IsDeclr all d → lists_identifiers d ≡ true → AreFound w (old_declr_starts (loud w None) (of_function f) ds d) →
       AreFound w (name_start (loud w None) (named_or (declared_name d)))
   old_name_found f ds (identifiers d opening names closing) some wf e found =
@@ -146,7 +147,8 @@ module _ (w : World) (well : AreWell w.names.declared) (uses : UsesDiffer w.name
       (good_entered w well (place u it.token) _ _ _ _ three.0) in
       (good_left w well true (true ∷ []) _ four.0, (three.1.1, (three.1.0, (one.1, (two.1, four.1 refl)))))
 
-  item_ok : (item : Item) (s : Names) → IsItem all item → AreChosen w (item_selections u w.names item) → AreFound w (item_starts (has_access w.lattices) u w.names item) →
+  item_ok : (item : Item) (s : Names) → IsItem all item → AreChosen w (item_selections u w.names item)
+      → AreFound w (item_starts (has_access w.lattices) u w.names item) →
       Grows (item_named u item s) w.names → G s → G (item_named u item s) × ItemHas P U V W item
   item_ok (function_item exts ws d attrs opening items closing) s wf ch found g h =
       let f = declared_function u w.names (declared_name d) in
@@ -238,7 +240,8 @@ module _ (p : Program) (formed : AreFormed p.sources) (no_fault : HasNoFault p.s
       ItemsHave (IsSettled (world_of p it)) (TokenBegins (world_of p it)) (FirstIsMet (world_of p it)) (RoleHasSkeleton (world_of p it)) it.items
       × EachHas sources
 
-  run : (sources : List Source) (last : Source) (xs : List Start) (ys : List Selection) (s : Names) → AreFormed sources →
+  run : (sources : List Source) (last : Source) (xs : List Start) (ys : List Selection) (s : Names)
+      → AreFormed sources →
       starts_of (has_access p.lattices) p.sources ≡ xs ++ starts_among (has_access p.lattices) S sources →
       selections_among S p.sources ≡ ys ++ selections_among S sources → sources_named sources s ≡ S → GoodFor last s →
       GoodFor last S × EachHas sources

@@ -13,7 +13,7 @@ use Rattle.name_rules.specs.Spellings.{Place}
 use Rattle.name_rules.specs.Scopes.{Role, typedef_role, object_role, function_role, parameter_role, field_role, enumerator_role, Declared, declared_at, Known, Own, body_of, is_place}
 use Rattle.name_rules.specs.Linking.{link_of}
 use Rattle.name_rules.specs.Values.{member_in, own_of, own_number}
-use Rattle.meaning_laws.proofs.Lists.{place_is}
+use Rattle.name_rules.proofs.MeaningLaws.Lists.{place_is}
 use Rattle.row_rules.specs.Annotations.{has_access, annotating, parameters}
 use Rattle.row_rules.specs.Forming.{Ways, ways_in, into_member, into_members, into_fields, formed_in, all_formed_in, formed}
 use Rattle.row_rules.specs.Rows.{annotating_name, branched, chosen, declared_row, formed_name, into_param, name_row, next_of_struct, own_skel, param_row, some_declared_row, equal_to, tied_to_first}
@@ -59,7 +59,8 @@ module _ (w : World) (members : MembersBegin w) (k l : Further) where
   met_same : (p : Place) → PlaceBegins w p → skeleton wk p ≡ skeleton wl p
   met_same p h = found_same p h.0 h.1
 
-  pub known_same : (n : Option ℕ) (name : ℕ) → known_skeleton wk (member_of w n name) ≡ known_skeleton wl (member_of w n name)
+  pub known_same : (n : Option ℕ) (name : ℕ)
+      → known_skeleton wk (member_of w n name) ≡ known_skeleton wl (member_of w n name)
   known_same None name = refl
   known_same (Some n) name = by (member_in (body_of w.names.aggregates n) (w.spelling.key name)) refl
     where
@@ -134,7 +135,8 @@ module _ (w : World) (members : MembersBegin w) (k l : Further) where
   equal_met : LinksAreMet w → (d : Declared) → PlaceBegins w d.first → PlaceBegins w d.at → PlaceBegins w (equal_to w d)
   equal_met links d first here = by (is_place d.first d.at)
     where
-      linked : (link_of w.names d.at ≡ d.at) ⊎ PlaceBegins w (link_of w.names d.at) → PlaceBegins w (link_of w.names d.at)
+      linked : (link_of w.names d.at ≡ d.at) ⊎ PlaceBegins w (link_of w.names d.at)
+          → PlaceBegins w (link_of w.names d.at)
       linked (inl e) = subst (λ (p : Place). PlaceBegins w p) (sym e) here
       linked (inr h) = h
 
@@ -196,7 +198,8 @@ module _ (w : World) (members : MembersBegin w) (k l : Further) where
       if is_some_function (declared_at w.names.declared d.first) || is_nothing (contents t) then []
       else in_all w (word_span d.at) (flow Flow true s (contents t))
 
-  into_is : (k : Further) (o : Option Skel) (d : Declared) → into_param (world w k) o d ≡ into d o (skeleton (world w k) d.at)
+  into_is : (k : Further) (o : Option Skel) (d : Declared)
+      → into_param (world w k) o d ≡ into d o (skeleton (world w k) d.at)
   into_is k None d = refl
   into_is k (Some s) d = refl
 

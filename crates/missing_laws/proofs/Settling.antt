@@ -78,7 +78,8 @@ module _ (w : World) (well : AreWell w.names.declared) (uses_differ : UsesDiffer
   either_ok true bs x y R g left right = left refl g
   either_ok false bs x y R g left right = right refl g
 
-  pub typed_good : (bs : List Bool) (token : ℕ) (o : Option CType) (s : Names) → G bs s → G bs (typed_by u token o s).names
+  pub typed_good : (bs : List Bool) (token : ℕ) (o : Option CType) (s : Names) → G bs s
+      → G bs (typed_by u token o s).names
   typed_good bs token None s h = good_faults w well bs _ s h
   typed_good bs token (Some t) s h = h
 
@@ -471,7 +472,8 @@ module _ (w : World) (well : AreWell w.names.declared) (uses_differ : UsesDiffer
           (two.0, λ is. (one.1 is, two.1 is))
 
       pub words_ok : (q alone : Bool) (ws : SpecWords) (t : CType) (annotations : Words) (b : Bool) (bs : List Bool)
-          (s : Names) → AreSpecWords all ws → AreFound w (words_starts (a q) ws) → Grows (words_named u alone ws t annotations s).names S →
+          (s : Names) → AreSpecWords all ws → AreFound w (words_starts (a q) ws)
+          → Grows (words_named u alone ws t annotations s).names S →
           G (b ∷ bs) s → G (b ∷ bs) (words_named u alone ws t annotations s).names × WordsHave U V W ws
       words_ok q alone no_words t annotations b bs s wf found g h = (h, tt)
       words_ok q alone (more_words word ws) t annotations b bs s wf found g h =
@@ -579,7 +581,8 @@ module _ (w : World) (well : AreWell w.names.declared) (uses_differ : UsesDiffer
       some_value_ok q no_value b bs s wf found g h = h
       some_value_ok q (some_value token e) b bs s wf found g h = (expr_ok true true false e b bs s (λ is. absurd cc) wf.0 (λ is. absurd cc) found g h).0
 
-      enum_ok : (q : Bool) (e : EnumType) (b : Bool) (bs : List Bool) (s : Names) → IsEnum all e → AreFound w (enum_starts (a q) e) →
+      enum_ok : (q : Bool) (e : EnumType) (b : Bool) (bs : List Bool) (s : Names) → IsEnum all e
+          → AreFound w (enum_starts (a q) e) →
           Grows (enum_named u e s) S → G (b ∷ bs) s → G (b ∷ bs) (enum_named u e s)
       enum_ok q (enum_of keyword attrs tag no_enum_body) b bs s wf found g h = tag_good b bs false tags.Enum tag (base []) s h
       enum_ok q (enum_of keyword attrs tag (some_enum_body opening es last closing)) b bs s wf found g h =
@@ -718,7 +721,8 @@ module _ (w : World) (well : AreWell w.names.declared) (uses_differ : UsesDiffer
       some_init_ok q r (some_init equal it) b bs s l wf ch found g h = init_ok q r it b bs s l wf ch found g h
 
       init_declrs_ok : (q r : Bool) (words : List Keyword) (is_untagged : Bool) (t : CType) (ds : InitDeclrs)
-          (bs : List Bool) (s : Names) → Loud r bs → AreInitDeclrs all ds → (r ≡ false → AreChosen w (init_declrs_selections u S ds)) →
+          (bs : List Bool) (s : Names) → Loud r bs → AreInitDeclrs all ds
+          → (r ≡ false → AreChosen w (init_declrs_selections u S ds)) →
           AreFound w (init_declrs_starts (a q) ds) → Grows (init_declrs_named u words is_untagged t ds s) S →
           G (true ∷ bs) s →
           G (true ∷ bs) (init_declrs_named u words is_untagged t ds s) × (r ≡ false → InitDeclrsHave P U V W ds)
@@ -795,7 +799,8 @@ module _ (w : World) (well : AreWell w.names.declared) (uses_differ : UsesDiffer
           (back w (expr_starts (a q) e) _ behind) g three.0 in
           (four.0, λ is. (three.1, (one.1, (two.1 is, four.1 is))))
 
-      pub decl_ok : (q r : Bool) (d : Decl) (bs : List Bool) (s : Names) → Loud r bs → IsDecl all d → (r ≡ false → AreChosen w (decl_selections u S d)) →
+      pub decl_ok : (q r : Bool) (d : Decl) (bs : List Bool) (s : Names) → Loud r bs → IsDecl all d
+          → (r ≡ false → AreChosen w (decl_selections u S d)) →
           AreFound w (decl_starts (a q) d) → Grows (decl_named u d s) S → G (true ∷ bs) s →
           G (true ∷ bs) (decl_named u d s) × (r ≡ false → DeclHas P U V W d)
       decl_ok q r (decl_declaration d) bs s l wf ch found g h = declaration_ok q r d bs s l wf ch found g h
@@ -820,7 +825,8 @@ module _ (w : World) (well : AreWell w.names.declared) (uses_differ : UsesDiffer
       block_item_ok q r (block_stmt t) bs s l wf ch found g h = stmt_ok q r t bs s l wf ch found g h
       block_item_ok q r (block_labels keyword names semi) bs s l wf ch found g h = (h, λ is. tt)
 
-      stmt_ok : (q r : Bool) (t : Stmt) (bs : List Bool) (s : Names) → Loud r bs → IsStmt all t → (r ≡ false → AreChosen w (stmt_selections u S t)) →
+      stmt_ok : (q r : Bool) (t : Stmt) (bs : List Bool) (s : Names) → Loud r bs → IsStmt all t
+          → (r ≡ false → AreChosen w (stmt_selections u S t)) →
           AreFound w (stmt_starts (a q) t) → Grows (stmt_named u t s) S → G (true ∷ bs) s →
           G (true ∷ bs) (stmt_named u t s) × (r ≡ false → StmtHas P U V W t)
       stmt_ok q r (block opening items closing) bs s l wf ch found g h =

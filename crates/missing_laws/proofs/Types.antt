@@ -108,7 +108,8 @@ indexed (Some (struct ws n)) b h l p = pointed b l p
 indexed (Some (function ws ps r e)) b h l p = pointed b l p
 
 -- where a value is no element of a vector, one operand of `[ ]` is a pointer
-no_vector : (wide numbers first last : Bool) → (first && last && not (wide && numbers)) ≡ false → (wide && (numbers && last)) ≡ false →
+no_vector : (wide numbers first last : Bool) → (first && last && not (wide && numbers)) ≡ false
+    → (wide && (numbers && last)) ≡ false →
     (first && last) ≡ false
 no_vector wide numbers false last h k = refl
 no_vector wide numbers true false h k = refl

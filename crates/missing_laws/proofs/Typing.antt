@@ -180,7 +180,8 @@ module _ (w : World) (U V W : ℕ → Type 0) where
         InitListHas T U V W list
     untargeted_typed (init_list opening items last closing) k h = untargeted_items_typed items k h
 
-    untargeted_items_typed : (items : InitItems) → InitItemsHave K U V W items → untargeted_items_faults u s items ≡ [] →
+    untargeted_items_typed : (items : InitItems) → InitItemsHave K U V W items
+        → untargeted_items_faults u s items ≡ [] →
         InitItemsHave T U V W items
     untargeted_items_typed no_init_items k h = tt
     untargeted_items_typed (more_init_items ds equal it items) k h =
@@ -224,7 +225,8 @@ module _ (w : World) (U V W : ℕ → Type 0) where
           ),
         )
 
-    declaration_typed : (d : Declaration) → DeclarationHas K U V W d → declaration_faults u s d ≡ [] → DeclarationHas T U V W d
+    declaration_typed : (d : Declaration) → DeclarationHas K U V W d → declaration_faults u s d ≡ []
+        → DeclarationHas T U V W d
     declaration_typed (declaration exts ws ds semi) k h =
         (k.0, init_declrs_typed ds k.1 (last_none (words_faults u s ws) _ h))
 
@@ -240,7 +242,8 @@ module _ (w : World) (U V W : ℕ → Type 0) where
       block_items_typed items k.1 (last_none (block_item_faults u s item) _ h),
     )
 
-    block_item_typed : (item : BlockItem) → BlockItemHas K U V W item → block_item_faults u s item ≡ [] → BlockItemHas T U V W item
+    block_item_typed : (item : BlockItem) → BlockItemHas K U V W item → block_item_faults u s item ≡ []
+        → BlockItemHas T U V W item
     block_item_typed (block_decl d) k h = decl_typed d k h
     block_item_typed (block_stmt t) k h = stmt_typed t k h
     block_item_typed (block_labels keyword names semi) k h = tt
@@ -291,7 +294,8 @@ module _ (w : World) (U V W : ℕ → Type 0) where
     some_else_typed no_else k h = tt
     some_else_typed (some_else keyword t) k h = stmt_typed t k h
 
-    for_start_typed : (start : ForStart) → ForStartHas K U V W start → for_start_faults u s start ≡ [] → ForStartHas T U V W start
+    for_start_typed : (start : ForStart) → ForStartHas K U V W start → for_start_faults u s start ≡ []
+        → ForStartHas T U V W start
     for_start_typed (start_declaration d) k h = declaration_typed d k h
     for_start_typed (start_value e semi) k h = some_expr_typed e k h
 
@@ -351,7 +355,8 @@ module _ (w : World) (U V W : ℕ → Type 0) where
   item_typed (asm_item keyword group semi) k h = tt
   item_typed (semi_item semi) k h = tt
 
-  pub items_typed_of : (items : List Item) → ItemsHave K U V W items → items_faults_of u s items ≡ [] → ItemsHave T U V W items
+  pub items_typed_of : (items : List Item) → ItemsHave K U V W items → items_faults_of u s items ≡ []
+      → ItemsHave T U V W items
   items_typed_of [] k h = tt
   items_typed_of (item ∷ items) k h = (
     item_typed item k.0 (first_none (item_faults u s item) _ h),

@@ -18,7 +18,7 @@ use Rattle.c_tree.specs.WellFormed.{IsDeclr, IsSomeAbstract, IsSomeDirect, is_na
 use Rattle.type_table.specs.Types.{pointer}
 use Rattle.name_rules.specs.Scopes.{NameUse, TypeNamed, Use, is_place}
 use Rattle.name_rules.specs.Uses.{type_named_at, use_at}
-use Rattle.meaning_laws.proofs.Lists.{place_is, place_itself}
+use Rattle.name_rules.proofs.MeaningLaws.Lists.{place_is, place_itself}
 use Rattle.row_rules.specs.Starting.{Having, having_where, of_function, with_skeleton, without_skeleton}
 use Rattle.missing_laws.specs.Finding.{IsPrefix}
 
@@ -44,7 +44,8 @@ use_where : (b : Bool) (x y z : Use) → (b ≡ true → ⊥) → y ≡ z → (i
 use_where true x y z g h = absurd (g refl)
 use_where false x y z g h = h
 
-pub use_there : (xs ys : List NameUse) (it : NameUse) → UsesDiffer (xs ++ it ∷ ys) → use_at (xs ++ it ∷ ys) it.at ≡ it.use_of
+pub use_there : (xs ys : List NameUse) (it : NameUse) → UsesDiffer (xs ++ it ∷ ys)
+    → use_at (xs ++ it ∷ ys) it.at ≡ it.use_of
 use_there [] ys it h = ap (λ (b : Bool). if b then it.use_of else use_at ys it.at) (place_itself it.at)
 use_there (x ∷ xs) ys it h = use_where (is_place x.at it.at) x.use_of _ it.use_of
     (λ e. other_way x.at it.at (no_use_at xs ys it x.at h.0) e) (use_there xs ys it h.1)
@@ -54,7 +55,8 @@ type_where : (b : Bool) (x : CType) (o : Option CType) → (t : CType) × (o ≡
 type_where true x o h = (x, refl)
 type_where false x o h = h
 
-pub type_there : (xs ys : List TypeNamed) (it : TypeNamed) → (t : CType) × (type_named_at (xs ++ it ∷ ys) it.at ≡ Some t)
+pub type_there : (xs ys : List TypeNamed) (it : TypeNamed)
+    → (t : CType) × (type_named_at (xs ++ it ∷ ys) it.at ≡ Some t)
 type_there [] ys it = (it.type, ap (λ (b : Bool). if b then Some it.type else type_named_at ys it.at) (place_itself it.at))
 type_there (x ∷ xs) ys it = type_where (is_place x.at it.at) x.type _ (type_there xs ys it)
 
@@ -119,7 +121,8 @@ pub keeps : (o : Option Place) → (o ≡ None) ⊎ (is_own o ≡ true)
 keeps None = inl refl
 keeps (Some p) = inr refl
 
-pub where_ok : (bare : Bool) (o : Option Place) (h : Having) → OwnOk o h → OwnOk (own_where bare o) (having_where bare h)
+pub where_ok : (bare : Bool) (o : Option Place) (h : Having) → OwnOk o h
+    → OwnOk (own_where bare o) (having_where bare h)
 where_ok true o h ok = ok
 where_ok false None h ok = tt
 where_ok false (Some p) h ok = tt

@@ -1,5 +1,6 @@
 -- What holds at each expression of a form whose constraints count, at names that are declared. The sizes of arrays, the
--- widths of members, the values of enumerators, case labels, indices of designators, and operands of `sizeof` and `offsetof`
+-- widths of members, the values of enumerators, case labels, indices of designators, and operands of `sizeof` and
+-- `offsetof`
 -- give no constraints, and are left out.
 use Rattle.std.specs.Prelude.{◌≡◌, ℕ, List, [], ◌∷◌, Option, None, Some}
 use Rattle.c_tree.specs.Tree.{Expr, operation, cast, prefix, sizeof_value, sizeof_type, extension, index, call, dot, arrow, post, compound, name_use, number_use, char_use, text_use, paren, statement_expr, va_arg, va_start, va_copy, offset, Operator, comma, assign, cond, binary, SomeExpr, no_expr, some_expr, Exprs, no_exprs, more_exprs, SpecWords, no_words, more_words, SpecWord, storage, thread, inline_word, noreturn, qualifier, basic, struct_type, enum_type, typedef_name, attribute, SomeBody, no_body, some_body, StructItems, no_struct_items, more_struct_items, StructItem, member, member_semi, member_assert, MemDeclrs, no_mem_declrs, more_mem_declrs, MemDeclr, named, unnamed, Declr, pointer, declr_name, declr_paren, array, params, abs_pointer, abs_paren, abs_array, abs_params, SomeDeclr, no_declr, some_declr, Params, no_params, more_params, Init, init_value, init_braced, InitList, init_list, InitItems, no_init_items, more_init_items, SomeInit, no_init, some_init, InitDeclrs, no_init_declrs, more_init_declrs, Declaration, declaration, Decl, decl_declaration, decl_assert, BlockItems, no_block_items, more_block_items, BlockItem, block_decl, block_stmt, Stmt, block, expr_stmt, attr_stmt, label, case_stmt, default_stmt, if_stmt, switch_stmt, while_stmt, do_stmt, for_stmt, goto_stmt, continue_stmt, break_stmt, return_stmt, asm_stmt, SomeElse, no_else, some_else, ForStart, start_declaration, start_value, complex_part, label_use, compat, choose, generic, typeof_value, typeof_type, align, auto_word, range_desig, old_desig, case_range, goto_value, block_labels, identifiers, base_name, Assocs, no_assocs, more_assocs, Assoc, typed_assoc, default_assoc}
@@ -7,6 +8,7 @@ use Rattle.c_tree.specs.Unit.{Item, function_item, decl_item, asm_item, semi_ite
 use Rattle.name_rules.specs.Spellings.{Named}
 use Rattle.type_rules.specs.Tokens.{declared_name, some_declared_name}
 
+-- at the token of a name, if there is one
 abbrev pub NamedHas : (ℕ → Type 0) → Option Named → Type 0
 NamedHas Q None = Unit {0}
 NamedHas Q (Some it) = Q it.token
@@ -14,6 +16,7 @@ NamedHas Q (Some it) = Q it.token
 -- `U`: at the keyword of a struct or union without a tag that is a member, and at the name of a function with a body;
 -- `V`: at each name that a declaration or a member declares; `W`: at each name of a parameter
 module _ (U V W : ℕ → Type 0) where
+  -- at a struct or union without a tag that is a member; other words have nothing of this
   abbrev pub UnnamedHas : SpecWord → Type 0
   UnnamedHas (struct_type word attrs None body) = U word.token
   UnnamedHas (struct_type word attrs (Some tag) body) = Unit {0}
@@ -31,15 +34,18 @@ module _ (U V W : ℕ → Type 0) where
   UnnamedHas (align attr) = Unit {0}
   UnnamedHas (auto_word token) = Unit {0}
 
+  -- at each struct or union without a tag among the words of a member that has no declarator
   abbrev pub UnnamedHave : SpecWords → Type 0
   UnnamedHave no_words = Unit {0}
   UnnamedHave (more_words word words) = UnnamedHas word × UnnamedHave words
 
   abbrev mutual
+    -- in the bodies of structs and unions among specifiers
     pub WordsHave : SpecWords → Type 0
     WordsHave no_words = Unit {0}
     WordsHave (more_words word words) = WordHas word × WordsHave words
 
+    -- in the body of a struct or union
     pub WordHas : SpecWord → Type 0
     WordHas (struct_type word attrs tag body) = SomeBodyHas body
     WordHas (storage word) = Unit {0}
@@ -56,31 +62,38 @@ module _ (U V W : ℕ → Type 0) where
     WordHas (align attr) = Unit {0}
     WordHas (auto_word token) = Unit {0}
 
+    -- in the body of a struct or union, where it has one
     pub SomeBodyHas : SomeBody → Type 0
     SomeBodyHas no_body = Unit {0}
     SomeBodyHas (some_body opening items closing) = StructItemsHave items
 
+    -- at the members of a struct or union
     pub StructItemsHave : StructItems → Type 0
     StructItemsHave no_struct_items = Unit {0}
     StructItemsHave (more_struct_items item items) = StructItemHas item × StructItemsHave items
 
+    -- at the members of one declaration in a struct or union
     pub StructItemHas : StructItem → Type 0
     StructItemHas (member exts ws ds semi) = WordsHave ws × MembersHave ws ds
     StructItemHas (member_semi semi) = Unit {0}
     StructItemHas (member_assert it) = Unit {0}
 
+    -- at the names of a member's declaration, or at the struct or union that is a member without a name
     pub MembersHave : SpecWords → MemDeclrs → Type 0
     MembersHave ws no_mem_declrs = UnnamedHave ws
     MembersHave ws (more_mem_declrs attrs d ds) = MemDeclrHas d × MemDeclrsHave ds
 
+    -- at further declarators of a member's declaration
     pub MemDeclrsHave : MemDeclrs → Type 0
     MemDeclrsHave no_mem_declrs = Unit {0}
     MemDeclrsHave (more_mem_declrs attrs d ds) = MemDeclrHas d × MemDeclrsHave ds
 
+    -- at the name of a member, and in its declarator; a width without a name declares nothing
     pub MemDeclrHas : MemDeclr → Type 0
     MemDeclrHas (named d width attrs) = NamedHas V (declared_name d) × DeclrHas d
     MemDeclrHas (unnamed colon e attrs) = Unit {0}
 
+    -- in the lists of parameters of a declarator
     pub DeclrHas : Declr → Type 0
     DeclrHas (pointer star words d) = DeclrHas d
     DeclrHas (declr_name token name) = Unit {0}
@@ -94,10 +107,12 @@ module _ (U V W : ℕ → Type 0) where
     DeclrHas (identifiers d opening names closing) = DeclrHas d
     DeclrHas (base_name token) = Unit {0}
 
+    -- in those of a declarator that may be absent
     pub SomeDeclrHas : SomeDeclr → Type 0
     SomeDeclrHas no_declr = Unit {0}
     SomeDeclrHas (some_declr d) = DeclrHas d
 
+    -- at the name of each parameter, and in its specifiers and declarator
     pub ParamsHave : Params → Type 0
     ParamsHave no_params = Unit {0}
     ParamsHave (more_params ws d attrs ps) =
@@ -106,6 +121,7 @@ module _ (U V W : ℕ → Type 0) where
 -- `P`: at an expression
 module _ (P : Expr → Type 0) (U V W : ℕ → Type 0) where
   abbrev mutual
+    -- at an expression, and at all expressions in it whose constraints count
     pub ExprHas : Expr → Type 0
     ExprHas (operation e op token e2) = P (operation e op token e2) × (ExprHas e × (OperatorHas op × ExprHas e2))
     ExprHas (cast opening ws d closing e) =
@@ -143,65 +159,80 @@ module _ (P : Expr → Type 0) (U V W : ℕ → Type 0) where
         P (choose keyword opening e separator e2 separator2 e3 closing) × (ExprHas e2 × ExprHas e3)
     ExprHas (generic keyword opening e xs closing) = P (generic keyword opening e xs closing) × AssocsHave xs
 
+    -- at the associations of `_Generic`
     pub AssocsHave : Assocs → Type 0
     AssocsHave no_assocs = Unit {0}
     AssocsHave (more_assocs x xs) = AssocHas x × AssocsHave xs
 
+    -- at an association, whose type name declares no name
     pub AssocHas : Assoc → Type 0
     AssocHas (typed_assoc ws d colon e) =
         WordsHave U V W ws × (((some_declared_name d ≡ None) × SomeDeclrHas U V W d) × ExprHas e)
     AssocHas (default_assoc keyword colon e) = ExprHas e
 
+    -- at the middle of `?:`
     pub OperatorHas : Operator → Type 0
     OperatorHas comma = Unit {0}
     OperatorHas (assign p) = Unit {0}
     OperatorHas (cond middle colon) = SomeExprHas middle
     OperatorHas (binary p) = Unit {0}
 
+    -- at an expression that may be left out
     pub SomeExprHas : SomeExpr → Type 0
     SomeExprHas no_expr = Unit {0}
     SomeExprHas (some_expr e) = ExprHas e
 
+    -- at the arguments of a call
     pub ExprsHave : Exprs → Type 0
     ExprsHave no_exprs = Unit {0}
     ExprsHave (more_exprs e es) = ExprHas e × ExprsHave es
 
+    -- at the expressions of an initialiser
     pub InitHas : Init → Type 0
     InitHas (init_value e) = ExprHas e
     InitHas (init_braced list) = InitListHas list
 
+    -- at the expressions of a braced list
     pub InitListHas : InitList → Type 0
     InitListHas (init_list opening items last closing) = InitItemsHave items
 
+    -- at the expressions of its items, designators aside
     pub InitItemsHave : InitItems → Type 0
     InitItemsHave no_init_items = Unit {0}
     InitItemsHave (more_init_items ds equal init items) = InitHas init × InitItemsHave items
 
+    -- at the expressions of an initialiser that may be left out
     pub SomeInitHas : SomeInit → Type 0
     SomeInitHas no_init = Unit {0}
     SomeInitHas (some_init equal init) = InitHas init
 
+    -- at the names of a declaration, and in their declarators and initialisers
     pub InitDeclrsHave : InitDeclrs → Type 0
     InitDeclrsHave no_init_declrs = Unit {0}
     InitDeclrsHave (more_init_declrs attrs d asm_label attrs2 init ds) =
         NamedHas V (declared_name d) × (DeclrHas U V W d × (SomeInitHas init × InitDeclrsHave ds))
 
+    -- in a declaration
     pub DeclarationHas : Declaration → Type 0
     DeclarationHas (declaration exts ws ds semi) = WordsHave U V W ws × InitDeclrsHave ds
 
+    -- in a declaration; an assertion has nothing of this
     pub DeclHas : Decl → Type 0
     DeclHas (decl_declaration d) = DeclarationHas d
     DeclHas (decl_assert it) = Unit {0}
 
+    -- in the items of a block
     pub BlockItemsHave : BlockItems → Type 0
     BlockItemsHave no_block_items = Unit {0}
     BlockItemsHave (more_block_items item items) = BlockItemHas item × BlockItemsHave items
 
+    -- in an item of a block
     pub BlockItemHas : BlockItem → Type 0
     BlockItemHas (block_decl d) = DeclHas d
     BlockItemHas (block_stmt t) = StmtHas t
     BlockItemHas (block_labels keyword names semi) = Unit {0}
 
+    -- in a statement
     pub StmtHas : Stmt → Type 0
     StmtHas (block opening items closing) = BlockItemsHave items
     StmtHas (expr_stmt e semi) = SomeExprHas e
@@ -223,14 +254,17 @@ module _ (P : Expr → Type 0) (U V W : ℕ → Type 0) where
     StmtHas (case_range keyword e dots e2 colon t) = StmtHas t
     StmtHas (goto_value keyword star e semi) = ExprHas e
 
+    -- in the statement behind `else`, if any
     pub SomeElseHas : SomeElse → Type 0
     SomeElseHas no_else = Unit {0}
     SomeElseHas (some_else keyword t) = StmtHas t
 
+    -- in the first clause of a `for`
     pub ForStartHas : ForStart → Type 0
     ForStartHas (start_declaration d) = DeclarationHas d
     ForStartHas (start_value e semi) = SomeExprHas e
 
+  -- in the declarations behind a list of identifiers
   abbrev pub DeclarationsHave : List Declaration → Type 0
   DeclarationsHave [] = Unit {0}
   DeclarationsHave (d ∷ ds) = DeclarationHas d × DeclarationsHave ds
@@ -249,6 +283,7 @@ module _ (P : Expr → Type 0) (U V W : ℕ → Type 0) where
   OldDeclrHas ds (abs_array d opening words size closing) = DeclrHas U V W (abs_array d opening words size closing)
   OldDeclrHas ds (abs_params d opening ps dots closing) = DeclrHas U V W (abs_params d opening ps dots closing)
 
+  -- in an item of a unit
   abbrev pub ItemHas : Item → Type 0
   ItemHas (function_item exts ws d attrs opening items closing) =
       NamedHas U (declared_name d) × (NamedHas V (declared_name d) × (WordsHave U V W ws × (DeclrHas U V W d × BlockItemsHave items)))
@@ -258,6 +293,7 @@ module _ (P : Expr → Type 0) (U V W : ℕ → Type 0) where
   ItemHas (asm_item keyword group semi) = Unit {0}
   ItemHas (semi_item semi) = Unit {0}
 
+  -- in all items of a unit
   abbrev pub ItemsHave : List Item → Type 0
   ItemsHave [] = Unit {0}
   ItemsHave (item ∷ items) = ItemHas item × ItemsHave items

@@ -38,6 +38,7 @@ IsSite w (Some f) p = has_place w.sites p ≡ true
 abbrev pub IsFound : World → Start → Type 0
 IsFound w start = Begins w start.at start.type × IsSite w start.calls start.at
 
+-- all of these skeletons and call sites are found
 abbrev pub AreFound : World → List Start → Type 0
 AreFound w [] = Unit {0}
 AreFound w (start ∷ starts) = IsFound w start × AreFound w starts
@@ -81,6 +82,7 @@ is_prefix signs.Tilde = true
 is_prefix signs.Bang = true
 is_prefix p = false
 
+-- the sign stands before an operand (6.5.3)
 abbrev pub IsPrefix : Punct → Type 0
 IsPrefix p = is_prefix p ≡ true
 

@@ -1,2 +1,3 @@
 mod Linking
 mod Cutting
+pub mod Lasts

@@ -20,7 +20,8 @@ alike n = elim (eqb_tells n n) [ inl same ↦ same.0 | inr other ↦ absurd (oth
 apart : (a n : ℕ) → n ≢ a → eqb a n ≡ false
 apart a n other = elim (eqb_tells a n) [ inl same ↦ absurd (other (sym same.1)) | inr not ↦ not.0 ]
 
-get_left : {X : Type 0} (xs : List X) (last : X) (n : ℕ) → n < length xs → slice_get (xs ++ last ∷ []) n ≡ slice_get xs n
+get_left : {X : Type 0} (xs : List X) (last : X) (n : ℕ) → n < length xs
+    → slice_get (xs ++ last ∷ []) n ≡ slice_get xs n
 get_left [] last n lt = absurd (omega (arith, lt))
 get_left (x ∷ xs) last zero lt = refl
 get_left (x ∷ xs) last (suc n) lt = get_left xs last n (omega (arith, lt))
@@ -84,7 +85,8 @@ module _ {V : Type 0} where
       ∙ sym (there_from (reverse xs) n (link - 1) at) ∙ ap (λ es. newest es n) view
 
   -- the newest entry of a name among some of the newest
-  pub among : (es : List (ℕ × V)) (count n : ℕ) → length es - count < link_of es n → newest (take count es) n ≡ newest es n
+  pub among : (es : List (ℕ × V)) (count n : ℕ) → length es - count < link_of es n
+      → newest (take count es) n ≡ newest es n
   among [] count n lt = absurd (omega (arith, lt))
   among (e ∷ es) zero n lt = let le = link_bound (e ∷ es) n in absurd (omega (arith, lt, le))
   among (e ∷ es) (suc count) n lt = by_test (eqb e.0 n) lt (among es count n)

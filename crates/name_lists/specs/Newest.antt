@@ -16,11 +16,12 @@ abbrev pub newest_through : {V : Type 0} → List (List (ℕ × V)) → ℕ → 
 newest_through [] name = None
 newest_through (scope ∷ outer) name = or_outer (newest scope name) (newest_through outer name)
 
--- the innermost scope, and what is open round it
+-- the innermost scope; without names where none is open
 abbrev pub innermost : {V : Type 0} → List (List (ℕ × V)) → List (ℕ × V)
 innermost [] = []
 innermost (scope ∷ outer) = scope
 
+-- what is open round the innermost scope
 abbrev pub outer_scopes : {V : Type 0} → List (List (ℕ × V)) → List (List (ℕ × V))
 outer_scopes [] = []
 outer_scopes (scope ∷ outer) = outer

@@ -1,4 +1,8 @@
 //! Lists of names, and of scopes of names, in which the newest entry of a name is found at once.
+//!
+//! Entry: `NameList`, `NameScopes`. Invariant: the newest entry of a name is that which was put last and is still
+//! there.
+//! It does not know what names stand for. Above: `held_scopes`, `name_tables`.
 #![tactic(auto)]
 
 mod list;

@@ -9,26 +9,33 @@ use Rattle.name_rules.specs.Faults.{Fault, not_pointer, not_function, no_member,
 use Rattle.name_rules.specs.Scopes.{Declared, Names}
 use Rattle.name_rules.specs.Values.{Shape, value, points_to_function, takes, lacks_member, is_no_pointer, is_base_value, Target, next_target, named_target}
 
+-- whether the operand of a prefix operator has to be a place: that of `&`, `++` and `--` (6.5.3.1, 6.5.3.2)
 abbrev pub wants_place : Punct → Bool
 wants_place signs.Ampersand = true
 wants_place signs.PlusPlus = true
 wants_place signs.MinusMinus = true
 wants_place p = false
 
+-- whether a prefix operator is `*`
 abbrev pub is_star : Punct → Bool
 is_star signs.Star = true
 is_star p = false
 
+-- the faults of a prefix operator: an operand that should be a place and is none, or that `*` is applied to and is no
+-- pointer
 abbrev pub prefix_faults : Place → Punct → Shape → List Fault
 prefix_faults at p e =
     fault_where (wants_place p && not e.is_place) at not_place
     ++ fault_where (is_star p && is_no_pointer (value e)) at not_pointer
 
+-- the faults of a call with so many arguments: what is called is no function, or has another number of parameters
+-- (6.5.2.2)
 abbrev pub call_faults : Place → Option CType → ℕ → List Fault
 call_faults at None n = []
 call_faults at (Some t) n =
     fault_where (not (points_to_function t)) at not_function ++ fault_where (not (takes t n)) at argument_count
 
+-- the type of a declaration, where there is one
 abbrev pub type_declared : Option Declared → Option CType
 type_declared None = None
 type_declared (Some d) = Some d.type

@@ -1,7 +1,8 @@
 -- What a use or a declaration of a name says of names (C99, 6.2.1 to 6.2.3, 6.7).
 --
 -- A declaration of a name that its scope already declares is a further declaration of the same thing. An object that a
--- block declares `extern` and a function that a block declares are always the file's. What the prelude declares is in every
+-- block declares `extern` and a function that a block declares are always the file's. What the prelude declares is in
+-- every
 -- source one with the file's object or function of that name. A use of a name has the type of its first declaration.
 use Rattle.std.specs.Prelude.{ℕ, nat_eq, Bool, true, false, ◌&&◌, ◌||◌, List, [], ◌∷◌, ◌++◌, length, Option, None, Some, if◌then◌else◌, not}
 use Rattle.c_words.specs.declared.kinds.Keyword.{Keyword}
@@ -16,28 +17,35 @@ use Rattle.name_rules.specs.Pieces.{is_function}
 
 -- uses
 
+-- what a name in an expression stands for, by its meaning in the visible scopes and by whether it is called directly;
+-- the name of a type stands for nothing there
 abbrev pub use_by : Option Meaning → Bool → Use
 use_by None true = called
 use_by None false = missing
 use_by (Some (means_thing at)) is_called = means at
 use_by (Some (means_type t)) is_called = missing
 
+-- whether a use has no declaration and is not called directly either
 abbrev pub is_missing : Use → Bool
 is_missing (means at) = false
 is_missing called = false
 is_missing missing = true
 
+-- a use is noted, with the fault that its name is undeclared where that is so
 abbrev pub used_as : Place → Use → Names → Names
 used_as at it s =
     with_faults (fault_where (is_missing it) at undeclared)
     (record s { uses = s.uses ++ record { at = at; use_of = it } ∷ [] })
 
+-- a name in an expression, looked up in the scopes and noted
 abbrev pub used : Spelling → Bool → ℕ → ℕ → Names → Names
 used u is_called token name s = used_as (place u token) (use_by (meaning s (u.key name)) is_called) s
 
+-- a type's name (6.7.6) is noted with its type, which may be too large
 abbrev pub type_named : Place → CType → Names → Names
 type_named at t s = sized at t (record s { type_names = s.type_names ++ record { at = at; type = t } ∷ [] })
 
+-- the type that a name stands for as a typedef; a base type where it stands for no type
 abbrev pub type_by : Option Meaning → CType
 type_by (Some (means_type t)) = t
 type_by (Some (means_thing at)) = base []
@@ -49,10 +57,12 @@ type_by None = base []
 abbrev pub new_tag : Spelling → TagKind → ℕ → ℕ → Names → Names
 new_tag u kind token tag s = tag_bound kind (u.key tag) (length s.aggregates) (with_aggregate kind (place u token) s)
 
+-- what a tag means: the number of a struct, union or enum, and names, to which it was added where it is new
 pub record Numbered : Type 0 where
   pub number : ℕ
   pub names : Names
 
+-- the struct, union or enum that was found for a tag, or else a new one
 abbrev pub found_or_new : Option ℕ → Spelling → TagKind → ℕ → ℕ → Names → Numbered
 found_or_new (Some n) u kind token tag s = record { number = n; names = s }
 found_or_new None u kind token tag s = record { number = length s.aggregates; names = new_tag u kind token tag s }
@@ -81,6 +91,7 @@ pub record Begun : Type 0 where
   pub members_of : ℕ
   pub names : Names
 
+-- a struct, union or enum has a body from here on, without members where it had none
 abbrev pub opened : ℕ → Names → Names
 opened n s = with_body n (λ body. body) s
 
@@ -89,6 +100,8 @@ abbrev pub tag_known : Option ℕ → ℕ → Names → Names
 tag_known None n s = s
 tag_known (Some tag) n s = if is_at_file s then with_key n false tag s else s
 
+-- a body begins, by whether its tag has one already: a second one is at fault, and its members go to a new struct of
+-- their own
 abbrev pub begun_in : Bool → Place → TagKind → Option ℕ → Numbered → Begun
 begun_in true at kind tag it =
     record {
@@ -104,6 +117,7 @@ begun_in false at kind tag it =
       names = tag_known tag it.number (opened it.number it.names);
     }
 
+-- the body of a struct, union or enum begins, of a tag or of none
 abbrev pub begun_body : Place → TagKind → Option ℕ → Numbered → Begun
 begun_body at kind tag it = begun_in (has_body (body_of it.names.aggregates it.number)) at kind tag it
 
@@ -111,11 +125,13 @@ begun_body at kind tag it = begun_in (has_body (body_of it.names.aggregates it.n
 abbrev pub tag_begun : Spelling → TagKind → ℕ → ℕ → Names → Begun
 tag_begun u kind token tag s = begun_body (place u token) kind (Some (u.key tag)) (tag_used u true kind token tag s)
 
+-- the body of a struct, union or enum without a tag begins
 abbrev pub untagged_begun : Place → TagKind → Names → Begun
 untagged_begun at kind s = begun_body at kind None (untagged at kind s)
 
 -- declaring
 
+-- the number of the struct or union that a type is, and 0 for other types
 abbrev pub struct_number : CType → ℕ
 struct_number (struct ws n) = n
 struct_number (base ws) = 0
@@ -127,11 +143,13 @@ struct_number (function ws ps r e) = 0
 abbrev pub untagged_number : Bool → CType → Option ℕ
 untagged_number is_untagged t = if is_untagged then Some (struct_number t) else None
 
+-- where the thing that a name means was first declared: here, where the name means no thing yet
 abbrev pub the_thing : Option Meaning → Place → Place
 the_thing (Some (means_thing first)) at = first
 the_thing (Some (means_type t)) at = at
 the_thing None at = at
 
+-- the first of two places that is there
 abbrev pub or_at : Option Place → Place → Place
 or_at None at = at
 or_at (Some first) at = first
@@ -140,6 +158,7 @@ or_at (Some first) at = first
 abbrev pub owner_where : Names → Place → Place → Option Place → Option Place
 owner_where s first at own = if is_place first at then own else owner_at s first
 
+-- a declaration is noted, with the place where its thing was first declared and with its owner
 abbrev pub declaring : Place → Role → Place → CType → Option Place → Names → Names
 declaring at role first t own s =
     with_declared (record { at = at; role = role; first = first; type = t; owner = owner_where s first at own }) s
@@ -150,11 +169,13 @@ declared_here at name role t own s =
     bound name (means_thing (the_thing (inner_meaning s name) at))
     (declaring at role (the_thing (inner_meaning s name) at) t own s)
 
--- where the object or function of the file that has a name was first declared in this unit, or else in the prelude; here, where that is
+-- where the object or function of the file that has a name was first declared in this unit, or else in the prelude;
+-- here, where that is
 -- new
 abbrev pub linked : ℕ → Place → Names → Place
 linked name at s = or_at (or_place (thing_of at.0 s.things name) (thing_of 0 s.things name)) at
 
+-- whether two storage words are one and the same, of `typedef`, `extern`, `static` and `inline`
 abbrev pub is_word : Keyword → Keyword → Bool
 is_word keywords.Typedef keywords.Typedef = true
 is_word keywords.Extern keywords.Extern = true
@@ -162,14 +183,16 @@ is_word keywords.Static keywords.Static = true
 is_word keywords.Inline keywords.Inline = true
 is_word word other = false
 
+-- whether a storage word is among those of a declaration
 abbrev pub has_word : Keyword → List Keyword → Bool
 has_word word [] = false
 has_word word (w ∷ ws) = is_word word w || has_word word ws
 
--- a new object or function of the file
+-- an object or function of the file is noted, where it is new
 abbrev pub thing_where : Bool → ℕ → Place → Names → Names
 thing_where is_new name at s = if is_new then record s { things = (name, at) ∷ s.things } else s
 
+-- the object or function of a name is noted as `static` in a unit, where its declaration says so
 abbrev pub static_where : Bool → ℕ → ℕ → Names → Names
 static_where is_static unit name s = if is_static then record s { statics = (unit, name) ∷ s.statics } else s
 
@@ -181,6 +204,7 @@ declared_thing words at name t s =
     (if is_function t then Some at else None)
     (static_where (has_word keywords.Static words) at.0 name (thing_where (is_place (linked name at s) at) name at s)))
 
+-- a typedef declares a name (6.7.7)
 abbrev pub declared_typedef : Place → ℕ → CType → Names → Names
 declared_typedef at name t s = bound name (means_type t) (declaring at typedef_role at t None s)
 
@@ -191,13 +215,15 @@ declared_by words at name t s =
     else if is_at_file s || (is_function t || has_word keywords.Extern words) then declared_thing words at name t s
     else declared_here at name object_role t (if has_word keywords.Static words then None else s.enclosing) s
 
--- the struct of this number, which has no tag and is a word of a declaration with these words, is known by the first name there where
--- that is a typedef of the file
+-- A struct or union without a tag in the specifiers of a typedef at file scope is known in other sources by the first
+-- name
+-- that is declared there.
 abbrev pub typedef_known : List Keyword → ℕ → Option ℕ → Names → Names
 typedef_known words name None s = s
 typedef_known words name (Some n) s =
     if has_word keywords.Typedef words && is_at_file s then with_key n true name s else s
 
+-- a declarator of a declaration declares its name, where it has one, with its type
 abbrev pub declared_some : Spelling → Option ℕ → Option Named → List Keyword → CType → Names → Names
 declared_some u untagged None words t s = s
 declared_some u untagged (Some it) words t s =
@@ -218,6 +244,7 @@ declared_member u (Some it) n t s =
     (declaring (place u it.token) (field_role n (length (or_no_body (body_of s.aggregates n)).own))
     (place u it.token) t None s))
 
+-- a member without a name, of a struct or union type, in the struct of this number; its members count there too
 abbrev pub unnamed_member : Place → ℕ → CType → Names → Names
 unnamed_member at n t s =
     with_body n (with_unnamed at t (or_no_body (body_of s.aggregates (struct_number t))).known)
@@ -230,6 +257,7 @@ abbrev pub own_where : Bool → Option Place → Option Place
 own_where true own = own
 own_where false own = None
 
+-- the scope of a list of parameters ends; where they are a function's own it is kept for its body
 abbrev pub keep : Option Place → Names → Names
 keep None s = leave s
 keep (Some own) s = leave (record s { kept = Some (innermost s.scopes) })
@@ -239,6 +267,7 @@ abbrev pub has_body_in : ℕ → List Bodied → Place → Bool
 has_body_in unit [] first = false
 has_body_in unit (it ∷ bodies) first = (nat_eq it.at.0 unit && is_place it.first first) || has_body_in unit bodies first
 
+-- the scope that was kept for a body, inside of those that are open
 abbrev pub scope_kept : Option Scope → List Scope → List Scope
 scope_kept None scopes = scopes
 scope_kept (Some scope) scopes = scope ∷ scopes
@@ -268,5 +297,6 @@ abbrev pub body_entered : Place → Place → Bool → Bool → Names → Names
 body_entered at first is_plain is_counted s =
     body_begun first (if is_counted then body_counted at first is_plain s else s)
 
+-- the body of a function ends, and its scope
 abbrev pub body_left : Names → Names
 body_left s = leave (record s { enclosing = None })

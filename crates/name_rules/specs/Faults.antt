@@ -23,6 +23,7 @@ pub data Rule : Type 0 where
   -- an expression that a type is made by has none by what is known behind it
   no_type : Rule
 
+-- the number of a rule, by which the lower one of two faults at one token comes first
 abbrev pub number : Rule → ℕ
 number undeclared = 1
 number not_pointer = 2
@@ -34,6 +35,7 @@ number defined_twice = 7
 number type_too_large = 8
 number no_type = 9
 
+-- what is wrong in a unit: the token, and the rule that it breaks
 pub record Fault : Type 0 where
   pub at : Place
   pub rule : Rule

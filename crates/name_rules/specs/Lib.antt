@@ -9,3 +9,6 @@ pub mod Units
 pub mod Uses
 pub mod Values
 pub mod Identifiers
+pub mod ShapeSteps
+pub mod NameSteps
+pub mod MeaningLaws

@@ -1,8 +1,11 @@
 -- What is one thing in several sources (C99, 6.2.2 and 6.2.7), by what is known behind all units.
 --
--- An object or function of a source's file scope is internal where a declaration of it there has `static`, and else external.
--- External ones of one name are linked. Definitions of structs and unions at file scope that have one key are linked where several
--- sources have them, and so are their members that have names. The first of what is linked is its link; what is linked with nothing is
+-- An object or function of a source's file scope is internal where a declaration of it there has `static`, and else
+-- external.
+-- External ones of one name are linked. Definitions of structs and unions at file scope that have one key are linked
+-- where several
+-- sources have them, and so are their members that have names. The first of what is linked is its link; what is linked
+-- with nothing is
 -- its own. What the prelude declares is in all sources one by its name already, and so is its own link.
 use Rattle.std.specs.Prelude.{ℕ, nat_eq, nat_lt, Bool, false, not, ◌&&◌, ◌||◌, List, [], ◌∷◌, ◌++◌, Option, None, Some, option_and_then, if◌then◌else◌}
 use Rattle.name_rules.specs.Spellings.{Place}
@@ -22,6 +25,7 @@ is_internal (it ∷ statics) unit name = (nat_eq it.0 unit && nat_eq it.1 name) 
 abbrev pub is_external : List (ℕ × ℕ) → ℕ → Place → Bool
 is_external statics name p = not (nat_eq p.0 0) && not (is_internal statics p.0 name)
 
+-- a place, where a condition holds
 abbrev pub place_where : Bool → Place → Option Place
 place_where is_there p = if is_there then Some p else None
 
@@ -36,17 +40,20 @@ abbrev pub thing_linked : List (ℕ × ℕ) → List (ℕ × Place) → Place �
 thing_linked statics all p it =
     if is_place it.1 p && is_external statics it.0 it.1 then first_external statics all it.0 else None
 
+-- the link of the object or function that was first declared at a place, where it is external
 abbrev pub thing_link : List (ℕ × ℕ) → List (ℕ × Place) → List (ℕ × Place) → Place → Option Place
 thing_link statics all [] p = None
 thing_link statics all (it ∷ things) p = or_place (thing_linked statics all p it) (thing_link statics all things p)
 
 -- members of structs and unions
 
+-- whether two definitions of structs or unions are known by one key: one keyword, and one tag or one typedef name
 abbrev pub is_same_key : StructKey → StructKey → Bool
 is_same_key key other =
     is_kind key.kind other.kind
     && ((if key.by_typedef then other.by_typedef else not other.by_typedef) && nat_eq key.name other.name)
 
+-- whether a definition is known by this key
 abbrev pub is_key : StructKey → Option StructKey → Bool
 is_key key None = false
 is_key key (Some other) = is_same_key key other
@@ -60,10 +67,12 @@ abbrev pub is_elsewhere : ℕ → StructKey → List Aggregate → Bool
 is_elsewhere unit key [] = false
 is_elsewhere unit key (it ∷ others) = (defines key it && not (nat_eq it.at.0 unit)) || is_elsewhere unit key others
 
+-- the place of a member, where there is one
 abbrev pub place_of : Option Known → Option Place
 place_of None = None
 place_of (Some it) = Some it.at
 
+-- the place of the member that a struct has by a name, where a condition holds
 abbrev pub member_where : Bool → Aggregate → ℕ → Option Place
 member_where is_known it name = if is_known then place_of (member_in it.body name) else None
 
@@ -72,6 +81,7 @@ abbrev pub member_among : StructKey → ℕ → List Aggregate → Option Place
 member_among key name [] = None
 member_among key name (it ∷ others) = or_place (member_where (defines key it) it name) (member_among key name others)
 
+-- whether there is a place, and it is this one
 abbrev pub is_found : Place → Option Place → Bool
 is_found p None = false
 is_found p (Some q) = is_place q p
@@ -91,6 +101,7 @@ linked_in all p it (Some key) (Some body) =
     if defines key it && is_elsewhere it.at.0 key all
     then option_and_then (λ name. member_among key name all) (name_found body body.known p) else None
 
+-- the link of the member that was declared at a place, where its definition is linked
 abbrev pub member_link : List Aggregate → List Aggregate → Place → Option Place
 member_link all [] p = None
 member_link all (it ∷ others) p = or_place (linked_in all p it it.key it.body) (member_link all others p)
@@ -109,7 +120,7 @@ has_earlier s it (other ∷ bodies) =
     (other.is_plain && (nat_lt other.at.0 it.at.0 && is_place (link_of s other.first) (link_of s it.first)))
     || has_earlier s it bodies
 
--- in the order of the text
+-- the faults of second bodies, in the order of the text
 abbrev pub faults_in : Names → List Bodied → List Fault
 faults_in s [] = []
 faults_in s (it ∷ bodies) =

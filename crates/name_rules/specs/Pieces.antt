@@ -3,6 +3,7 @@
 use Rattle.std.specs.Prelude.{Bool, true, false, List, [], ◌∷◌, ◌++◌, Option, None, Some}
 use Rattle.type_table.specs.Types.{Words, CType, base, void, struct, pointer, function, CTypes, no_types, more_types}
 
+-- a type with further annotation words on its outermost constructor
 abbrev pub with_words : Words → CType → CType
 with_words more (base ws) = base (ws ++ more)
 with_words more (void ws) = void (ws ++ more)
@@ -18,11 +19,12 @@ decayed (struct ws n) = struct ws n
 decayed (pointer ws t) = pointer ws t
 decayed (function ws ps r e) = pointer [] (function ws ps r e)
 
--- a type without annotation words, on each node and before each ellipsis
+-- an ellipsis without annotation words
 abbrev pub bare_ellipsis : Option Words → Option Words
 bare_ellipsis None = None
 bare_ellipsis (Some es) = Some []
 
+-- a type without annotation words, on each node and before each ellipsis
 abbrev mutual
   pub bare : CType → CType
   bare (base ws) = base []
@@ -35,6 +37,7 @@ abbrev mutual
   all_bare no_types = no_types
   all_bare (more_types t ts) = more_types (bare t) (all_bare ts)
 
+-- whether a type is that of a function
 abbrev pub is_function : CType → Bool
 is_function (base ws) = false
 is_function (void ws) = false
@@ -47,6 +50,7 @@ pub data Piece : Type 0 where
   to_pointer : Words → Piece
   to_function : CTypes → Option Words → Piece
 
+-- the type that one piece of a declarator makes of the type outside of it
 abbrev pub piece_of : Piece → CType → CType
 piece_of (to_pointer ws) t = pointer ws t
 piece_of (to_function ps e) t = function [] ps (decayed t) e
@@ -57,10 +61,12 @@ abbrev pub applied : List Piece → CType → CType
 applied [] t = t
 applied (p ∷ ps) t = piece_of p (applied ps t)
 
+-- the types of a list of parameters, none where it says that there are none, as `(void)` does (6.7.5.3)
 abbrev pub no_params_if : Bool → CTypes → CTypes
 no_params_if true types = no_types
 no_params_if false types = types
 
+-- a list of types as the types of parameters
 abbrev pub types_in : List CType → CTypes
 types_in [] = no_types
 types_in (t ∷ ts) = more_types t (types_in ts)

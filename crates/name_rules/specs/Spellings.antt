@@ -6,7 +6,8 @@ use Rattle.type_table.specs.Types.{Words}
 abbrev pub Place : Type 0
 Place = ℕ × ℕ
 
--- What is read from the tokens of a unit: whether it is one of wider C; whether the word at a token is an annotation, as a `$` word is, an index
+-- What is read from the tokens of a unit: whether it is one of wider C; whether the word at a token is an annotation,
+-- as a `$` word is, an index
 -- word, or a keyword that a lattice names; whether the number at a token is spelled `0`; and the number of a name's
 -- spelling, which is the same in all units.
 pub record Spelling : Type 0 where
@@ -16,6 +17,7 @@ pub record Spelling : Type 0 where
   pub is_naught : ℕ → Bool
   pub key : ℕ → ℕ
 
+-- the place of a token of this unit
 abbrev pub place : Spelling → ℕ → Place
 place u token = (u.unit, token)
 

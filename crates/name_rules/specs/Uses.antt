@@ -9,14 +9,17 @@ use Rattle.name_rules.specs.Values.{Shape, a_value, a_place, value, some_target,
 
 -- what was found of a use, and of a type's name
 
+-- what the name at a place of an expression was found to stand for
 abbrev pub use_at : List NameUse → Place → Use
 use_at [] at = missing
 use_at (it ∷ uses) at = if is_place it.at at then it.use_of else use_at uses at
 
+-- the type of the type's name that begins at a place
 abbrev pub type_named_at : List TypeNamed → Place → Option CType
 type_named_at [] at = None
 type_named_at (it ∷ others) at = if is_place it.at at then Some it.type else type_named_at others at
 
+-- what a declared name is as an expression: an enumerator is a number, and all else is a place of its type
 abbrev pub declared_shape : Role → CType → Shape
 declared_shape typedef_role t = a_place (Some t)
 declared_shape object_role t = a_place (Some t)
@@ -25,6 +28,7 @@ declared_shape (parameter_role i) t = a_place (Some t)
 declared_shape (field_role n i) t = a_place (Some t)
 declared_shape enumerator_role t = a_value (Some (base []))
 
+-- what a name is as an expression by its declaration; a place without a type where there is none
 abbrev pub some_declared_shape : Option Declared → Shape
 some_declared_shape None = a_place None
 some_declared_shape (Some d) = declared_shape d.role d.type
@@ -35,6 +39,7 @@ use_shape s (means at) = some_declared_shape (declared_at s.declared at)
 use_shape s called = a_place (Some undeclared_function)
 use_shape s missing = a_place None
 
+-- what a prefix operator makes of its operand; operators but `&`, `*`, `++` and `--` give a number
 abbrev pub prefix_shape : Punct → Shape → Shape
 prefix_shape signs.Ampersand e = a_value (address e)
 prefix_shape signs.Star e = a_place (some_target (value e))
@@ -42,6 +47,7 @@ prefix_shape signs.PlusPlus e = a_value (value e)
 prefix_shape signs.MinusMinus e = a_value (value e)
 prefix_shape p e = a_value (Some (base []))
 
+-- the value of an assignment, by its left operand: one of the type of that place
 abbrev pub assigned_shape : Shape → Shape
 assigned_shape e = a_value (if e.is_place then e.type else None)
 

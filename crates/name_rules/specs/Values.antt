@@ -12,9 +12,11 @@ pub record Shape : Type 0 where
   pub is_place : Bool
   pub type : Option CType
 
+-- a value of a type
 abbrev pub a_value : Option CType → Shape
 a_value t = record { is_place = false; type = t }
 
+-- a place in which something of a type is
 abbrev pub a_place : Option CType → Shape
 a_place t = record { is_place = true; type = t }
 
@@ -26,13 +28,16 @@ read_from (struct ws n) = struct ws n
 read_from (pointer ws t) = pointer ws t
 read_from (function ws ps r e) = pointer [] (function ws ps r e)
 
+-- the type of the value that is read from a place, where the type of what is in it is known
 abbrev pub some_read_from : Option CType → Option CType
 some_read_from None = None
 some_read_from (Some t) = Some (read_from t)
 
+-- the type of an expression's value, which for a place is what is read from it (6.3.2.1)
 abbrev pub value : Shape → Option CType
 value it = if it.is_place then some_read_from it.type else it.type
 
+-- whether a type is a pointer
 abbrev pub is_pointer : CType → Bool
 is_pointer (base ws) = false
 is_pointer (void ws) = false
@@ -40,6 +45,7 @@ is_pointer (struct ws n) = false
 is_pointer (pointer ws t) = true
 is_pointer (function ws ps r e) = false
 
+-- whether a type is `void`
 abbrev pub is_void_type : CType → Bool
 is_void_type (base ws) = false
 is_void_type (void ws) = true
@@ -47,6 +53,7 @@ is_void_type (struct ws n) = false
 is_void_type (pointer ws t) = false
 is_void_type (function ws ps r e) = false
 
+-- whether a type is a pointer to something else than `void`
 abbrev pub points_to_some : CType → Bool
 points_to_some (base ws) = false
 points_to_some (void ws) = false
@@ -54,6 +61,7 @@ points_to_some (struct ws n) = false
 points_to_some (pointer ws t) = not (is_void_type t)
 points_to_some (function ws ps r e) = false
 
+-- the type that a pointer points to
 abbrev pub target : CType → Option CType
 target (base ws) = None
 target (void ws) = None
@@ -61,10 +69,12 @@ target (struct ws n) = None
 target (pointer ws t) = Some t
 target (function ws ps r e) = None
 
+-- the type that a pointer of a known type points to
 abbrev pub some_target : Option CType → Option CType
 some_target None = None
 some_target (Some t) = target t
 
+-- the type of the address of a place, where it is one and the type of what is in it is known
 abbrev pub address : Shape → Option CType
 address it = if it.is_place then (pointed it.type) else None where
   pointed : Option CType → Option CType
@@ -78,59 +88,70 @@ is_plain_void_pointer _ = false
 
 -- operators
 
+-- whether an operator is `+` or `-`
 abbrev pub is_additive : Punct → Bool
 is_additive signs.Plus = true
 is_additive signs.Minus = true
 is_additive p = false
 
--- `+` and `-`: of one pointer and another value that pointer, else a number
+-- the type of `+` and `-`: of one pointer and another value that pointer, else a number
 abbrev pub sum_type : Option CType → Option CType → Option CType
 sum_type None b = None
 sum_type (Some a) None = None
 sum_type (Some a) (Some b) =
     Some (if is_pointer a then (if is_pointer b then base [] else a) else if is_pointer b then b else base [])
 
+-- the type of a binary operator's value, which is a number but for `+` and `-` of pointers
 abbrev pub binary_type : Punct → Option CType → Option CType → Option CType
 binary_type p a b = if is_additive p then sum_type a b else Some (base [])
 
--- of a condition with no zero in its branches: the first pointer to anything but `void`, else the first pointer, else
--- the first
+-- the type of a condition without a zero, where the first branch points to nothing but `void`, if at all: the second
+-- where that
+-- points to something else, else the first pointer, else the first
 abbrev pub second_branch : CType → Option CType → Option CType
 second_branch a None = None
 second_branch a (Some b) =
     Some (if points_to_some b then b else if is_pointer a then a else if is_pointer b then b else a)
 
+-- the type of a condition with no zero in its branches, by the types of their values
 abbrev pub branches_type : Option CType → Option CType → Option CType
 branches_type None b = None
 branches_type (Some a) b = if points_to_some a then Some a else second_branch a b
 
--- of a condition; a zero takes the type of the other branch
+-- the type of a condition (6.5.15); a zero takes the type of the other branch
 abbrev pub cond_type : Bool → Bool → Option CType → Option CType → Option CType
 cond_type first_is_zero last_is_zero a b = if last_is_zero then a else if first_is_zero then b else branches_type a b
 
--- `[ ]`: of the left operand where that is a pointer, else of the right one
+-- the type of what `[ ]` gives: what the left operand points to, where that is a pointer, else what the right one
+-- points to
 abbrev pub index_type : Option CType → Option CType → Option CType
 index_type None b = None
 index_type (Some a) b = if is_pointer a then target a else some_target b
 
 -- calls
 
+-- the type that a call of a pointer to a function gives
 abbrev pub result_type : CType → Option CType
 result_type (pointer ws (function vs ps r e)) = Some r
 result_type t = None
 
+-- the type that a call gives, where the type of what is called is known
 abbrev pub some_result_type : Option CType → Option CType
 some_result_type None = None
 some_result_type (Some t) = result_type t
 
+-- whether a type is a pointer to a function
 abbrev pub points_to_function : CType → Bool
 points_to_function (pointer ws (function vs ps r e)) = true
 points_to_function t = false
 
+-- how many parameters there are
 abbrev pub count_types : CTypes → ℕ
 count_types no_types = 0
 count_types (more_types t ts) = suc (count_types ts)
 
+-- whether what is called takes so many arguments; with an ellipsis it takes further ones, and what is no function any
+-- number
 abbrev pub takes : CType → ℕ → Bool
 takes (pointer ws (function vs ps r None)) n = nat_eq (count_types ps) n
 takes (pointer ws (function vs ps r (Some es))) n = not (nat_lt n (count_types ps))
@@ -142,14 +163,17 @@ undeclared_function = function [] no_types (base []) (Some [])
 
 -- members
 
+-- the first member of a name in a list
 abbrev pub known_named : List Known → ℕ → Option Known
 known_named [] name = None
 known_named (it ∷ known) name = if nat_eq it.name name then Some it else known_named known name
 
+-- the member that a body has by a name
 abbrev pub member_in : Option Body → ℕ → Option Known
 member_in None name = None
 member_in (Some body) name = known_named body.known name
 
+-- the member that a struct or union type has by a name
 abbrev pub member_of : List Aggregate → CType → ℕ → Option Known
 member_of all (struct ws n) name = member_in (body_of all n) name
 member_of all (base ws) name = None
@@ -157,14 +181,17 @@ member_of all (void ws) name = None
 member_of all (pointer ws t) name = None
 member_of all (function ws ps r e) name = None
 
+-- the type of a member, where there is one
 abbrev pub known_type : Option Known → Option CType
 known_type None = None
 known_type (Some it) = Some it.type
 
+-- the type of the member that a type has by a name, where both are known
 abbrev pub member_type : List Aggregate → Option CType → ℕ → Option CType
 member_type all None name = None
 member_type all (Some t) name = known_type (member_of all t name)
 
+-- whether a type is known and has no member of a name: a struct without a body, or no struct, has none
 abbrev pub lacks_member : List Aggregate → Option CType → ℕ → Bool
 lacks_member all None name = false
 lacks_member all (Some t) name = is_absent (member_of all t name) where
@@ -172,12 +199,14 @@ lacks_member all (Some t) name = is_absent (member_of all t name) where
   is_absent None = true
   is_absent (Some it) = false
 
+-- whether a type is known and is no pointer
 abbrev pub is_no_pointer : Option CType → Bool
 is_no_pointer None = false
 is_no_pointer (Some t) = not (is_pointer t)
 
 -- picks
 
+-- whether a type is a base type: a number, as opposed to `void`, a struct, a pointer or a function
 abbrev pub is_base_type : CType → Bool
 is_base_type (base ws) = true
 is_base_type (void ws) = false
@@ -185,6 +214,7 @@ is_base_type (struct ws n) = false
 is_base_type (pointer ws t) = false
 is_base_type (function ws ps r e) = false
 
+-- whether a type is the struct or union of this number
 abbrev pub is_struct_of : ℕ → CType → Bool
 is_struct_of n (base ws) = false
 is_struct_of n (void ws) = false
@@ -218,6 +248,8 @@ pub record Association : Type 0 where
   pub type : Option CType
   pub candidate : Candidate
 
+-- whether an association may be the one for the control's type: where its type may be the same, and always for
+-- `default`
 abbrev pub is_candidate : CType → Option CType → Bool
 is_candidate t None = true
 is_candidate t (Some u) = may_be_one t u
@@ -227,15 +259,17 @@ abbrev pub candidates_of : CType → List Association → List Candidate
 candidates_of t [] = []
 candidates_of t (it ∷ others) = (if is_candidate t it.type then it.candidate ∷ [] else []) ++ candidates_of t others
 
+-- the expressions of all associations
 abbrev pub all_candidates : List Association → List Candidate
 all_candidates [] = []
 all_candidates (it ∷ others) = it.candidate ∷ all_candidates others
 
+-- the first candidates, or the others where there are none of the first
 abbrev pub or_all : List Candidate → List Candidate → List Candidate
 or_all [] others = others
 or_all (it ∷ some) others = it ∷ some
 
--- those of the type, or all where there are none
+-- the candidates of a selection: those of the type, or all where there are none of it
 abbrev pub selected : CType → List Association → List Candidate
 selected t all = or_all (candidates_of t all) (all_candidates all)
 
@@ -244,18 +278,22 @@ abbrev pub is_of_type : Option CType → Option CType → Bool
 is_of_type None named = false
 is_of_type (Some t) named = is_candidate t named
 
+-- whether some association may be one for the control's type
 abbrev pub has_of_type : Option CType → List Association → Bool
 has_of_type t [] = false
 has_of_type t (it ∷ others) = is_of_type t it.type || has_of_type t others
 
+-- the candidates that are no zeros
 abbrev pub no_zeros : List Candidate → List Candidate
 no_zeros [] = []
 no_zeros (it ∷ others) = if it.is_zero then no_zeros others else it ∷ no_zeros others
 
--- zeros aside, where not all are zeros
+-- the candidates that are no zeros, or all where all are zeros
 abbrev pub left_of : List Candidate → List Candidate
 left_of all = or_all (no_zeros all) all
 
+-- the rank of a type for picks: pointers but those to `void`, pointers to `void`, structs, functions, base types,
+-- `void`
 abbrev pub rank : CType → ℕ
 rank (void ws) = 0
 rank (base ws) = 1
@@ -269,6 +307,7 @@ higher_of t None = t
 higher_of None (Some u) = Some u
 higher_of (Some t) (Some u) = Some (if nat_lt (rank t) (rank u) then u else t)
 
+-- the first type of the highest rank, of one so far and the values of candidates
 abbrev pub ranked : Option CType → List Candidate → Option CType
 ranked best [] = best
 ranked best (it ∷ others) = ranked (higher_of best (value it.shape)) others
@@ -277,6 +316,7 @@ ranked best (it ∷ others) = ranked (higher_of best (value it.shape)) others
 abbrev pub first_ranked : List Candidate → Option CType
 first_ranked all = ranked None all
 
+-- whether the values of all candidates have types
 abbrev pub have_types : List Candidate → Bool
 have_types [] = true
 have_types (it ∷ others) = is_some (value it.shape) && have_types others
@@ -285,13 +325,13 @@ have_types (it ∷ others) = is_some (value it.shape) && have_types others
 abbrev pub picked_value : List Candidate → Option CType
 picked_value all = if have_types all then first_ranked (left_of all) else None
 
--- one candidate is picked, place and value
+-- a pick: of one candidate that one, place and value; of several a value
 abbrev pub pick_shape : List Candidate → Shape
 pick_shape [] = a_value None
 pick_shape (it ∷ []) = it.shape
 pick_shape (it ∷ other ∷ others) = a_value (picked_value (it ∷ other ∷ others))
 
--- by the control's value; without its type there is none
+-- a selection by a type, by that of the control's value; without that it has none
 abbrev pub selected_shape : Option CType → List Association → Shape
 selected_shape None all = a_value None
 selected_shape (Some t) all = pick_shape (selected t all)
@@ -300,14 +340,17 @@ selected_shape (Some t) all = pick_shape (selected t all)
 abbrev pub is_fresh_pick : List Candidate → Bool
 is_fresh_pick all = nat_lt 1 (length (left_of all))
 
--- `[ ]` of wider C: where neither value is a pointer and the left one is a number, that is a vector, and its element is as it is
+-- whether the type of a value is known and is a base type
 abbrev pub is_base_value : Option CType → Bool
 is_base_value None = false
 is_base_value (Some t) = is_base_type t
 
+-- `[ ]` of wider C: where neither value is a pointer and the left one is a number, that is a vector, and its element is
+-- as it is
 abbrev pub is_vector_index : Bool → Shape → Shape → Bool
 is_vector_index wide e e2 = wide && (is_base_value (value e) && is_no_pointer (value e2))
 
+-- what `[ ]` gives: an element of what a pointer points to, or of a vector in wider C
 abbrev pub index_shape : Bool → Shape → Shape → Shape
 index_shape wide e e2 = if is_vector_index wide e e2 then e else a_place (index_type (value e) (value e2))
 
@@ -318,12 +361,14 @@ pub data Target : Type 0 where
   no_target : Target
   to : Option CType → Target
 
+-- the own members of the struct or union of this number
 abbrev pub own_of : List Aggregate → ℕ → List Own
 own_of all n = own_in (body_of all n) where
   own_in : Option Body → List Own
   own_in None = []
   own_in (Some body) = body.own
 
+-- whether an entry of the structs, unions and enums is there and is a union
 abbrev pub is_union_at : Option Aggregate → Bool
 is_union_at None = false
 is_union_at (Some it) = is_union it.kind where
@@ -336,6 +381,7 @@ is_union_at (Some it) = is_union it.kind where
 abbrev pub own_number : List Aggregate → ℕ → ℕ → ℕ
 own_number all n next = if is_union_at (slice_get all n) then 0 else next
 
+-- an item initialises this own member, or nothing where there is none
 abbrev pub to_own : Option Own → Target
 to_own None = no_target
 to_own (Some it) = to (Some it.type)

@@ -13,7 +13,8 @@ pub record AreFew (lattices : List LatticeView) : Type 0 where
   pub lattices_are : length (orders_of lattices) ≤ 16
   pub elements : (n : ℕ) (order : Order) → slice_get (orders_of lattices) n ≡ Some order → size order ≤ 64
 
-as_many : (blocks : List BlockView) (lattices : List LatticeView) → AreAllBuilt blocks lattices → length lattices ≡ length blocks
+as_many : (blocks : List BlockView) (lattices : List LatticeView) → AreAllBuilt blocks lattices
+    → length lattices ≡ length blocks
 as_many [] [] h = refl
 as_many [] (l ∷ ls) h = absurd h
 as_many (b ∷ bs) [] h = absurd h
@@ -31,7 +32,8 @@ small (b ∷ bs) (l ∷ ls) h zero order there =
     subst (λ (o : Order). size o ≤ 64) same (omega (arith, few, elements))
 small (b ∷ bs) (l ∷ ls) h (suc n) order there = small bs ls h.1 n order there
 
-pub read_few : (wide : Bool) (bytes : List ℕ) (lattices : List LatticeView) → LatticesRead wide bytes lattices → AreFew lattices
+pub read_few : (wide : Bool) (bytes : List ℕ) (lattices : List LatticeView) → LatticesRead wide bytes lattices
+    → AreFew lattices
 read_few wide bytes lattices h = record {
   lattices_are =
       let same = length-map lattices (λ (lattice : LatticeView). lattice.order) in

@@ -1,4 +1,5 @@
--- A report comes to one thing: a line that does not fit, one that names no constraint, and a step that fails a rule exclude each other.
+-- A report comes to one thing: a line that does not fit, one that names no constraint, and a step that fails a rule
+-- exclude each other.
 use Rattle.std.proofs.Common.{◌≡◌, ℕ, zero, suc, ◌+◌, ◌<◌, ◌≤◌, ◌⊎◌, inl, inr, List, [], ◌∷◌, ◌++◌, length, take, drop, slice_get, Option, Some, None, All, refl, sym, ◌∙◌, ap, subst, arith, append_assoc, take-append-drop, eq-or-lt_of_le}
 use Rattle.std.proofs.lemmas.List.Elements.{All-head, All-tail}
 use Rattle.lattice_core.specs.Order.{Order}
@@ -10,11 +11,11 @@ use Rattle.path_checker.specs.declared.lines.Line.TheVariants.{Rejected, Error, 
 use Rattle.path_checker.specs.Lines.{lines_of}
 use Rattle.path_checker.specs.Report.{Steps}
 use Rattle.path_checker.specs.Grammar.{Written, by_constraint, by_sub_path, WrittenError, step_lines, sub_lines, error_lines, AreNamed, SubsAreNamed, ErrorsAreNamed, IsReport, BeginsReport, IsMisfit, NamesNothing}
-use Rattle.report_checks.specs.declared.judging.Checked.{Checked}
-use Rattle.report_checks.specs.declared.judging.Checked.TheVariants.{Hold, Bad}
-use Rattle.report_checks.specs.declared.judging.Code.{Code}
-use Rattle.report_checks.specs.declared.judging.Code.TheVariants.{K1, K2, Rule}
-use Rattle.report_checks.specs.Checks.{StepsHold, IsBad, ComesTo}
+use Rattle.path_checker.specs.declared.report_checks.judging.Checked.{Checked}
+use Rattle.path_checker.specs.declared.report_checks.judging.Checked.TheVariants.{Hold, Bad}
+use Rattle.path_checker.specs.declared.report_checks.judging.Code.{Code}
+use Rattle.path_checker.specs.declared.report_checks.judging.Code.TheVariants.{K1, K2, Rule}
+use Rattle.path_checker.specs.ReportChecks.Checks.{StepsHold, IsBad, ComesTo}
 use Rattle.outcome_laws.specs.Judgements.{OneCheck}
 
 -- which of two numbers is not above the other
@@ -26,12 +27,14 @@ within_of [] k x is = absurd cc
 within_of (y ∷ ys) zero x is = omega arith
 within_of (y ∷ ys) (suc k) x is = let deeper = within_of ys k x is in omega (arith, deeper)
 
-get_of_longer : {A : Type 0} → (xs ys : List A) (k : ℕ) (x : A) → slice_get xs k ≡ Some x → slice_get (xs ++ ys) k ≡ Some x
+get_of_longer : {A : Type 0} → (xs ys : List A) (k : ℕ) (x : A) → slice_get xs k ≡ Some x
+    → slice_get (xs ++ ys) k ≡ Some x
 get_of_longer [] ys k x is = absurd cc
 get_of_longer (y ∷ xs) ys zero x is = is
 get_of_longer (y ∷ xs) ys (suc k) x is = get_of_longer xs ys k x is
 
-get_of_front : {A : Type 0} → (xs : List A) (j k : ℕ) (x : A) → j < k → slice_get xs j ≡ Some x → slice_get (take k xs) j ≡ Some x
+get_of_front : {A : Type 0} → (xs : List A) (j k : ℕ) (x : A) → j < k → slice_get xs j ≡ Some x
+    → slice_get (take k xs) j ≡ Some x
 get_of_front [] j k x below is = absurd cc
 get_of_front (y ∷ xs) j zero x below is = absurd (omega arith)
 get_of_front (y ∷ xs) zero (suc k) x below is = is
@@ -49,18 +52,21 @@ module _ (edges : ℕ) where
   abbrev AllNamed : List Line → Type 0
   AllNamed lines = (k m : ℕ) → slice_get lines k ≡ Some (Take m) → m < edges
 
-  named_line : (line : Line) (lines : List Line) → ((m : ℕ) → line ≡ Take m → m < edges) → AllNamed lines → AllNamed (line ∷ lines)
+  named_line : (line : Line) (lines : List Line) → ((m : ℕ) → line ≡ Take m → m < edges) → AllNamed lines
+      → AllNamed (line ∷ lines)
   named_line line lines here there zero m is = here m cc
   named_line line lines here there (suc k) m is = there k m is
 
-  steps_named : (steps : List Written) (behind : List Line) → AreNamed edges steps → AllNamed behind → AllNamed (step_lines steps behind)
+  steps_named : (steps : List Written) (behind : List Line) → AreNamed edges steps → AllNamed behind
+      → AllNamed (step_lines steps behind)
   steps_named [] behind named all = all
   steps_named (by_constraint n ∷ steps) behind named all =
       named_line (Take n) (step_lines steps behind) (λ m is. let same : n ≡ m = cc in omega (arith, same, named.0)) (steps_named steps behind named.1 all)
   steps_named (by_sub_path n ∷ steps) behind named all =
       named_line (Through n) (step_lines steps behind) (λ m is. absurd cc) (steps_named steps behind named all)
 
-  subs_named : (n : ℕ) (subs : List (List Written)) (behind : List Line) → SubsAreNamed edges subs → AllNamed behind → AllNamed (sub_lines n subs behind)
+  subs_named : (n : ℕ) (subs : List (List Written)) (behind : List Line) → SubsAreNamed edges subs → AllNamed behind
+      → AllNamed (sub_lines n subs behind)
   subs_named n [] behind named all = all
   subs_named n (steps ∷ subs) behind named all =
       named_line (Sub n) (step_lines steps (sub_lines (n + 1) subs behind)) (λ m is. absurd cc)
@@ -85,7 +91,8 @@ module _ (edges : ℕ) where
   whole_begins : (lines : List Line) (k : ℕ) → IsReport edges lines → BeginsReport edges (take k lines)
   whole_begins lines k is = (drop k lines, subst (λ (ls : List Line). IsReport edges ls) (sym (take-append-drop k lines)) is)
 
-  less_begins : (lines : List Line) (j k : ℕ) → j ≤ k → BeginsReport edges (take k lines) → BeginsReport edges (take j lines)
+  less_begins : (lines : List Line) (j k : ℕ) → j ≤ k → BeginsReport edges (take k lines)
+      → BeginsReport edges (take j lines)
   less_begins lines j k below begun =
       let front = front_of_front lines j k below in
       let same : take k lines ++ begun.0 ≡ take j lines ++ (front.0 ++ begun.0) =
@@ -110,7 +117,8 @@ module _ (edges : ℕ) (lines : List Line) where
         | inr over ↦ elim (cases b.before a.before) [ inl below ↦ absurd (no_later_misfit m n b a below) | inr same ↦ omega (arith, a.number, b.number, over, same) ]
       ]
 
-  no_later_nameless : (n m : ℕ) (a : NamesNothing edges lines n) (b : NamesNothing edges lines m) → a.before < b.before → ⊥
+  no_later_nameless : (n m : ℕ) (a : NamesNothing edges lines n) (b : NamesNothing edges lines m) → a.before < b.before
+      → ⊥
   no_later_nameless n m a b below =
       let named = begun_named edges (take b.before lines) b.begins a.before a.constraint (get_of_front lines a.before b.before (Take a.constraint) below a.line_is) in
       omega (arith, named, a.past)
@@ -134,11 +142,13 @@ module _ (edges : ℕ) (lines : List Line) where
       ]
 
 module _ (fault : Steps → Option BadStep) where
-  all_at : (before : List Steps) (proof : Steps) (behind : List Steps) → All (λ p. fault p ≡ None) (before ++ proof ∷ behind) → fault proof ≡ None
+  all_at : (before : List Steps) (proof : Steps) (behind : List Steps)
+      → All (λ p. fault p ≡ None) (before ++ proof ∷ behind) → fault proof ≡ None
   all_at [] proof behind all = All-head (λ p. fault p ≡ None) proof behind all
   all_at (p ∷ before) proof behind all = all_at before proof behind (All-tail (λ p. fault p ≡ None) p (before ++ proof ∷ behind) all)
 
-  first_once : (one two : List Steps) (p q : Steps) (behind rest : List Steps) (bad other : BadStep) → All (λ p. fault p ≡ None) one → All (λ p. fault p ≡ None) two →
+  first_once : (one two : List Steps) (p q : Steps) (behind rest : List Steps) (bad other : BadStep)
+      → All (λ p. fault p ≡ None) one → All (λ p. fault p ≡ None) two →
       fault p ≡ Some bad → fault q ≡ Some other → one ++ p ∷ behind ≡ two ++ q ∷ rest → bad ≡ other
   first_once [] [] p q behind rest bad other hold holds fails failing same =
       let here : p ≡ q = cc in let both : Some bad ≡ Some other = sym fails ∙ ap fault here ∙ failing in cc
@@ -164,7 +174,8 @@ module _ (sys : System) (orders : List Order) (text : List ℕ) where
       let clash : Some bad_step ≡ None = sym fails.fails ∙ none in
       absurd cc
 
-  bad_once : (line other : ℕ) (code tag : Code) → IsBad sys orders text line code → IsBad sys orders text other tag → Bad line code ≡ Bad other tag
+  bad_once : (line other : ℕ) (code tag : Code) → IsBad sys orders text line code → IsBad sys orders text other tag
+      → Bad line code ≡ Bad other tag
   bad_once line other K1 K1 one two = ap (λ n. Bad n K1) (misfit_once (length sys.constraints) (lines_of text) line other one two)
   bad_once line other K1 K2 one two = absurd (not_both (length sys.constraints) (lines_of text) line other one two)
   bad_once line other K1 (Rule why) one two = absurd (fits_whole (length sys.constraints) (lines_of text) line two.0 one)

@@ -26,7 +26,8 @@ cut digits (more ∷ groups) h all =
     ∙ ap (λ (parts : List (List ℕ)). digits ∷ parts)
     (cut more groups (All-head IsNumeral more groups all) (All-tail IsNumeral more groups all))
 
-groups_once : (one other : List (List ℕ)) → All IsNumeral one → All IsNumeral other → flat_map group one ≡ flat_map group other → one ≡ other
+groups_once : (one other : List (List ℕ)) → All IsNumeral one → All IsNumeral other
+    → flat_map group one ≡ flat_map group other → one ≡ other
 groups_once [] [] all each same = refl
 groups_once [] (y ∷ ys) all each same = absurd cc
 groups_once (x ∷ xs) [] all each same = absurd cc
@@ -53,18 +54,21 @@ behind_up : (n : ℕ) (ns : List ℕ) → AreAscending (n ∷ ns) → AreAscendi
 behind_up n [] up = tt
 behind_up n (x ∷ xs) up = up.1
 
-no_less : (n : ℕ) (ns : List ℕ) → AreAscending (n ∷ ns) → (m k : ℕ) → k < length (n ∷ ns) → slice_index_or (n ∷ ns) k m ≡ m → n ≤ m
+no_less : (n : ℕ) (ns : List ℕ) → AreAscending (n ∷ ns) → (m k : ℕ) → k < length (n ∷ ns)
+    → slice_index_or (n ∷ ns) k m ≡ m → n ≤ m
 no_less n ns up m zero less is = omega (arith, is)
 no_less n ns up m (suc k) less is = let more = above n ns up m k (omega (arith, less)) is in omega (arith, more)
 
-further : (n : ℕ) (ns : List ℕ) (m k : ℕ) → n < m → k < length (n ∷ ns) → slice_index_or (n ∷ ns) k m ≡ m → Contains ns m
+further : (n : ℕ) (ns : List ℕ) (m k : ℕ) → n < m → k < length (n ∷ ns) → slice_index_or (n ∷ ns) k m ≡ m
+    → Contains ns m
 further n ns m zero over less is = absurd (omega (arith, is, over))
 further n ns m (suc k) over less is = (k, omega (arith, less), is)
 
 none_there : (m : ℕ) → Contains [] m → ⊥
 none_there m has = omega (arith, has.1)
 
-ascending_once : (one other : List ℕ) → AreAscending one → AreAscending other → ((n : ℕ) → Contains one n ↔ Contains other n) → one ≡ other
+ascending_once : (one other : List ℕ) → AreAscending one → AreAscending other
+    → ((n : ℕ) → Contains one n ↔ Contains other n) → one ≡ other
 ascending_once [] [] up rising same = refl
 ascending_once [] (y ∷ ys) up rising same = absurd (none_there y ((same y).1 (zero, omega arith, refl)))
 ascending_once (x ∷ xs) [] up rising same = absurd (none_there x ((same x).0 (zero, omega arith, refl)))

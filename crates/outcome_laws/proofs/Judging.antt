@@ -25,7 +25,8 @@ module _ (sys : System) (lattice : ℕ) (order : Order) (ordered : IsOrder order
       ap (λ (e : ℕ). record { var = var; lattice = lattice; elem = e } ∷ []) (printed_once x y h k)
 
 -- the orders of lattices are orders
-are_orders : (lattices : List LatticeView) → AreLattices lattices → (n : ℕ) (order : Order) → slice_get (orders_of lattices) n ≡ Some order →
+are_orders : (lattices : List LatticeView) → AreLattices lattices → (n : ℕ) (order : Order)
+    → slice_get (orders_of lattices) n ≡ Some order →
     IsOrder order
 are_orders [] h n order there = absurd cc
 are_orders (l ∷ ls) h zero order there = let is : l.order ≡ order = cc in subst (λ (o : Order). IsOrder o) is (h zero l refl).ordered
@@ -38,7 +39,8 @@ no_push (y ∷ ys) x e = absurd cc
 -- in all lattices, and of all variables
 
 module _ (lattices : List LatticeView) (sys : System) (are : AreLattices lattices) where
-  var_listings_once : (var n m : ℕ) (a b : List Listing) → n ≡ m → VarListings lattices sys var n a → VarListings lattices sys var m b → a ≡ b
+  var_listings_once : (var n m : ℕ) (a b : List Listing) → n ≡ m → VarListings lattices sys var n a
+      → VarListings lattices sys var m b → a ≡ b
   var_listings_once var _ _ _ _ e NoLattice NoLattice = refl
   var_listings_once var _ _ _ _ e NoLattice (NextLattice l order before here there rest is) = absurd (omega (arith, e))
   var_listings_once var _ _ _ _ e (NextLattice l order before here there rest is) NoLattice = absurd (omega (arith, e))
@@ -51,7 +53,8 @@ module _ (lattices : List LatticeView) (sys : System) (are : AreLattices lattice
       (subst (λ (o : Order). IsListed sys l o var now) (sym order_is) (subst (λ (n : ℕ). IsListed sys n other var now) (sym same) so)) in
       λ i. front i ++ behind i
 
-  listings_once : (vars others : List ℕ) (a b : List Listing) → vars ≡ others → Listings lattices sys vars a → Listings lattices sys others b → a ≡ b
+  listings_once : (vars others : List ℕ) (a b : List Listing) → vars ≡ others → Listings lattices sys vars a
+      → Listings lattices sys others b → a ≡ b
   listings_once _ _ _ _ e NoVar NoVar = refl
   listings_once _ _ _ _ e NoVar (NextVar vars var before here rest is) = absurd (no_push vars var e)
   listings_once _ _ _ _ e (NextVar vars var before here rest is) NoVar = absurd (no_push vars var (sym e))
@@ -63,7 +66,8 @@ module _ (lattices : List LatticeView) (sys : System) (are : AreLattices lattice
       λ i. front i ++ behind i
 
 module _ (scene : Scene) (sys : System) where
-  accepted_once : AreLattices scene.lattices → (a b : List ℕ) (h : IsAcceptedReport scene sys a) (k : IsAcceptedReport scene sys b) →
+  accepted_once : AreLattices scene.lattices
+      → (a b : List ℕ) (h : IsAcceptedReport scene sys a) (k : IsAcceptedReport scene sys b) →
       h.listings ≡ k.listings
   accepted_once are a b h k = listings_once scene.lattices sys are scene.listed scene.listed h.listings k.listings refl h.listed k.listed
 
@@ -82,13 +86,15 @@ module _ (scene : Scene) (sys : System) where
       ap (λ (x : ℕ). x + 1) (count_once n m count other (omega (arith, e)) rest more)
 
 module _ (scene : Scene) (sys : System) (unit : Option ℕ) where
-  judged_once : (one other : Bool) (a b : List ℕ) → IsJudgedWith scene sys unit one a → IsJudgedWith scene sys unit other b → one ≡ other
+  judged_once : (one other : Bool) (a b : List ℕ) → IsJudgedWith scene sys unit one a
+      → IsJudgedWith scene sys unit other b → one ≡ other
   judged_once _ _ a b (AcceptedWith _ report is spelled) (AcceptedWith _ words so written) = refl
   judged_once _ _ a b (AcceptedWith _ report is spelled) (RejectedWith _ so) = absurd (so.rejected is.accepted)
   judged_once _ _ a b (RejectedWith _ is) (AcceptedWith _ words so written) = absurd (is.rejected so.accepted)
   judged_once _ _ a b (RejectedWith _ is) (RejectedWith _ so) = refl
 
-  text_once : AreLattices scene.lattices → (one other : Bool) (a b : List ℕ) → one ≡ true → other ≡ true → IsJudgedWith scene sys unit one a →
+  text_once : AreLattices scene.lattices → (one other : Bool) (a b : List ℕ) → one ≡ true → other ≡ true
+      → IsJudgedWith scene sys unit one a →
       IsJudgedWith scene sys unit other b → a ≡ b
   text_once are _ _ a b e f (AcceptedWith _ report is spelled) (AcceptedWith _ words so written) =
       let listings = accepted_once scene sys are report words is so in

@@ -37,7 +37,8 @@ module _ (entries : List Entry) (pairs : List Pair) where
       rows = same_number_lists one.above other.above (h.elements ∙ sym k.elements) (λ a within. row a)
 
   -- and no refusal stands beside a lattice that is built of them
-  built_not_refused : (lattice : LatticeView) (fault : LatticeFault) → AreBuilt entries pairs lattice → fault ≢ NoMemory →
+  built_not_refused : (lattice : LatticeView) (fault : LatticeFault) → AreBuilt entries pairs lattice
+      → fault ≢ NoMemory →
       Refuses entries pairs fault → ⊥
   built_not_refused lattice TooMany h reason refused = let few = h.fit.known.named.few in omega (arith, few, refused)
   built_not_refused lattice (Repeated name) h reason refused =
@@ -79,7 +80,8 @@ all_built_one (block ∷ blocks) [] b h k = absurd h
 all_built_one (block ∷ blocks) (x ∷ a) [] h k = absurd k
 all_built_one (block ∷ blocks) (x ∷ a) (y ∷ b) h k = λ i. built_one block x y h.0 k.0 i ∷ all_built_one blocks a b h.1 k.1 i
 
-built_at : (blocks : List BlockView) (lattices : List LatticeView) (at : ℕ) (block : BlockView) → AreAllBuilt blocks lattices →
+built_at : (blocks : List BlockView) (lattices : List LatticeView) (at : ℕ) (block : BlockView)
+    → AreAllBuilt blocks lattices →
     slice_get blocks at ≡ Some block → (lattice : LatticeView) × IsBuilt block lattice
 built_at [] lattices at block h there = absurd cc
 built_at (b ∷ blocks) [] at block h there = absurd h
@@ -87,7 +89,8 @@ built_at (b ∷ blocks) (l ∷ lattices) zero block h there =
     let e : b ≡ block = cc in (l, subst (λ (x : BlockView). IsBuilt x l) e h.0)
 built_at (b ∷ blocks) (l ∷ lattices) (suc at) block h there = built_at blocks lattices at block h.1 there
 
-get_within : (lattices : List LatticeView) (at : ℕ) (l : LatticeView) → slice_get lattices at ≡ Some l → at < length lattices
+get_within : (lattices : List LatticeView) (at : ℕ) (l : LatticeView) → slice_get lattices at ≡ Some l
+    → at < length lattices
 get_within [] at l e = absurd cc
 get_within (x ∷ xs) zero l e = omega arith
 get_within (x ∷ xs) (suc at) l e = let under : at < length xs = get_within xs at l e in omega arith
@@ -97,13 +100,15 @@ reads_once wide bytes a b h k =
     all_built_one h.blocks a b h.built
     (subst (λ (blocks : List BlockView). AreAllBuilt blocks b) (one_reading wide k.blocks h.blocks bytes k.text h.text) k.built)
 
-no_refused_block : (blocks : List BlockView) (lattices : List LatticeView) (number : ℕ) (reason : LatticeFault) → AreAllBuilt blocks lattices →
+no_refused_block : (blocks : List BlockView) (lattices : List LatticeView) (number : ℕ) (reason : LatticeFault)
+    → AreAllBuilt blocks lattices →
     IsFirstRefused blocks number reason → ⊥
 no_refused_block blocks lattices number reason h refused =
     let built = built_at blocks lattices refused.at refused.block h refused.there in
     built_not_refused refused.block.entries refused.block.pairs built.0 reason built.1.built refused.reason refused.refused
 
-no_fault : (wide : Bool) (bytes : List ℕ) (lattices : List LatticeView) → Reads wide bytes lattices → (fault : LatticeFileFault) → fault ≢ OutOfMemory →
+no_fault : (wide : Bool) (bytes : List ℕ) (lattices : List LatticeView) → Reads wide bytes lattices
+    → (fault : LatticeFileFault) → fault ≢ OutOfMemory →
     IsFileFault wide bytes fault → ⊥
 no_fault wide bytes lattices h (Block number reason) other refused =
     no_refused_block h.blocks lattices number reason h.built

@@ -8,8 +8,8 @@ use Rattle.lattice_file.specs.Blocks.{BlockView, AreAllBuilt}
 use Rattle.c_reading.specs.UnitLaws.{OneUnitAtMost}
 use Rattle.c_types.specs.Sources.{UnitRead}
 use Rattle.index_words.specs.Marks.{IndexMark}
-use Rattle.report_checks.specs.declared.judging.Checked.TheVariants.{Hold, Bad}
-use Rattle.report_checks.specs.Texts.{checked_text}
+use Rattle.path_checker.specs.declared.report_checks.judging.Checked.TheVariants.{Hold, Bad}
+use Rattle.path_checker.specs.ReportChecks.Texts.{checked_text}
 use Rattle.annotate.specs.Reports.{IsJudgedWith, RejectedWith}
 use Rattle.flow_graph.specs.Unfolding.{IsAccepted}
 use Rattle.certificate_answers.specs.Laws.{OneCertificate, OneVerdict}
@@ -71,7 +71,8 @@ never_both : (it : Judging) (text : List ℕ) → IsAccepted it.system (orders_o
 never_both it _ accepted (RejectedWith text is) = is.rejected accepted
 
 -- the certificate, or the report where there is none
-certified_once : OneCertificate → (it : Judging) (s t : Status) (x y : List ℕ) → IsCertified it s x → IsCertified it t y → Same s t x y
+certified_once : OneCertificate → (it : Judging) (s t : Status) (x y : List ℕ) → IsCertified it s x → IsCertified it t y
+    → Same s t x y
 certified_once law it _ _ _ _ (Certified x accepted h) (Certified y too k) =
     (refl, λ text. law it.system (orders_of it.scene.lattices) x y h k)
 certified_once law it _ _ _ _ (Certified x accepted h) (Uncertified y k) = absurd (never_both it y accepted k)
@@ -79,11 +80,13 @@ certified_once law it _ _ _ _ (Uncertified x h) (Certified y accepted k) = absur
 certified_once law it _ _ _ _ (Uncertified x h) (Uncertified y k) = (refl, λ text. absurd text)
 
 -- a name is declared or not, and not both
-never_named : (it : Judging) (name text : List ℕ) → IsWho it.scene it.system name (Some text) → IsWho it.scene it.system name None → ⊥
+never_named : (it : Judging) (name text : List ℕ) → IsWho it.scene it.system name (Some text)
+    → IsWho it.scene it.system name None → ⊥
 never_named it name _ (Named var vars text is texts) (NotNamed none) = absurd (let e : var ∷ vars ≡ [] = sym is ∙ none in cc)
 
 -- who reaches a name
-answered_once : (it : Judging) (name : List ℕ) (s t : Status) (x y : List ℕ) → IsAnswered it name s x → IsAnswered it name t y → Same s t x y
+answered_once : (it : Judging) (name : List ℕ) (s t : Status) (x y : List ℕ) → IsAnswered it name s x
+    → IsAnswered it name t y → Same s t x y
 answered_once it name _ _ _ _ (Answering x h) (Answering y k) = (refl, λ text. absurd text)
 answered_once it name _ _ _ _ (Answering x h) (Unnamed k) = absurd (never_named it name x h k)
 answered_once it name _ _ _ _ (Unnamed h) (Answering y k) = absurd (never_named it name y k h)
@@ -175,7 +178,8 @@ module _ (one_text : OneText) (it : Judging) (are : AreLattices it.scene.lattice
 
 -- a saved report, and a saved certificate
 
-check_once : (it : Judging) (bytes : List ℕ) (s t : Status) (x y : List ℕ) → IsChecked it bytes s x → IsChecked it bytes t y → Same s t x y
+check_once : (it : Judging) (bytes : List ℕ) (s t : Status) (x y : List ℕ) → IsChecked it bytes s x
+    → IsChecked it bytes t y → Same s t x y
 check_once it bytes _ _ _ _ (Holding h never) (Holding k no_more) = (refl, λ text. refl)
 check_once it bytes _ _ _ _ (Holding h never) (Failing line code k) =
     let e : Hold ≡ Bad line code = one_check it.system (orders_of it.scene.lattices) bytes Hold (Bad line code) h k in absurd cc
@@ -194,7 +198,8 @@ verdict_of it bytes _ _ (Proving h accepted) = (Holds, h, (refl, refl))
 verdict_of it bytes _ _ (Breaking lattice rule h) = (Fails lattice rule, h, (refl, refl))
 verdict_of it bytes _ _ (NoProof line code h) = (Unread line code, h, (refl, refl))
 
-verified_once : OneVerdict → (it : Judging) → IsBounded it.system (orders_of it.scene.lattices) → (bytes : List ℕ) (s t : Status) (x y : List ℕ)
+verified_once : OneVerdict → (it : Judging) → IsBounded it.system (orders_of it.scene.lattices)
+    → (bytes : List ℕ) (s t : Status) (x y : List ℕ)
     → IsVerified it bytes s x → IsVerified it bytes t y → Same s t x y
 verified_once law it bounds bytes s t x y h k =
     let one = verdict_of it bytes s x h in
@@ -206,7 +211,8 @@ verified_once law it bounds bytes s t x y h k =
 
 module _ (one_certificate : OneCertificate) (one_verdict : OneVerdict) (one_text : OneText) (it : Judging) (are : AreLattices it.scene.lattices)
     (bounds : IsBounded it.system (orders_of it.scene.lattices)) where
-  alone_once : (asked : Question) (s t : Status) (x y : List ℕ) → IsAlone asked it s x → IsAlone asked it t y → Same s t x y
+  alone_once : (asked : Question) (s t : Status) (x y : List ℕ) → IsAlone asked it s x → IsAlone asked it t y
+      → Same s t x y
   alone_once Infer s t x y h k = report_once None it are s t x y h k
   alone_once Annotate s t x y h k = report_once (Some 1) it are s t x y h k
   alone_once (Check file) s t x y h k = absurd h
@@ -215,7 +221,8 @@ module _ (one_certificate : OneCertificate) (one_verdict : OneVerdict) (one_text
   alone_once (Who name) s t x y h k = answered_once it name s t x y h k
   alone_once Sign s t x y h k = signed_once one_text it are s t x y h k
 
-  saved_once : (asked : Question) (saved : List ℕ) (s t : Status) (x y : List ℕ) → IsOfSaved asked it saved s x → IsOfSaved asked it saved t y
+  saved_once : (asked : Question) (saved : List ℕ) (s t : Status) (x y : List ℕ) → IsOfSaved asked it saved s x
+      → IsOfSaved asked it saved t y
       → Same s t x y
   saved_once Infer saved s t x y h k = absurd h
   saved_once Annotate saved s t x y h k = absurd h
@@ -249,7 +256,8 @@ EndsOnce Ends it = (s t : Status) (x y : List ℕ) → Ends it s x → Ends it t
 module _ (one_unit : OneUnitAtMost) (named : FileNames) (lattices : List LatticeView) (before : List UnitRead) (Ends : Judging → Status → List ℕ → Type 0)
     (number left : ℕ) (sources : List (List ℕ × List ℕ)) (marks said : List IndexMark) (same : SameIndices marks said)
     (once : (units : List UnitRead) → AreCounted named lattices marks units → EndsOnce Ends (judging_of named lattices marks units)) where
-  behind : (units others : List UnitRead) → SourcesParse named.wide lattices number left sources units → SourcesParse named.wide lattices number left sources others
+  behind : (units others : List UnitRead) → SourcesParse named.wide lattices number left sources units
+      → SourcesParse named.wide lattices number left sources others
       → before ++ units ≡ before ++ others
   behind units others h k =
       ap (λ (us : List UnitRead). before ++ us) (sources_once one_unit named.wide lattices number left sources units others h k)
@@ -288,19 +296,22 @@ module _ (one_unit : OneUnitAtMost) (one_certificate : OneCertificate) (one_verd
       let is = one_prelude one_unit named.wide h.words (words_of lattices) inputs.prelude unit marks h.mean h.is in
       (ap (λ (u : UnitRead). u ∷ []) (is.only k.words other said k.mean k.is), is.numbers k.words other said k.mean k.is)
 
-  before_fits : (before : List UnitRead) (marks : List IndexMark) (file : List ℕ) → named.prelude ≡ Some file → source_limit < length inputs.prelude →
+  before_fits : (before : List UnitRead) (marks : List IndexMark) (file : List ℕ) → named.prelude ≡ Some file
+      → source_limit < length inputs.prelude →
       AreBefore named inputs lattices before marks → ⊥
   before_fits _ _ file some over (NoPrelude none) = absurd cc
   before_fits _ _ file some over (OnePrelude name unit marks too h) = let within = h.within in omega (arith, over, within)
 
-  before_reads : (before : List UnitRead) (marks : List IndexMark) (file : List ℕ) (fault : PreludeFault) → named.prelude ≡ Some file →
+  before_reads : (before : List UnitRead) (marks : List IndexMark) (file : List ℕ) (fault : PreludeFault)
+      → named.prelude ≡ Some file →
       PreludeFails named.wide lattices inputs.prelude fault → AreBefore named inputs lattices before marks → ⊥
   before_reads _ _ file fault some fails (NoPrelude none) = absurd cc
   before_reads _ _ file fault some fails (OnePrelude name unit marks too h) =
       (one_prelude one_unit named.wide h.words (words_of lattices) inputs.prelude unit marks h.mean h.is).sound fails.words fault fails.mean fails.reason
       fails.refused
 
-  units_one : (s t : Status) (x y : List ℕ) → OfUnits named inputs lattices s x → OfUnits named inputs lattices t y → Same s t x y
+  units_one : (s t : Status) (x y : List ℕ) → OfUnits named inputs lattices s x → OfUnits named inputs lattices t y
+      → Same s t x y
   units_one _ _ _ _ (PreludeTooLarge file some over) (PreludeTooLarge name too above) = malformed _ _
   units_one _ _ _ _ (PreludeTooLarge file some over) (PreludeRefused name fault too fails) = malformed _ _
   units_one _ _ _ _ (PreludeTooLarge file some over) (PreludeRead before marks t y reads k) = absurd (before_fits before marks file some over reads)
@@ -321,7 +332,8 @@ module _ (one_unit : OneUnitAtMost) (one_certificate : OneCertificate) (one_verd
 
 -- the lattices
 
-built_lattices : (blocks : List BlockView) (lattices : List LatticeView) → AreAllBuilt blocks lattices → AreLattices lattices
+built_lattices : (blocks : List BlockView) (lattices : List LatticeView) → AreAllBuilt blocks lattices
+    → AreLattices lattices
 built_lattices [] [] h n view there = absurd cc
 built_lattices [] (l ∷ ls) h n view there = absurd h
 built_lattices (b ∷ bs) [] h n view there = absurd h
@@ -329,11 +341,13 @@ built_lattices (b ∷ bs) (l ∷ ls) h zero view there =
     let is : l ≡ view = cc in subst (λ (v : LatticeView). IsLattice v.order) is h.0.built.bounded
 built_lattices (b ∷ bs) (l ∷ ls) h (suc n) view there = built_lattices bs ls h.1 n view there
 
-read_lattices : (wide : Bool) (bytes : List ℕ) (lattices : List LatticeView) → LatticesRead wide bytes lattices → AreLattices lattices
+read_lattices : (wide : Bool) (bytes : List ℕ) (lattices : List LatticeView) → LatticesRead wide bytes lattices
+    → AreLattices lattices
 read_lattices wide bytes lattices h = built_lattices h.read.blocks lattices h.read.built
 
 module _ (one_unit : OneUnitAtMost) (one_certificate : OneCertificate) (one_verdict : OneVerdict) (one_text : OneText) where
-  files_one : (named : FileNames) (inputs : Inputs) (s t : Status) (x y : List ℕ) → OfFiles named inputs s x → OfFiles named inputs t y → Same s t x y
+  files_one : (named : FileNames) (inputs : Inputs) (s t : Status) (x y : List ℕ) → OfFiles named inputs s x
+      → OfFiles named inputs t y → Same s t x y
   files_one named inputs _ _ _ _ (LatticeTooLarge over) (LatticeTooLarge above) = malformed _ _
   files_one named inputs _ _ _ _ (LatticeTooLarge over) (LatticeRefused fault fails) = malformed _ _
   files_one named inputs _ _ _ _ (LatticeTooLarge over) (LatticeRead lattices t y read k) = let within = read.within in absurd (omega (arith, over, within))
@@ -351,7 +365,8 @@ module _ (one_unit : OneUnitAtMost) (one_certificate : OneCertificate) (one_verd
 
   -- a source that the tool makes itself
 
-  sum_once : (number : ℕ) (it : Judging) (s t : Status) (x y : List ℕ) → IsSummed number it s x → IsSummed number it t y → Same s t x y
+  sum_once : (number : ℕ) (it : Judging) (s t : Status) (x y : List ℕ) → IsSummed number it s x → IsSummed number it t y
+      → Same s t x y
   sum_once number it _ _ _ _ (SummedUp errors h right wrong) (SummedUp others k good bad) =
       let same : errors ≡ others = one_error_count it.scene it.system (length it.system.constraints) errors others h k in (
         ap sum_status same,
@@ -379,7 +394,8 @@ module _ (one_unit : OneUnitAtMost) (one_certificate : OneCertificate) (one_verd
 
   -- what is asked
 
-  task_one : (inputs : Inputs) (task : Task) (s t : Status) (x y : List ℕ) → OfTask inputs task s x → OfTask inputs task t y → Same s t x y
+  task_one : (inputs : Inputs) (task : Task) (s t : Status) (x y : List ℕ) → OfTask inputs task s x
+      → OfTask inputs task t y → Same s t x y
   task_one inputs task _ _ _ _ (OfProgram named s x names h) (OfProgram other t y also k) =
       let both : Some named ≡ Some other = sym names ∙ also in
       let same : named ≡ other = cc in

@@ -19,7 +19,8 @@ use Rattle.outcome_laws.proofs.Tokens.{one_list_of_tokens}
 use Rattle.outcome_laws.proofs.Indices.{one_set_of_indices}
 use Rattle.outcome_laws.proofs.Units.{unit_once, unit_not_refused, no_first_fault}
 
-lexes_by : (wide : Bool) (words meanings : Meanings) → MeansTheSame words meanings → (bytes : List ℕ) (lexed : Lexed) → preludes.Lexes wide words bytes lexed →
+lexes_by : (wide : Bool) (words meanings : Meanings) → MeansTheSame words meanings → (bytes : List ℕ) (lexed : Lexed)
+    → preludes.Lexes wide words bytes lexed →
     Lexes 0 wide meanings bytes lexed
 lexes_by wide words meanings mean bytes lexed h = record {
   unit_is = h.unit;
@@ -43,7 +44,8 @@ module _ (lexed : Lexed) (marks said : List IndexMark) (are : AreMarks lexed mar
   numbers_once : (token : ℕ) → numbers_at marks token ≡ numbers_at said token
   numbers_once token = by (numbers_at marks token) (numbers_at said token) refl refl
     where
-      by : (a b : List ℕ) → numbers_at marks token ≡ a → numbers_at said token ≡ b → numbers_at marks token ≡ numbers_at said token
+      by : (a b : List ℕ) → numbers_at marks token ≡ a → numbers_at said token ≡ b
+          → numbers_at marks token ≡ numbers_at said token
       by [] [] e f = e ∙ sym f
       by [] (y ∷ ys) e f =
           numbers_at_index token (also.only token y (subst (λ (ns : List ℕ). Contains ns y) (sym f) (zero, omega arith, refl)))
@@ -54,7 +56,8 @@ module _ (lexed : Lexed) (marks said : List IndexMark) (are : AreMarks lexed mar
   index_once p = ap (λ (ns : List ℕ). if nat_eq p.0 0 then ns else []) (numbers_once p.1)
 
 module _ (one_unit : OneUnitAtMost) (wide : Bool) (meanings : Meanings) (bytes : List ℕ) where
-  parses_once : (words others : Meanings) (a b : UnitRead) → MeansTheSame words meanings → MeansTheSame others meanings →
+  parses_once : (words others : Meanings) (a b : UnitRead) → MeansTheSame words meanings
+      → MeansTheSame others meanings →
       Parses wide words bytes a → Parses wide others bytes b → a ≡ b
   parses_once words others a b mean same h k =
       unit_once one_unit 0 wide meanings bytes a b (lexes_by wide words meanings mean bytes a.lexed h.lexes) h.formed

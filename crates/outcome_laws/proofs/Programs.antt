@@ -2,7 +2,7 @@
 use Rattle.std.proofs.Common.{◌≡◌, ℕ, List, ap, ◌∙◌}
 use Rattle.lattice_core.specs.View.{LatticeView}
 use Rattle.c_types.specs.Sources.{UnitRead, lexed_of, sources_in}
-use Rattle.source_marks.specs.Marks.{mark_among}
+use Rattle.unit_system.specs.SourceMarks.Marks.{mark_among}
 use Rattle.index_words.specs.Marks.{IndexMark, index_in}
 use Rattle.constraint_rules.specs.Systems.{Program, system_of}
 use Rattle.constraint_gen.specs.Programs.{program_in, positions_in, listed_in}
@@ -35,7 +35,8 @@ module _ (named : FileNames) (lattices : List LatticeView) where
     externals = externals_in (texts_of named (lexed_of units)) p;
   }
 
-  pub judged_same : (marks said : List IndexMark) (units others : List UnitRead) → SameIndices marks said → units ≡ others →
+  pub judged_same : (marks said : List IndexMark) (units others : List UnitRead) → SameIndices marks said
+      → units ≡ others →
       judging_of named lattices marks units ≡ judging_of named lattices said others
   judged_same marks said units others same e =
       ap (judging_in units) (program_same marks said units same) ∙ ap (λ (us : List UnitRead). judging_of named lattices said us) e

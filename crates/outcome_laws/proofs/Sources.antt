@@ -18,14 +18,17 @@ use Rattle.outcome_laws.proofs.Programs.{SameIndices, judged_same}
 module _ (one_unit : OneUnitAtMost) (wide : Bool) (lattices : List LatticeView) where
   -- one source
   module _ (number : ℕ) (bytes : List ℕ) where
-    lexes : (lexed : Lexed) → SourceLexes wide lattices number bytes lexed → Lexes number wide (words_of lattices) bytes lexed
+    lexes : (lexed : Lexed) → SourceLexes wide lattices number bytes lexed
+        → Lexes number wide (words_of lattices) bytes lexed
     lexes lexed h = record { unit_is = h.unit; dialect = h.dialect; bytes_are = h.bytes_are; marks = h.marks }
 
-    source_once : (a b : UnitRead) → SourceParses wide lattices number bytes a → SourceParses wide lattices number bytes b → a ≡ b
+    source_once : (a b : UnitRead) → SourceParses wide lattices number bytes a
+        → SourceParses wide lattices number bytes b → a ≡ b
     source_once a b h k =
         unit_once one_unit number wide (words_of lattices) bytes a b (lexes a.lexed h.lexes) h.formed (lexes b.lexed k.lexes) k.formed
 
-    never_refused : (file text : List ℕ) (it : UnitRead) → SourceParses wide lattices number bytes it → SourceRefused wide lattices number file bytes text → ⊥
+    never_refused : (file text : List ℕ) (it : UnitRead) → SourceParses wide lattices number bytes it
+        → SourceRefused wide lattices number file bytes text → ⊥
     never_refused file _ it h (Unspelled fault fails) =
         (one_list_of_tokens number wide (words_of lattices) bytes it.lexed (lexes it.lexed h.lexes)).sound fails.words fault fails.mean
         fails.reason fails.refused
@@ -37,7 +40,8 @@ module _ (one_unit : OneUnitAtMost) (wide : Bool) (lattices : List LatticeView) 
   one_more : (a b : UnitRead) (units others : List UnitRead) → a ≡ b → units ≡ others → a ∷ units ≡ b ∷ others
   one_more a b units others one more = λ i. one i ∷ more i
 
-  pub sources_once : (number left : ℕ) (sources : List (List ℕ × List ℕ)) (units others : List UnitRead) → SourcesParse wide lattices number left sources units
+  pub sources_once : (number left : ℕ) (sources : List (List ℕ × List ℕ)) (units others : List UnitRead)
+      → SourcesParse wide lattices number left sources units
       → SourcesParse wide lattices number left sources others → units ≡ others
   sources_once _ _ _ _ _ (NoSource number left) (NoSource _ _) = refl
   sources_once _ _ _ _ _ (OneSource number left source more unit units within h rest) (OneSource _ _ _ _ other others fits k also) =

@@ -16,7 +16,8 @@ use Rattle.outcome_laws.specs.Readings.{Lexes, OneListOfTokens}
 
 -- tokens that bytes spell, where words mean the same by other lists
 module _ (unit : ℕ) (wide : Bool) (words others : Meanings) (same : MeansTheSame words others) where
-  kind_by : (names : List (List ℕ)) (bytes : List ℕ) (kind : TokenKind) → IsKind unit wide words names bytes kind → IsKind unit wide others names bytes kind
+  kind_by : (names : List (List ℕ)) (bytes : List ℕ) (kind : TokenKind) → IsKind unit wide words names bytes kind
+      → IsKind unit wide others names bytes kind
   kind_by names bytes (Name id) h = h
   kind_by names bytes (Keyword word) h = h
   kind_by names bytes Number h = h
@@ -27,7 +28,8 @@ module _ (unit : ℕ) (wide : Bool) (words others : Meanings) (same : MeansTheSa
   kind_by names bytes Index h = h
   kind_by names bytes End h = h
 
-  reached_by : (bytes : List ℕ) (front : Front) → Reaches unit wide words bytes front → Reaches unit wide others bytes front
+  reached_by : (bytes : List ℕ) (front : Front) → Reaches unit wide words bytes front
+      → Reaches unit wide others bytes front
   reached_by bytes _ begins = begins
   reached_by bytes _ (skips old new before step) = skips old new (reached_by bytes old before) step
   reached_by bytes _ (takes old new before step) =
@@ -57,7 +59,8 @@ module _ (unit : ℕ) (wide : Bool) (words others : Meanings) (same : MeansTheSa
 
 module _ (unit : ℕ) (wide : Bool) (meanings : Meanings) (bytes : List ℕ) where
   -- the tokens, with the words that are asked
-  spells : (lexed : Lexed) → Lexes unit wide meanings bytes lexed → (names : List (List ℕ)) × Spells unit wide meanings bytes lexed.tokens names lexed.marks
+  spells : (lexed : Lexed) → Lexes unit wide meanings bytes lexed
+      → (names : List (List ℕ)) × Spells unit wide meanings bytes lexed.tokens names lexed.marks
   spells lexed h =
       let spelled = rw (h.unit_is, h.dialect, h.bytes_are) at h.marks.spelled in
       (spelled.0, spelled_by unit wide h.marks.words meanings h.marks.mean bytes lexed.tokens spelled.0 lexed.marks spelled.1)
@@ -84,7 +87,8 @@ module _ (unit : ℕ) (wide : Bool) (meanings : Meanings) (bytes : List ℕ) whe
         restrict = restrict i;
       }
 
-  never_refused : (lexed : Lexed) → Lexes unit wide meanings bytes lexed → (words : Meanings) (fault : LexFault) → MeansTheSame words meanings →
+  never_refused : (lexed : Lexed) → Lexes unit wide meanings bytes lexed → (words : Meanings) (fault : LexFault)
+      → MeansTheSame words meanings →
       fault ≢ NoRoom → IsRefusal unit wide words bytes fault → ⊥
   never_refused lexed h words fault mean reason refused =
       let one = spells lexed h in

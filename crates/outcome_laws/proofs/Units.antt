@@ -1,4 +1,5 @@
--- Tokens are those of one well-formed unit, and of none where they are refused. Where names and types have no fault, none is the first.
+-- Tokens are those of one well-formed unit, and of none where they are refused. Where names and types have no fault,
+-- none is the first.
 use Rattle.std.proofs.Common.{◌≡◌, ◌≢◌, ℕ, Bool, List, [], Contains, refl, sym, subst, arith}
 use Rattle.c_lexer.specs.Reading.{Meanings}
 use Rattle.c_lexer.specs.Tokens.{Lexed}
@@ -17,7 +18,8 @@ use Rattle.outcome_laws.specs.Readings.{Lexes}
 use Rattle.outcome_laws.proofs.Tokens.{one_list_of_tokens}
 
 module _ (one_unit : OneUnitAtMost) (number : ℕ) (wide : Bool) (meanings : Meanings) (bytes : List ℕ) where
-  pub unit_once : (a b : UnitRead) → Lexes number wide meanings bytes a.lexed → IsWellFormed a.lexed.wide (lexemes_of a.lexed) a.items →
+  pub unit_once : (a b : UnitRead) → Lexes number wide meanings bytes a.lexed
+      → IsWellFormed a.lexed.wide (lexemes_of a.lexed) a.items →
       Lexes number wide meanings bytes b.lexed → IsWellFormed b.lexed.wide (lexemes_of b.lexed) b.items → a ≡ b
   unit_once a b h formed k also =
       let lexed : a.lexed ≡ b.lexed = (one_list_of_tokens number wide meanings bytes a.lexed h).only b.lexed k in
@@ -25,7 +27,8 @@ module _ (one_unit : OneUnitAtMost) (number : ℕ) (wide : Bool) (meanings : Mea
       (subst (λ (l : Lexed). IsWellFormed l.wide (lexemes_of l) b.items) (sym lexed) also) in
       λ i. record { lexed = lexed i; items = items i }
 
-  pub unit_not_refused : (a : UnitRead) → Lexes number wide meanings bytes a.lexed → IsWellFormed a.lexed.wide (lexemes_of a.lexed) a.items →
+  pub unit_not_refused : (a : UnitRead) → Lexes number wide meanings bytes a.lexed
+      → IsWellFormed a.lexed.wide (lexemes_of a.lexed) a.items →
       (lexed : Lexed) (fault : ParseFault) → Lexes number wide meanings bytes lexed → IsUnitRefusal lexed fault → ⊥
   unit_not_refused a h formed lexed fault k refused =
       refused.none a.items (subst (λ (l : Lexed). IsWellFormed l.wide (lexemes_of l) a.items)
@@ -34,7 +37,8 @@ module _ (one_unit : OneUnitAtMost) (number : ℕ) (wide : Bool) (meanings : Mea
 none_first : (fault : Fault) (all : List Fault) → all ≡ [] → IsFirst fault all → ⊥
 none_first fault all is h = let has = subst (λ (faults : List Fault). Contains faults fault) is h.there in omega (arith, has.1)
 
-pub no_first_fault : (fault : ShapeFault) (all : List Fault) → fault ≢ shapes.NoMemory → all ≡ [] → IsFirstUnlessMemory fault all → ⊥
+pub no_first_fault : (fault : ShapeFault) (all : List Fault) → fault ≢ shapes.NoMemory → all ≡ []
+    → IsFirstUnlessMemory fault all → ⊥
 no_first_fault (shapes.Undeclared unit token) all reason none h = none_first _ all none h
 no_first_fault (shapes.NotPointer unit token) all reason none h = none_first _ all none h
 no_first_fault (shapes.NotFunction unit token) all reason none h = none_first _ all none h

@@ -3,8 +3,8 @@ use Rattle.std.specs.Prelude.{◌≡◌, ℕ, Bool, true, List, Option}
 use Rattle.lattice_core.specs.Order.{Order}
 use Rattle.lattice_core.specs.View.{AreLattices}
 use Rattle.flow_graph.specs.System.{System}
-use Rattle.report_checks.specs.declared.judging.Checked.{Checked}
-use Rattle.report_checks.specs.Checks.{ComesTo}
+use Rattle.path_checker.specs.declared.report_checks.judging.Checked.{Checked}
+use Rattle.path_checker.specs.ReportChecks.Checks.{ComesTo}
 use Rattle.annotate.specs.Texts.{Scene}
 use Rattle.annotate.specs.Reports.{IsJudgedWith, ErrorCount}
 
@@ -13,6 +13,7 @@ pub record JudgementIsOne (scene : Scene) (sys : System) (unit : Option ℕ) (ac
   pub only : (other : Bool) (words : List ℕ) → IsJudgedWith scene sys unit other words → accepted ≡ other
   pub one_text : accepted ≡ true → (words : List ℕ) → IsJudgedWith scene sys unit true words → text ≡ words
 
+-- what a program over lattices is judged to be is one
 abbrev pub OneJudgement : Type 0
 OneJudgement = (scene : Scene) (sys : System) (unit : Option ℕ) → AreLattices scene.lattices → (accepted : Bool) (text : List ℕ) →
     IsJudgedWith scene sys unit accepted text → JudgementIsOne scene sys unit accepted text

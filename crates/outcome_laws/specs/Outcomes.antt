@@ -5,8 +5,10 @@ use Rattle.cqual_tool.specs.declared.status.Status.TheVariants.{Accepted, Reject
 use Rattle.cqual_tool.specs.Inputs.{Inputs}
 use Rattle.cqual_tool.specs.Outcome.{Outcome}
 
--- The text of an answer with this status is one. Of what is rejected the path proofs are free, of who reaches a name the walks, and of
--- a unit that is not well formed the code. The last three are the status of no outcome: the words and the files alone tell none of them.
+-- The text of an answer with this status is one. Of what is rejected the path proofs are free, of who reaches a name
+-- the walks, and of
+-- a unit that is not well formed the code. The last three are the status of no outcome: the words and the files alone
+-- tell none of them.
 abbrev pub HasOneText : Status → Type 0
 HasOneText Accepted = Unit {0}
 HasOneText Rejected = ⊥

@@ -8,15 +8,20 @@ use Rattle.cq_prelude.specs.Preludes.{IsPrelude, IsFaultOf}
 use Rattle.cq_prelude.specs.declared.fault.PreludeFault.{PreludeFault}
 use Rattle.cq_prelude.specs.declared.fault.PreludeFault.TheVariants.{NoMemory as OutOfSpace}
 
--- The unit is one where words mean the same, its index words say one list of numbers at each place, and bytes that are a prelude have
+-- The unit is one where words mean the same, its index words say one list of numbers at each place, and bytes that are
+-- a prelude have
 -- no fault.
 pub record PreludeIsOne (wide : Bool) (meanings : Meanings) (bytes : List ℕ) (unit : UnitRead) (marks : List IndexMark) : Type 0 where
-  pub only : (words : Meanings) (other : UnitRead) (said : List IndexMark) → MeansTheSame words meanings → IsPrelude wide words bytes other said →
+  pub only : (words : Meanings) (other : UnitRead) (said : List IndexMark) → MeansTheSame words meanings
+      → IsPrelude wide words bytes other said →
       unit ≡ other
-  pub numbers : (words : Meanings) (other : UnitRead) (said : List IndexMark) → MeansTheSame words meanings → IsPrelude wide words bytes other said →
+  pub numbers : (words : Meanings) (other : UnitRead) (said : List IndexMark) → MeansTheSame words meanings
+      → IsPrelude wide words bytes other said →
       (p : ℕ × ℕ) → index_in marks p ≡ index_in said p
-  pub sound : (words : Meanings) (fault : PreludeFault) → MeansTheSame words meanings → fault ≢ OutOfSpace → IsFaultOf wide words bytes fault → ⊥
+  pub sound : (words : Meanings) (fault : PreludeFault) → MeansTheSame words meanings → fault ≢ OutOfSpace
+      → IsFaultOf wide words bytes fault → ⊥
 
+-- the prelude that bytes are is one
 abbrev pub OnePrelude : Type 0
 OnePrelude = (wide : Bool) (words meanings : Meanings) (bytes : List ℕ) (unit : UnitRead) (marks : List IndexMark) → MeansTheSame words meanings →
     IsPrelude wide words bytes unit marks → PreludeIsOne wide meanings bytes unit marks

@@ -16,6 +16,7 @@ pub record LatticesAreOne (wide : Bool) (bytes : List ℕ) (lattices : List Latt
   pub only : (others : List LatticeView) → Reads wide bytes others → lattices ≡ others
   pub sound : (fault : LatticeFileFault) → fault ≢ OutOfMemory → IsFileFault wide bytes fault → ⊥
 
+-- the lattices that bytes read as are one list
 abbrev pub OneReadingOfLattices : Type 0
 OneReadingOfLattices = (wide : Bool) (bytes : List ℕ) (lattices : List LatticeView) → Reads wide bytes lattices → LatticesAreOne wide bytes lattices
 
@@ -26,11 +27,14 @@ pub record Lexes (unit : ℕ) (wide : Bool) (meanings : Meanings) (bytes : List 
   pub bytes_are : lexed.bytes ≡ bytes
   pub marks : IsMarkedBy meanings lexed
 
--- The tokens that the bytes of a unit spell are one list, with one meaning of each word, and bytes that spell tokens stop nowhere.
+-- The tokens that the bytes of a unit spell are one list, with one meaning of each word, and bytes that spell tokens
+-- stop nowhere.
 pub record TokensAreOne (unit : ℕ) (wide : Bool) (meanings : Meanings) (bytes : List ℕ) (lexed : Lexed) : Type 0 where
   pub only : (other : Lexed) → Lexes unit wide meanings bytes other → lexed ≡ other
-  pub sound : (words : Meanings) (fault : LexFault) → MeansTheSame words meanings → fault ≢ NoRoom → IsRefusal unit wide words bytes fault → ⊥
+  pub sound : (words : Meanings) (fault : LexFault) → MeansTheSame words meanings → fault ≢ NoRoom
+      → IsRefusal unit wide words bytes fault → ⊥
 
+-- the tokens that bytes spell are one list
 abbrev pub OneListOfTokens : Type 0
 OneListOfTokens = (unit : ℕ) (wide : Bool) (meanings : Meanings) (bytes : List ℕ) (lexed : Lexed) → Lexes unit wide meanings bytes lexed →
     TokensAreOne unit wide meanings bytes lexed

@@ -1,4 +1,7 @@
 //! The answer of the tool is one.
+//!
+//! Entry: `one_outcome`. Invariant: for the same words and files there is one status, and one text but for paths.
+//! It does not know how anything is read, solved or written. Nothing stands above.
 #![tactic(auto)]
 
 mod laws;

@@ -9,7 +9,8 @@ may_give Going content bytes rest is = (rest, is)
 may_give Whole content bytes rest is = is.0
 may_give Broken content bytes rest is = is
 
-broken : (end : End) (content bytes rest : List ℕ) → IsLeft end content bytes rest → (more : List ℕ) × (content ≡ bytes ++ more)
+broken : (end : End) (content bytes rest : List ℕ) → IsLeft end content bytes rest
+    → (more : List ℕ) × (content ≡ bytes ++ more)
 broken Going content bytes rest is = (rest, is)
 broken Whole content bytes rest is = ([], is.0 ∙ sym (append-nil bytes))
 broken Broken content bytes rest is = is
@@ -24,23 +25,27 @@ module _ (files : List (List ℕ × List ℕ)) where
   all_agree rest (r ∷ s ∷ more) are = All-cons (Agrees files) r (s ∷ more) are.0 (all_agree rest (s ∷ more) are.1)
 
   -- one reading more
-  pub one_behind : (old rest : List ℕ) (log : List Reading) (r : Reading) → AreRead files old log → Left rest r → AreRead files rest (log ++ r ∷ [])
+  pub one_behind : (old rest : List ℕ) (log : List Reading) (r : Reading) → AreRead files old log → Left rest r
+      → AreRead files rest (log ++ r ∷ [])
   one_behind old rest [] r are left = left
   one_behind old rest (a ∷ []) r are left = (may_give a.end (content_of files a.name) a.bytes old are, left)
   one_behind old rest (a ∷ b ∷ more) r are left = (are.0, one_behind old rest (b ∷ more) r are.1 left)
 
   -- the last reading goes on
-  pub last_on : (old rest : List ℕ) (f : Reading → Reading) → ((r : Reading) → Left old r → Left rest (f r)) → (log : List Reading)
+  pub last_on : (old rest : List ℕ) (f : Reading → Reading) → ((r : Reading) → Left old r → Left rest (f r))
+      → (log : List Reading)
       → AreRead files old log → AreRead files rest (at_last f log)
   last_on old rest f on [] are = tt
   last_on old rest f on (a ∷ []) are = on a are
   last_on old rest f on (a ∷ b ∷ []) are = (are.0, on b are.1)
   last_on old rest f on (a ∷ b ∷ c ∷ more) are = (are.0, last_on old rest f on (b ∷ c ∷ more) are.1)
 
-  at_broken : (E : Type 0) (e : E) (into old rest : List ℕ) (r : Reading) → Left old r → Left rest (goes_on (Err e) into r)
+  at_broken : (E : Type 0) (e : E) (into old rest : List ℕ) (r : Reading) → Left old r
+      → Left rest (goes_on (Err e) into r)
   at_broken E e into old rest r is = broken r.end (content_of files r.name) r.bytes old is
 
-  at_none : (old rest : List ℕ) → old ≡ [] → rest ≡ [] → (r : Reading) (end : End) → end ≡ r.end → IsLeft end (content_of files r.name) r.bytes old
+  at_none : (old rest : List ℕ) → old ≡ [] → rest ≡ [] → (r : Reading) (end : End) → end ≡ r.end
+      → IsLeft end (content_of files r.name) r.bytes old
       → Left rest (ended end r)
   at_none old rest none spent r Going same is = (is ∙ ap (λ (left : List ℕ). r.bytes ++ left) none ∙ append-nil r.bytes, spent)
   at_none old rest none spent r Whole same is = (is.0, spent)
@@ -53,7 +58,8 @@ module _ (files : List (List ℕ × List ℕ)) where
   at_some piece old rest moves some r Whole same is = absurd (some is.1)
   at_some piece old rest moves some r Broken same is = subst (λ (end : End). IsLeft end (content_of files r.name) r.bytes rest) same is
 
-  pub goes_left : (E : Type 0) (n : ℕ) (into old rest : List ℕ) → old ≡ take n into ++ rest → (n ≡ 0 → old ≡ []) → (old ≡ [] → n ≡ 0)
+  pub goes_left : (E : Type 0) (n : ℕ) (into old rest : List ℕ) → old ≡ take n into ++ rest → (n ≡ 0 → old ≡ [])
+      → (old ≡ [] → n ≡ 0)
       → (r : Reading) → Left old r → Left rest (goes_on {E = E} (Ok n) into r)
   goes_left E zero into old rest moves none spent r is = at_none old rest (none refl) (sym moves ∙ none refl) r r.end refl is
   goes_left E (suc n) into old rest moves none spent r is =
@@ -64,7 +70,8 @@ module _ (files : List (List ℕ × List ℕ)) where
       → AreRead files rest (at_last (goes_on (Err e) into) log)
   fails_read E e into old rest log are = last_on old rest (goes_on (Err e) into) (at_broken E e into old rest) log are
 
-  pub moves_read : (E : Type 0) (n : ℕ) (into old rest : List ℕ) (log : List Reading) → old ≡ take n into ++ rest → (n ≡ 0 → old ≡ [])
+  pub moves_read : (E : Type 0) (n : ℕ) (into old rest : List ℕ) (log : List Reading) → old ≡ take n into ++ rest
+      → (n ≡ 0 → old ≡ [])
       → (old ≡ [] → n ≡ 0) → AreRead files old log → AreRead files rest (at_last (goes_on {E = E} (Ok n) into) log)
   moves_read E n into old rest log moves none spent are =
       last_on old rest (goes_on {E = E} (Ok n) into) (goes_left E n into old rest moves none spent) log are
@@ -81,7 +88,8 @@ module _ (files : List (List ℕ × List ℕ)) where
       one_behind old rest log (record { name = name; bytes = []; end = Broken }) are (content_of files name, refl)
 
 -- one failure more, as a count shows it
-pub shown_on : (faults now failed next : ℕ) → faults ≡ shown failed → now ≡ min (faults + 1) (2 ^ 64 - 1) → next ≡ failed + 1 → now ≡ shown next
+pub shown_on : (faults now failed next : ℕ) → faults ≡ shown failed → now ≡ min (faults + 1) (2 ^ 64 - 1)
+    → next ≡ failed + 1 → now ≡ shown next
 shown_on faults now failed next is one more = omega (arith, is, one, more)
 
 pub shown_same : (faults failed next : ℕ) → faults ≡ shown failed → next ≡ failed + 0 → faults ≡ shown next

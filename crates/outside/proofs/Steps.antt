@@ -40,10 +40,12 @@ module _ (E : Type 0) (buffer : List ℕ) (old mid new : List Reading) (name byt
       ∙ ap (λ (r : Reading). old ++ r ∷ []) (gave_none E n buffer name bytes none)
 
 -- a call that went through one reading
-pub reads_one : (old new : Standing) (r : Reading) → new.log ≡ old.log ++ r ∷ [] → new.failed ≡ old.failed + broken_in (r ∷ []) → new.contents ≡ old.contents
+pub reads_one : (old new : Standing) (r : Reading) → new.log ≡ old.log ++ r ∷ []
+    → new.failed ≡ old.failed + broken_in (r ∷ []) → new.contents ≡ old.contents
     → IfSome new.contents (λ all. All (Agrees all) new.log) → ReadOn old new (r ∷ [])
 reads_one old new r behind failed same agrees = record { behind = behind; failed = failed; contents = same; agrees = of new.contents agrees }
   where
-    of : (told : Option (List (List ℕ × List ℕ))) → IfSome told (λ all. All (Agrees all) new.log) → IfSome told (λ all. All (Agrees all) (r ∷ []))
+    of : (told : Option (List (List ℕ × List ℕ))) → IfSome told (λ all. All (Agrees all) new.log)
+        → IfSome told (λ all. All (Agrees all) (r ∷ []))
     of None is = tt
     of (Some all) is = All-cons (Agrees all) r [] (All-pop (Agrees all) new.log old.log (Some r) behind is).1 (All-nil (Agrees all))

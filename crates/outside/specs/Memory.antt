@@ -12,10 +12,11 @@ use Rattle.outside.specs.Readings.{Reading, End, Going, Whole, Broken, Agrees, c
 abbrev pub greatest_count : ℕ
 greatest_count = 2 ^ 64 - 1
 
--- a number as such a count shows it, and the count of one more
+-- a number as such a count shows it
 abbrev pub shown : ℕ → ℕ
 shown number = min number greatest_count
 
+-- the count of one more
 abbrev pub one_more : ℕ → ℕ
 one_more count = shown (count + 1)
 
@@ -57,6 +58,7 @@ has_file files name = list_any (λ file. bytes_eq file.0 name) files
 abbrev pub file_of : String Global × Vec ℕ Global → List ℕ × List ℕ
 file_of file = (string_bytes file.0, file.1.items)
 
+-- files by their names and their bytes
 abbrev pub files_of : List (String Global × Vec ℕ Global) → List (List ℕ × List ℕ)
 files_of = map file_of
 

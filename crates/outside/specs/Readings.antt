@@ -21,11 +21,12 @@ abbrev pub begun : {T E : Type 0} → List ℕ → Result T E → Reading
 begun name (Ok x) = record { name = name; bytes = []; end = Going }
 begun name (Err e) = record { name = name; bytes = []; end = Broken }
 
--- of a reading that broke nothing more is told
+-- a reading whose end was reached; one that broke stays as it is
 abbrev pub ended : End → Reading → Reading
 ended Broken reading = reading
 ended other reading = record { name = reading.name; bytes = reading.bytes; end = Whole }
 
+-- a reading with more bytes; one that broke stays as it is
 abbrev pub given : End → List ℕ → Reading → Reading
 given Broken piece reading = reading
 given other piece reading = record { name = reading.name; bytes = reading.bytes ++ piece; end = Going }
@@ -46,19 +47,22 @@ at_last f (reading ∷ next ∷ more) = reading ∷ at_last f (next ∷ more)
 abbrev pub since : List Reading → List Reading → List Reading
 since old new = drop (length old) new
 
+-- whether a call for a reading failed
 abbrev pub is_broken : End → Bool
 is_broken Broken = true
 is_broken other = false
 
--- whether a call for one of them failed, and for how many one did
+-- whether a call for one of these readings failed
 abbrev pub has_broken : List Reading → Bool
 has_broken [] = false
 has_broken (reading ∷ readings) = is_broken reading.end || has_broken readings
 
+-- 1 where a test holds, and 0 else
 abbrev pub one_if : Bool → ℕ
 one_if true = 1
 one_if false = 0
 
+-- how many of these readings a call failed for
 abbrev pub broken_in : List Reading → ℕ
 broken_in [] = 0
 broken_in (reading ∷ readings) = one_if (is_broken reading.end) + broken_in readings
@@ -100,10 +104,12 @@ pub record Standing : Type 0 where
   pub failed : ℕ
   pub contents : Option (List (List ℕ × List ℕ))
 
+-- how files stand, by their log, the count of failed calls and what they hold
 abbrev pub stands : List Reading → ℕ → Option (List (List ℕ × List ℕ)) → Standing
 stands log failed contents = record { log = log; failed = failed; contents = contents }
 
--- A call went through these readings: each that broke is of one call that failed, and where the contents are told they stay, and
+-- A call went through these readings: each that broke is of one call that failed, and where the contents are told they
+-- stay, and
 -- may have given the readings.
 pub record ReadOn (old new : Standing) (these : List Reading) : Type 0 where
   pub behind : new.log ≡ old.log ++ these

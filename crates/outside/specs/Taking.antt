@@ -7,7 +7,8 @@ use Rattle.outside.specs.Readings.{Reading, Going, Whole, Broken, is_broken}
 use Rattle.outside.specs.declared.taking.TakeFault.{TakeFault}
 use Rattle.outside.specs.declared.taking.TakeFault.TheVariants.{ReadFault, TooLarge, NoMemory}
 
--- All its bytes where its end was reached within the limit; too large exactly where more than the limit was given; and a
+-- All its bytes where its end was reached within the limit; too large exactly where more than the limit was given; and
+-- a
 -- read fault where a call failed.
 abbrev pub Takes : ℕ → Reading → Result (Vec ℕ Global) TakeFault → Type 0
 Takes limit reading (Ok v) = (reading.end ≡ Whole) × (reading.bytes ≡ v.items) × (length reading.bytes ≤ limit)

@@ -21,17 +21,17 @@ use Rattle.name_rules.specs.Scopes.{Role, typedef_role, object_role, function_ro
 use Rattle.name_rules.specs.Linking.{link_of}
 use Rattle.name_rules.specs.Uses.{use_at, text_type}
 use Rattle.name_rules.specs.Values.{undeclared_function, Shape, address, pick_shape, is_fresh_pick}
-use Rattle.shape_steps.specs.State.{State, value_at, is_zero_at, type_at, shape_at, type_of_operand, first_operand, operands_below}
-use Rattle.shape_steps.specs.Steps.{chosen, step, expr_step}
+use Rattle.name_rules.specs.ShapeSteps.State.{State, value_at, is_zero_at, type_at, shape_at, type_of_operand, first_operand, operands_below}
+use Rattle.name_rules.specs.ShapeSteps.Steps.{chosen, step, expr_step}
 use Rattle.row_rules.specs.Starting.{Start, Around, fresh, some_fresh, owner_there, named_start, declared_start, some_declared_start, name_start, instance, use_by_role, some_use_start, use_start, some_place, is_some_pointer, is_fresh_binary, is_fresh_prefix, prefix_starts, fresh_where, Having, with_skeleton, of_function, without_skeleton, had_name}
 use Rattle.row_rules.specs.Sites.{AreDifferent, has_place}
-use Rattle.row_steps.specs.Rounds.{Naming, a_name, own_param, other_param, identified_param, Rounds, naming, left, round_step}
-use Rattle.row_steps.specs.Starting.{function_at, around, naming_has, selected_among, expr_op_starts, form_op_starts, init_op_starts, spec_op_starts, declr_op_starts, op_starts, starts_found}
-use Rattle.owner_laws.specs.Fitting.{start_at}
+use Rattle.row_rules.specs.RowSteps.Rounds.{Naming, a_name, own_param, other_param, identified_param, Rounds, naming, left, round_step}
+use Rattle.row_rules.specs.RowSteps.Starting.{function_at, around, naming_has, selected_among, expr_op_starts, form_op_starts, init_op_starts, spec_op_starts, declr_op_starts, op_starts, starts_found}
+use Rattle.owned_laws.specs.OwnerLaws.Fitting.{start_at}
 use Rattle.owned_laws.specs.Contexts.{NamingIsOf, BodyIsOf}
 use Rattle.owned_laws.specs.Around.{BeginsIn, IsOwn}
-use Rattle.key_laws.specs.Keys.{expr_key, form_key, init_key, fresh_key, spec_key, declr_key, op_key, key_place, key_places, KeyIsApart}
-use Rattle.scope_laws.proofs.Places.{declared_place, has_not_right, has_not_left, has_left, has_itself, differ_right, differ_before}
+use Rattle.row_laws.specs.KeyLaws.Keys.{expr_key, form_key, init_key, fresh_key, spec_key, declr_key, op_key, key_place, key_places, KeyIsApart}
+use Rattle.owned_laws.proofs.ScopeLaws.Places.{declared_place, has_not_right, has_not_left, has_left, has_itself, differ_right, differ_before}
 use Rattle.owned_laws.proofs.Places.{none_before, none_behind, Kept, none_kept, joined_kept, OneAt, one_kept}
 
 -- at most one, at the place and of the owner
@@ -68,7 +68,8 @@ fresh_begins p e f (x ∷ []) own h it is = by (is_place x.at p) is
     by false is = absurd cc
 fresh_begins p e f (x ∷ (y ∷ xs)) own h it is = absurd h
 
--- In an item of the function: what begins where a name is declared belongs where that does, with the function or nothing
+-- In an item of the function: what begins where a name is declared belongs where that does, with the function or
+-- nothing
 -- around it; what is fresh is the function's or nobody's.
 pub record IsPlaced (s : Names) (f : Option Place) (x : Start) : Type 0 where
   pub named : (d : Declared) → declared_at s.declared x.at ≡ Some d →
@@ -309,7 +310,8 @@ module _ (u : Spelling) (s : Names) (st : State) (r : Rounds) where
     body_own (inl e) = inl (ap (function_at u s) e)
     body_own (inr e) = inr (ap (function_at u s) e)
 
-    naming_own : (token : ℕ) (it : Naming) → NamingIsOf t it → IsOwn f (around_name (around u s r) token (naming_has u s it))
+    naming_own : (token : ℕ) (it : Naming) → NamingIsOf t it
+        → IsOwn f (around_name (around u s r) token (naming_has u s it))
     naming_own token a_name e = body_own own_body
     naming_own token (own_param g n) e = inr (ap (function_at u s) e)
     naming_own token other_param e = inl refl

@@ -12,16 +12,16 @@ use Rattle.tape_ops.specs.declared.declarator.DeclrOp.TheVariants as declrs
 use Rattle.tape_ops.specs.declared.statement.StmtOp.{StmtOp}
 use Rattle.tape_ops.specs.declared.statement.StmtOp.TheVariants as stmts
 use Rattle.c_tape.specs.Tape.{item_tape}
-use Rattle.shape_steps.specs.State.{OpenDeclaration, declared_last, with_name, with_declared, without_name, without_innermost, changed}
+use Rattle.name_rules.specs.ShapeSteps.State.{OpenDeclaration, declared_last, with_name, with_declared, without_name, without_innermost, changed}
 use Rattle.row_rules.specs.Worlds.{World}
-use Rattle.row_steps.specs.Rounds.{Naming, a_name, own_param, other_param, identified_param, Round, Rounds}
-use Rattle.row_steps.specs.Rounds as rounds
-use Rattle.row_steps.specs.State.{State, nothing}
-use Rattle.row_steps.specs.Steps.{step}
-use Rattle.tape_laws.specs.Marks.{Mark, in_declaration, in_params, in_tag, in_scope, in_quiet, in_part, in_body, is_open, turn, IsBracketed, function_token, ItemsAreBracketed}
+use Rattle.row_rules.specs.RowSteps.Rounds.{Naming, a_name, own_param, other_param, identified_param, Round, Rounds}
+use Rattle.row_rules.specs.RowSteps.Rounds as rounds
+use Rattle.row_rules.specs.RowSteps.State.{State, nothing}
+use Rattle.row_rules.specs.RowSteps.Steps.{step}
+use Rattle.owned_laws.specs.TapeLaws.Marks.{Mark, in_declaration, in_params, in_tag, in_scope, in_quiet, in_part, in_body, is_open, turn, IsBracketed, function_token, ItemsAreBracketed}
 use Rattle.owned_laws.specs.Contexts.{NamingIsOf, BodyIsOf, BeginsIts, ContextsAlong, ContextsAreIts}
 use Rattle.owned_laws.proofs.Opening.{opens, row_opens, form_body, spec_body, declr_body}
-use Rattle.tape_laws.proofs.Turns.{Declaring, quiet_was, tag_was, scope_was, declaration_was, params_were, named_was, begun_was, param_was, declared_was, member_was, body_begins, body_was, part_was, identified_was, old_was, auto_was}
+use Rattle.owned_laws.proofs.TapeLaws.Turns.{Declaring, quiet_was, tag_was, scope_was, declaration_was, params_were, named_was, begun_was, param_was, declared_was, member_was, body_begins, body_was, part_was, identified_was, old_was, auto_was}
 
 -- what marks say of the open declarations and of what is around
 
@@ -116,7 +116,8 @@ module _ (t : Option ℕ) where
   name_has names e = subst HasSome (sym e) tt
 
   -- where a declaration may declare, or among own parameters, there may be a skeleton of what is read
-  pub takes_naming : (m : List Mark) (ds : List OpenDeclaration) (rs : List Round) → may_declare m ≡ true → Aligned m ds rs →
+  pub takes_naming : (m : List Mark) (ds : List OpenDeclaration) (rs : List Round) → may_declare m ≡ true
+      → Aligned m ds rs →
       HasSome (rounds.innermost rs).naming
   takes_naming (in_params true ∷ m) ds [] o h = absurd h
   takes_naming (in_params true ∷ m) ds (r ∷ rs) o h = h.0.1
@@ -193,7 +194,8 @@ module _ (t : Option ℕ) where
   next_round_is own n ds [] h = h
   next_round_is own n ds (r ∷ rs) h = ((next_is_of r.naming h.0.0, next_is_own own r.naming h.0.1), h.1)
 
-  identified_round_is : (n : List Mark) (ds : List OpenDeclaration) (rs : List Round) → Aligned (in_params true ∷ n) ds rs →
+  identified_round_is : (n : List Mark) (ds : List OpenDeclaration) (rs : List Round)
+      → Aligned (in_params true ∷ n) ds rs →
       Aligned (in_params true ∷ n) ds (changed rounds.identified_round rs)
   identified_round_is n ds [] h = h
   identified_round_is n ds (r ∷ rs) h = ((identified_is_of r.naming h.0.0, identified_is_own r.naming h.0.1), h.1)

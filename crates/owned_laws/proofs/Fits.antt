@@ -20,28 +20,28 @@ use Rattle.name_rules.specs.Spellings.{Spelling, Place, place}
 use Rattle.name_rules.specs.Scopes.{Role, typedef_role, object_role, function_role, parameter_role, field_role, enumerator_role, Declared, declared_at, Use, means, called, missing, Names, is_place}
 use Rattle.name_rules.specs.Linking.{link_of}
 use Rattle.name_rules.specs.Uses.{use_at}
-use Rattle.meaning_laws.specs.Meanings.{HasFirst, HasLink, IsNobodys, NamesAreFirst}
-use Rattle.shape_steps.specs.State as shapes
-use Rattle.shape_steps.specs.Steps as shape_steps
-use Rattle.shape_steps.specs.State.{OpenDeclaration, declared_last, changed}
+use Rattle.name_rules.specs.MeaningLaws.Meanings.{HasFirst, HasLink, IsNobodys, NamesAreFirst}
+use Rattle.name_rules.specs.ShapeSteps.State as shapes
+use Rattle.name_rules.specs.ShapeSteps.Steps as shape_steps
+use Rattle.name_rules.specs.ShapeSteps.State.{OpenDeclaration, declared_last, changed}
 use Rattle.row_rules.specs.Starting.{Start, Around, first_of, instance, is_function_role, is_some_function, owned_there, owner_there, use_by_role, some_use_start, use_start}
 use Rattle.row_rules.specs.Sites.{has_place}
 use Rattle.row_rules.specs.Worlds.{World, at}
-use Rattle.row_steps.specs.Rounds.{Naming, a_name, own_param, other_param, identified_param, identified_naming, identified_round, naming, is_quiet, Round, Rounds, innermost, name_so_far, params_naming, next_naming, next_round, form_round, spec_round, declr_round, stmt_round, round_step}
-use Rattle.row_steps.specs.State.{State}
-use Rattle.row_steps.specs.Steps.{step}
-use Rattle.row_steps.specs.Starting.{function_at, around, expr_op_starts, form_op_starts, init_op_starts, op_starts}
-use Rattle.key_laws.specs.Keys.{expr_key, form_key, init_key, declr_key, op_key, key_place, key_places}
-use Rattle.scope_laws.specs.Staying.{IsWithin, AreWithin}
-use Rattle.owner_laws.specs.Fitting.{start_at}
-use Rattle.owner_laws.specs.Rows.{IsInstance}
+use Rattle.row_rules.specs.RowSteps.Rounds.{Naming, a_name, own_param, other_param, identified_param, identified_naming, identified_round, naming, is_quiet, Round, Rounds, innermost, name_so_far, params_naming, next_naming, next_round, form_round, spec_round, declr_round, stmt_round, round_step}
+use Rattle.row_rules.specs.RowSteps.State.{State}
+use Rattle.row_rules.specs.RowSteps.Steps.{step}
+use Rattle.row_rules.specs.RowSteps.Starting.{function_at, around, expr_op_starts, form_op_starts, init_op_starts, op_starts}
+use Rattle.row_laws.specs.KeyLaws.Keys.{expr_key, form_key, init_key, declr_key, op_key, key_place, key_places}
+use Rattle.owned_laws.specs.ScopeLaws.Staying.{IsWithin, AreWithin}
+use Rattle.owned_laws.specs.OwnerLaws.Fitting.{start_at}
+use Rattle.owned_laws.specs.OwnerLaws.Rows.{IsInstance}
 use Rattle.owned_laws.specs.Around.{IsOwn, BeginsIn, MeantFits, SomeMeantFits, UseFits, DeclaredFits, ParamFits, FunctionFits, NamingFits, InitFits, FirstInitFits, SomeInitFits, InitialisedFits, ExprFits, FormFits, InitOpFits, DeclrFits, StmtFits, OpFits, MembersFit}
 use Rattle.owned_laws.specs.Contexts.{NamingIsOf, BodyIsOf, OpContext, ContextsAlong}
 use Rattle.owned_laws.specs.Names.{FunctionsBegin}
 use Rattle.owned_laws.specs.Tapes.{OpsFit}
-use Rattle.meaning_laws.proofs.Lists.{place_itself}
-use Rattle.scope_laws.proofs.Places.{declared_place, has_itself, has_right}
-use Rattle.owner_laws.proofs.Instances.{begins_at}
+use Rattle.name_rules.proofs.MeaningLaws.Lists.{place_itself}
+use Rattle.owned_laws.proofs.ScopeLaws.Places.{declared_place, has_itself, has_right}
+use Rattle.owned_laws.proofs.OwnerLaws.Instances.{begins_at}
 use Rattle.owned_laws.proofs.Begin.{FreshAt, fresh_begins, IsPlaced, expr_is, form_is, init_is, IsExact, ExactAlong}
 use Rattle.owned_laws.proofs.Opening.{opens, row_opens, Alike, alike, with_access, step_access}
 
@@ -241,7 +241,8 @@ module _ (k : Scene) where
     module _ (token : ℕ) (r : Rounds) (p : Place) (keyed : has_place i.keys (place u token) ≡ true)
         (used : use_at s.uses (place u token) ≡ means p) where
       -- what a name means is declared there first
-      it_is : (d : Declared) → declared_at s.declared p ≡ Some d → (d.first ≡ p) × (d.role ≡ function_role → d.owner ≡ Some d.at)
+      it_is : (d : Declared) → declared_at s.declared p ≡ Some d
+          → (d.first ≡ p) × (d.role ≡ function_role → d.owner ≡ Some d.at)
       it_is d e =
           let h = k.first.uses (place u token) p used in
           let same : h.it ≡ d = found_same h.it d (sym h.there ∙ e) in (
@@ -378,7 +379,8 @@ module _ (k : Scene) where
     NamingKeyed other_param = Unit {0}
     NamingKeyed (identified_param g) = IsKeyed g
 
-    naming_fits : (token : ℕ) (it : Naming) → has_place i.keys (place u token) ≡ true → NamingIsOf t it → NamingKeyed it →
+    naming_fits : (token : ℕ) (it : Naming) → has_place i.keys (place u token) ≡ true → NamingIsOf t it
+        → NamingKeyed it →
         NamingFits w k.starts f token it
     naming_fits token a_name keyed its known =
         declared_fits (at w token) (declared_at s.declared (at w token)) keyed refl
@@ -420,7 +422,8 @@ module _ (k : Scene) where
     abbrev BodyOwn : Rounds → Type 0
     BodyOwn r = IsOwn f (function_at u s r.body)
 
-    expr_fits : (access : Bool) (sst : shapes.State) (st : State) (op : ExprOp) → BodyOwn st.rounds → IsKeyed (expr_key op) →
+    expr_fits : (access : Bool) (sst : shapes.State) (st : State) (op : ExprOp) → BodyOwn st.rounds
+        → IsKeyed (expr_key op) →
         IsExact u s k.starts (expr_key op) (expr_op_starts u s sst (with_access access st.rounds) op) → ExprFits w k.starts f st op
     expr_fits access sst st (exprs.Name is_called token name) body own e =
         use_fits token (with_access access st.rounds) (use_at s.uses (place u token)) own refl
@@ -464,7 +467,8 @@ module _ (k : Scene) where
     form_fits sst r (forms.Generic token count) body e =
         fresh_fits token r _ body (form_is u s sst r (forms.Generic token count)) e
 
-    init_fits : (access : Bool) (sst : shapes.State) (st : State) (op : InitOp) → BodyOwn st.rounds → IsKeyed (declared_last st.declarations) →
+    init_fits : (access : Bool) (sst : shapes.State) (st : State) (op : InitOp) → BodyOwn st.rounds
+        → IsKeyed (declared_last st.declarations) →
         IsExact u s k.starts (init_key op) (init_op_starts u s sst (with_access access st.rounds) op) → InitOpFits w k.starts f st op
     init_fits access sst st (inits.Value first last) body own e = initialised_fits (declared_last st.declarations) own
     init_fits access sst st inits.Rule body own e = initialised_fits (declared_last st.declarations) own
@@ -541,7 +545,8 @@ module _ (k : Scene) where
     unnamed_open [] h = tt
     unnamed_open (it ∷ outer) h = ((tt, h.0.1), h.1)
 
-    opens_keyed : (ds : List OpenDeclaration) (op : Op) → IsKeyed (op_key op) → AllDeclared ds → AllDeclared (opens op ds)
+    opens_keyed : (ds : List OpenDeclaration) (op : Op) → IsKeyed (op_key op) → AllDeclared ds
+        → AllDeclared (opens op ds)
     opens_keyed ds (ops.Spec specs.SpecsEnd) keyed h = ((tt, tt), h)
     opens_keyed ds (ops.Spec op) keyed h = h
     opens_keyed ds (ops.Declr (declrs.DeclName token name)) keyed h = named_open token ds keyed h

@@ -13,9 +13,9 @@ use Rattle.name_rules.specs.Scopes.{is_place}
 use Rattle.row_rules.specs.Starting.{Start}
 use Rattle.row_rules.specs.Worlds.{World, Numbered, numbered_from, skeleton_among, skeleton}
 use Rattle.row_rules.specs.Sites.{owner_by}
-use Rattle.owner_laws.specs.Fitting.{ListsFit, start_at, SkeletonsAtAreOwned}
-use Rattle.owner_laws.specs.Laws.{owner_among}
-use Rattle.owner_laws.specs.Rows.{AllPartsInside, Inside, RowsFit, InstancesFit, system_with}
+use Rattle.owned_laws.specs.OwnerLaws.Fitting.{ListsFit, start_at, SkeletonsAtAreOwned}
+use Rattle.owned_laws.specs.OwnerLaws.Laws.{owner_among}
+use Rattle.owned_laws.specs.OwnerLaws.Rows.{AllPartsInside, Inside, RowsFit, InstancesFit, system_with}
 use Rattle.owned_laws.specs.Around.{BeginsIn, IsOwn, Settled}
 
 -- the laws that this stands on

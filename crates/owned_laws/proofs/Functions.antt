@@ -1,4 +1,5 @@
--- A function that is declared has a skeleton: a declaration that stands directly in a list of parameters stands in own ones.
+-- A function that is declared has a skeleton: a declaration that stands directly in a list of parameters stands in own
+-- ones.
 use Rattle.std.proofs.Common.{◌≡◌, ℕ, Bool, true, false, List, [], ◌∷◌, ◌++◌, map, length, Option, None, Some, refl, sym, ◌∙◌, ap, subst, ◌⊎◌, inl, inr}
 use Rattle.std.proofs.lemmas.List.Elements.{All-head, All-tail}
 use Rattle.std.specs.Prelude.{All, slice_get, if◌then◌else◌}
@@ -14,7 +15,7 @@ use Rattle.tape_ops.specs.declared.declarator.DeclrOp.{DeclrOp}
 use Rattle.tape_ops.specs.declared.declarator.DeclrOp.TheVariants as declrs
 use Rattle.tape_ops.specs.declared.statement.StmtOp.{StmtOp}
 use Rattle.tape_ops.specs.declared.statement.StmtOp.TheVariants as stmts
-use Rattle.tape_laws.specs.Marks.{Mark, in_declaration, in_params, in_tag, in_scope, in_quiet, in_part, in_body, is_open, turn, IsBracketed, function_token, ItemsAreBracketed}
+use Rattle.owned_laws.specs.TapeLaws.Marks.{Mark, in_declaration, in_params, in_tag, in_scope, in_quiet, in_part, in_body, is_open, turn, IsBracketed, function_token, ItemsAreBracketed}
 use Rattle.type_table.specs.Types.{CType, pointer, words_of}
 use Rattle.name_rules.specs.Spellings.{Spelling, Place, place, Named}
 use Rattle.name_rules.specs.Faults.{no_type, defined_twice, fault_where}
@@ -24,31 +25,31 @@ use Rattle.name_rules.specs.Pieces.{decayed, with_words}
 use Rattle.name_rules.specs.Declaring.{untagged_number, declared_some, declared_param, declared_member, has_word}
 use Rattle.name_rules.specs.Identifiers.{Olds, is_typed, is_unknown, number_of_identifier, old_declared, old_declared_some, old_faults}
 use Rattle.name_rules.specs.Units.{no_names, unit_begun}
-use Rattle.name_steps.specs.State.{OpenDeclaration, State, no_declaration, innermost_or, with_innermost, without_innermost, with_names}
-use Rattle.name_steps.specs.Steps.{declaration, body, parameters, shape_of_part, bare_or_base, olds, with_olds, name_ended, name_declared, auto_typed, is_counted, is_plain, specifier_step, declarator_step, statement_step, step, run}
-use Rattle.name_steps.specs.Units.{tapes_named}
-use Rattle.name_laws.specs.NameLaws.{tape_of_source, IsSound}
+use Rattle.name_rules.specs.NameSteps.State.{OpenDeclaration, State, no_declaration, innermost_or, with_innermost, without_innermost, with_names}
+use Rattle.name_rules.specs.NameSteps.Steps.{declaration, body, parameters, shape_of_part, bare_or_base, olds, with_olds, name_ended, name_declared, auto_typed, is_counted, is_plain, specifier_step, declarator_step, statement_step, step, run}
+use Rattle.name_rules.specs.NameSteps.Units.{tapes_named}
+use Rattle.resolve_laws.specs.NameLaws.NameLaws.{tape_of_source, IsSound}
 use Rattle.std.specs.List.{last_or}
-use Rattle.shape_steps.specs.State as shapes
-use Rattle.shape_steps.specs.Steps as shape_steps
+use Rattle.name_rules.specs.ShapeSteps.State as shapes
+use Rattle.name_rules.specs.ShapeSteps.Steps as shape_steps
 use Rattle.row_rules.specs.Starting.{Start, owner_there, named_start, declared_start, some_declared_start, had_name}
-use Rattle.row_steps.specs.Rounds.{Naming, a_name, own_param, other_param, identified_param, Rounds, file, naming, round_step}
-use Rattle.row_steps.specs.Starting.{around, function_at, naming_has, op_starts, starts_found}
+use Rattle.row_rules.specs.RowSteps.Rounds.{Naming, a_name, own_param, other_param, identified_param, Rounds, file, naming, round_step}
+use Rattle.row_rules.specs.RowSteps.Starting.{around, function_at, naming_has, op_starts, starts_found}
 use Rattle.c_tree.specs.declared.lexeme.Lexeme.{Lexeme}
 use Rattle.c_tree.specs.Unit.{Item, IsItem}
 use Rattle.c_tape.specs.Tape.{item_tape, tape_of}
 use Rattle.type_rules.specs.Program.{Source}
 use Rattle.constraint_rules.specs.Starts.{items_starts}
 use Rattle.constraint_rules.specs.Systems.{starts_among}
-use Rattle.start_laws.specs.Laws.{StartsAreFound}
-use Rattle.owner_laws.specs.Fitting.{start_at}
+use Rattle.row_laws.specs.StartLaws.Laws.{StartsAreFound}
+use Rattle.owned_laws.specs.OwnerLaws.Fitting.{start_at}
 use Rattle.owned_laws.specs.Names.{FunctionsBegin}
-use Rattle.meaning_laws.proofs.Lists.{place_itself}
-use Rattle.meaning_laws.proofs.Growing.{adds_some, names, names_kept, used_same, tag_body_same, untagged_same, keep_same, old_faults_same, entered_same, expr_declarations, expr_same}
-use Rattle.scope_laws.proofs.Places.{declared_place}
+use Rattle.name_rules.proofs.MeaningLaws.Lists.{place_itself}
+use Rattle.name_rules.proofs.MeaningLaws.Growing.{adds_some, names, names_kept, used_same, tag_body_same, untagged_same, keep_same, old_faults_same, entered_same, expr_declarations, expr_same}
+use Rattle.owned_laws.proofs.ScopeLaws.Places.{declared_place}
 use Rattle.owned_laws.proofs.Opening.{shape_opens}
 use Rattle.owned_laws.proofs.Contexts.{HasSome, may_declare, Aligned, aligned, outer_aligned, takes_naming}
-use Rattle.tape_laws.proofs.Turns.{declares_its, Declaring, quiet_was, tag_was, scope_was, declaration_was, params_were, named_was, begun_was, param_was, declared_was, member_was, body_begins, body_was, part_was, identified_was, old_was, AutoEnding, auto_was}
+use Rattle.owned_laws.proofs.TapeLaws.Turns.{declares_its, Declaring, quiet_was, tag_was, scope_was, declaration_was, params_were, named_was, begun_was, param_was, declared_was, member_was, body_begins, body_was, part_was, identified_was, old_was, AutoEnding, auto_was}
 
 -- a skeleton begins there
 
@@ -353,7 +354,8 @@ module _ (s : Names) (starts : List Start) where
     own_may : (d outer : List Mark) → d ≡ in_params true ∷ outer → may_declare d ≡ true
     own_may d outer is = ap may_declare is
 
-    may : (d : List Mark) → (is_open d ≡ true) ⊎ ((outer : List Mark) × (d ≡ in_params true ∷ outer)) → may_declare d ≡ true
+    may : (d : List Mark) → (is_open d ≡ true) ⊎ ((outer : List Mark) × (d ≡ in_params true ∷ outer))
+        → may_declare d ≡ true
     may d (inl o) = open_may d o
     may d (inr own) = own_may d own.0 own.1
 
@@ -475,7 +477,8 @@ module _ (s : Names) (starts : List Start) where
         (items_begun u all items (All-tail (IsItem all) item items well)) (item_tape item) [] st sst r
         (bracketed item (declares_its all item (All-head (IsItem all) item items well))) h tt k inside
 
-    sources_begun : (access : Bool) (sources : List Source) (old : Names) → All IsSound sources → AllBegun old.declared →
+    sources_begun : (access : Bool) (sources : List Source) (old : Names) → All IsSound sources
+        → AllBegun old.declared →
         ((p : Place) → Has (starts_among access s sources) p → Has starts p) →
         AllBegun (tapes_named (map tape_of_source sources) old).declared
     sources_begun access [] old sound k inside = k
@@ -501,7 +504,8 @@ module _ (s : Names) (starts : List Start) where
           subst (λ (it : Declared). it.role ≡ function_role → Begun it.at) same k.0 role
       by false e next = next e role
 
-  pub functions_begin : ItemsAreBracketed → StartsAreFound → (access : Bool) (sources : List Source) → All IsSound sources →
+  pub functions_begin : ItemsAreBracketed → StartsAreFound → (access : Bool) (sources : List Source)
+      → All IsSound sources →
       tapes_named (map tape_of_source sources) no_names ≡ s → starts_among access s sources ≡ starts →
       FunctionsBegin starts s
   functions_begin bracketed begins access sources sound named all p d e role own none =

@@ -9,3 +9,7 @@ mod Places
 mod Stacks
 mod Steps
 mod Whole
+pub mod TapeLaws
+pub mod ScopeLaws
+pub mod OwnerLaws
+pub mod ElementLaws

@@ -11,21 +11,21 @@ use Rattle.tape_ops.specs.declared.declarator.DeclrOp.TheVariants as declrs
 use Rattle.tape_ops.specs.declared.statement.StmtOp.TheVariants as stmts
 use Rattle.name_rules.specs.Spellings.{Spelling}
 use Rattle.name_rules.specs.Scopes.{Names}
-use Rattle.shape_steps.specs.State as shapes
-use Rattle.shape_steps.specs.State.{OpenDeclaration, with_name, with_declared, without_name, without_innermost, changed}
-use Rattle.shape_steps.specs.Steps as shape_steps
+use Rattle.name_rules.specs.ShapeSteps.State as shapes
+use Rattle.name_rules.specs.ShapeSteps.State.{OpenDeclaration, with_name, with_declared, without_name, without_innermost, changed}
+use Rattle.name_rules.specs.ShapeSteps.Steps as shape_steps
 use Rattle.name_rules.specs.Checks.{is_star}
 use Rattle.qual_types.specs.Skel.{Skel}
 use Rattle.row_rules.specs.Vals.{is_ref}
 use Rattle.row_rules.specs.Worlds.{World}
-use Rattle.row_steps.specs.State.{State, value_at}
+use Rattle.row_rules.specs.RowSteps.State.{State, value_at}
 use Rattle.tape_ops.specs.declared.form.FormOp.{FormOp}
 use Rattle.tape_ops.specs.declared.specifier.SpecOp.{SpecOp}
 use Rattle.tape_ops.specs.declared.declarator.DeclrOp.{DeclrOp}
 use Rattle.tape_ops.specs.declared.statement.StmtOp.{StmtOp}
-use Rattle.row_steps.specs.Rounds.{Rounds}
-use Rattle.row_steps.specs.Rounds as rounds
-use Rattle.row_steps.specs.Steps.{carrying, step}
+use Rattle.row_rules.specs.RowSteps.Rounds.{Rounds}
+use Rattle.row_rules.specs.RowSteps.Rounds as rounds
+use Rattle.row_rules.specs.RowSteps.Steps.{carrying, step}
 
 abbrev pub opens : Op → List OpenDeclaration → List OpenDeclaration
 opens (ops.Spec specs.SpecsEnd) ds = record { name = None; declared = None } ∷ ds

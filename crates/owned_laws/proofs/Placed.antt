@@ -1,16 +1,17 @@
--- What begins along the tape of an item belongs to its function, to what was first declared as a function, or to nobody.
+-- What begins along the tape of an item belongs to its function, to what was first declared as a function, or to
+-- nobody.
 use Rattle.std.proofs.Common.{ℕ, Bool, List, [], ◌∷◌, Option, sym, subst}
 use Rattle.tape_ops.specs.declared.op.Op.{Op}
-use Rattle.shape_steps.specs.State as shapes
-use Rattle.shape_steps.specs.State.{OpenDeclaration}
-use Rattle.shape_steps.specs.Steps as shape_steps
+use Rattle.name_rules.specs.ShapeSteps.State as shapes
+use Rattle.name_rules.specs.ShapeSteps.State.{OpenDeclaration}
+use Rattle.name_rules.specs.ShapeSteps.Steps as shape_steps
 use Rattle.name_rules.specs.Spellings.{Place}
 use Rattle.row_rules.specs.Worlds.{World}
-use Rattle.row_steps.specs.Rounds.{Rounds, round_step}
-use Rattle.row_steps.specs.State.{State}
-use Rattle.row_steps.specs.Steps.{step}
-use Rattle.row_steps.specs.Starting.{function_at, op_starts, starts_found}
-use Rattle.key_laws.specs.Keys.{KeysAreApart}
+use Rattle.row_rules.specs.RowSteps.Rounds.{Rounds, round_step}
+use Rattle.row_rules.specs.RowSteps.State.{State}
+use Rattle.row_rules.specs.RowSteps.Steps.{step}
+use Rattle.row_rules.specs.RowSteps.Starting.{function_at, op_starts, starts_found}
+use Rattle.row_laws.specs.KeyLaws.Keys.{KeysAreApart}
 use Rattle.owned_laws.specs.Contexts.{ContextsAlong}
 use Rattle.owned_laws.proofs.Opening.{Alike, alike, with_access, step_access}
 use Rattle.owned_laws.proofs.Begin.{AllPlaced, placed_joined, op_placed}

@@ -5,8 +5,8 @@ use Rattle.name_rules.specs.Spellings.{Place}
 use Rattle.name_rules.specs.Scopes.{is_place}
 use Rattle.row_rules.specs.Starting.{Start}
 use Rattle.row_rules.specs.Sites.{AreDifferent, has_place, place_of, site_places}
-use Rattle.owner_laws.specs.Fitting.{start_at}
-use Rattle.scope_laws.proofs.Places.{has_not, has_not_left, has_not_right, differ_left, differ_right, differ_apart, differ_joined}
+use Rattle.owned_laws.specs.OwnerLaws.Fitting.{start_at}
+use Rattle.owned_laws.proofs.ScopeLaws.Places.{has_not, has_not_left, has_not_right, differ_left, differ_right, differ_apart, differ_joined}
 
 -- joined lists
 

@@ -14,11 +14,11 @@ use Rattle.row_rules.specs.Worlds.{at, skeleton}
 use Rattle.row_rules.specs.Annotations.{further, has_access}
 use Rattle.row_rules.specs.Vals.{Val, a_value, a_place, Candidate, no_zeros, or_all, left_of, value_of_left, pick_of, is_vector_index, index_of, contents, read, value, is_ref, result, member_of, known_skeleton, member_skel, sum_of, binary_of, prefix_of, used_by_role, used_some, used, own, branch}
 use Rattle.row_rules.specs.Rows.{own_skel, next_of_struct, first_alone, by_role, by_first, initialised_at}
-use Rattle.row_steps.specs.State.{Operand, expression, named_type, Braces, whole, untargeted, listed, first_operand, val_of_operand, first_braces}
-use Rattle.row_steps.specs.Steps.{item_target, target_in, list_of, with_member, with_index, with_item, initialised_by}
-use Rattle.row_steps.specs.OpRows.{function_skeleton}
-use Rattle.shape_steps.specs.State.{changed, without_innermost}
-use Rattle.owner_laws.specs.Rows.{SomeInside, SomeIn, AllInside}
+use Rattle.row_rules.specs.RowSteps.State.{Operand, expression, named_type, Braces, whole, untargeted, listed, first_operand, val_of_operand, first_braces}
+use Rattle.row_rules.specs.RowSteps.Steps.{item_target, target_in, list_of, with_member, with_index, with_item, initialised_by}
+use Rattle.row_rules.specs.RowSteps.OpRows.{function_skeleton}
+use Rattle.name_rules.specs.ShapeSteps.State.{changed, without_innermost}
+use Rattle.owned_laws.specs.OwnerLaws.Rows.{SomeInside, SomeIn, AllInside}
 use Rattle.owned_laws.specs.Around.{MeantFits, SomeMeantFits, UseFits, FunctionFits, InitFits, FirstInitFits, SomeInitFits, InitialisedFits}
 use Rattle.owned_laws.proofs.Found.{Setting, sys, owner, In, Begins, none_in, skeleton_in, nobodys_in}
 

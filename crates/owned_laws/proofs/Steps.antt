@@ -24,8 +24,8 @@ use Rattle.name_rules.specs.Linking.{link_of}
 use Rattle.name_rules.specs.Uses.{use_at}
 use Rattle.flow_graph.specs.declared.constraint.Constraint.{Constraint}
 use Rattle.name_rules.specs.Checks.{is_star}
-use Rattle.shape_steps.specs.Steps.{twice}
-use Rattle.shape_steps.specs.State.{declared_last, without_innermost}
+use Rattle.name_rules.specs.ShapeSteps.Steps.{twice}
+use Rattle.name_rules.specs.ShapeSteps.State.{declared_last, without_innermost}
 use Rattle.row_rules.specs.Starting.{Start}
 use Rattle.row_rules.specs.Worlds.{World, at, all_lattices, skeleton, span, word_span}
 use Rattle.row_rules.specs.Forming.{formed}
@@ -33,16 +33,16 @@ use Rattle.row_rules.specs.Annotations.{parameters, further}
 use Rattle.row_rules.specs.Vals.{contents, is_ref, is_carrying, left_of, own}
 use Rattle.row_rules.specs.Vals as vals
 use Rattle.row_rules.specs.Rows.{carried, prefixed, some_param_kind, numbered_row, identified_by, crossed, formed_here, instance, some_instance, use_demand, annotating_some, annotating_place, equal_to, name_row, declared_row, some_declared_row, param_row, row_at}
-use Rattle.row_steps.specs.Rounds.{Naming, a_name, own_param, other_param, identified_param, naming, is_quiet, Rounds, round_step, stmt_round}
-use Rattle.row_steps.specs.State.{Operand, Braces, State, nothing, first_operand, val_of_operand, is_zero_operand, type_of_operand, val_at, value_at, is_zero_at, type_at, operand_put, dropped, depth_below, operands_below, operands_within, first_braces}
-use Rattle.row_steps.specs.Steps.{carrying, candidate_at, chosen, selected, target_in, with_member, with_index, with_item, initialised_by, expr_step, form_step, init_step, spec_step, declr_step, stmt_step, step}
-use Rattle.row_steps.specs.OpRows.{function_skeleton, some_param_row, naming_row, into_target, called_at, expr_row, form_row, init_row, spec_row, declr_row, stmt_row, loud_row, op_row}
-use Rattle.row_steps.specs.Found.{rows_found}
-use Rattle.owner_laws.specs.Fitting.{AllFit, start_at}
-use Rattle.owner_laws.specs.Rows.{MembersInside, RowsOf}
+use Rattle.row_rules.specs.RowSteps.Rounds.{Naming, a_name, own_param, other_param, identified_param, naming, is_quiet, Rounds, round_step, stmt_round}
+use Rattle.row_rules.specs.RowSteps.State.{Operand, Braces, State, nothing, first_operand, val_of_operand, is_zero_operand, type_of_operand, val_at, value_at, is_zero_at, type_at, operand_put, dropped, depth_below, operands_below, operands_within, first_braces}
+use Rattle.row_rules.specs.RowSteps.Steps.{carrying, candidate_at, chosen, selected, target_in, with_member, with_index, with_item, initialised_by, expr_step, form_step, init_step, spec_step, declr_step, stmt_step, step}
+use Rattle.row_rules.specs.RowSteps.OpRows.{function_skeleton, some_param_row, naming_row, into_target, called_at, expr_row, form_row, init_row, spec_row, declr_row, stmt_row, loud_row, op_row}
+use Rattle.row_rules.specs.RowSteps.Found.{rows_found}
+use Rattle.owned_laws.specs.OwnerLaws.Fitting.{AllFit, start_at}
+use Rattle.owned_laws.specs.OwnerLaws.Rows.{MembersInside, RowsOf}
 use Rattle.owned_laws.specs.Around.{BeginsIn, MeantFits, SomeMeantFits, UseFits, DeclaredFits, ParamFits, FunctionFits, NamingFits, ExprFits, FormFits, InitOpFits, DeclrFits, StmtFits, OpFits}
 use Rattle.owned_laws.specs.Tapes.{OpsFit}
-use Rattle.meaning_laws.proofs.Lists.{place_is}
+use Rattle.name_rules.proofs.MeaningLaws.Lists.{place_is}
 use Rattle.owned_laws.proofs.Opening.{form_body, spec_body, declr_body}
 use Rattle.owned_laws.proofs.Found.{Setting, sys, owner, In, none_in, skeleton_in}
 use Rattle.owned_laws.proofs.Stacks.{SomeSkelIn, contents_in, result_in, value_in, further_in, own_in, either_in, branch_in, binary_in, prefix_in, index_in, AllValsIn, vals_joined, left_in, pick_in, used_in, member_skel_in, initialised_in, function_in, OperandIn, OperandsIn, drop_in, take_in, reverse_in, first_val_in, first_value_in, AllBracesIn, first_braces_in, others_in, changed_in, target_in_in, list_of_in, with_member_in, with_index_in, with_item_in}
@@ -309,7 +309,8 @@ module _ (k : Setting) where
   members_inside : MembersInside (sys k) w
   members_inside n i it e = skeleton_in (record k { function = None }) it.at (k.settled.members.own n i it e)
 
-  forms_in : (p : Place) (where_ : Span) → (o : Option Start) → start_at k.starts p ≡ o → AllFit (sys k) (formed w where_ (skeleton w p))
+  forms_in : (p : Place) (where_ : Span) → (o : Option Start) → start_at k.starts p ≡ o
+      → AllFit (sys k) (formed w where_ (skeleton w p))
   forms_in p where_ None e =
       rows.form (skeleton w p) where_ members_inside (skeleton_in k p (λ it is. let clash : None ≡ Some it = sym e ∙ is in absurd cc))
   forms_in p where_ (Some start) e =

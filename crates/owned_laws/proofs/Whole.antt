@@ -14,39 +14,39 @@ use Rattle.name_rules.specs.Spellings.{Spelling, Place}
 use Rattle.name_rules.specs.Scopes.{Role, function_role, Declared, declared_at, Names, is_place}
 use Rattle.name_rules.specs.Linking.{link_of}
 use Rattle.type_rules.specs.Program.{Source, names_of}
-use Rattle.shape_steps.specs.State as shapes
+use Rattle.name_rules.specs.ShapeSteps.State as shapes
 use Rattle.row_rules.specs.Starting.{Start, is_function_role}
 use Rattle.row_rules.specs.Annotations.{has_access}
 use Rattle.row_rules.specs.Worlds.{World, numbered_from, skeleton_among}
 use Rattle.row_rules.specs.Sites.{AreDifferent, first_place, functions_among, functions_of, has_place, is_first_function, owner_by}
-use Rattle.row_steps.specs.Rounds.{file}
-use Rattle.row_steps.specs.State.{nothing}
-use Rattle.row_steps.specs.Found.{unit_rows}
-use Rattle.row_steps.specs.Starting.{function_at, unit_starts}
+use Rattle.row_rules.specs.RowSteps.Rounds.{file}
+use Rattle.row_rules.specs.RowSteps.State.{nothing}
+use Rattle.row_rules.specs.RowSteps.Found.{unit_rows}
+use Rattle.row_rules.specs.RowSteps.Starting.{function_at, unit_starts}
 use Rattle.constraint_rules.specs.Demands.{item_demand, items_demand}
 use Rattle.constraint_rules.specs.Starts.{item_starts, items_starts}
 use Rattle.constraint_rules.specs.Systems.{Program, starts_among, starts_of, world_of, demands_among, system_of}
 use Rattle.row_laws.specs.Laws.{RowsAreFound}
-use Rattle.start_laws.specs.Laws.{StartsAreFound}
-use Rattle.meaning_laws.specs.Meanings.{Differ, IsThing, NamesAreFirst, MeaningsAreFirst, ThingsAre}
-use Rattle.name_laws.specs.NameLaws.{tape_of_source, IsSound, NamesOfTapes}
-use Rattle.key_laws.specs.Keys.{key_places, KeysAreApart}
-use Rattle.key_laws.specs.Differing.{IsRead, UnitsDiffer, keys_among, KeysDiffer}
-use Rattle.scope_laws.specs.Apart.{AllApart, DeclarationsDiffer, NamesAreApart}
-use Rattle.scope_laws.specs.Staying.{AreWithin, ItemsStay, SourcesStay, NamesStay}
-use Rattle.owner_laws.specs.Fitting.{AllFit, FittingIsWellOwned, ListsFit, SkeletonsAtAreOwned, start_at}
-use Rattle.owner_laws.specs.Laws.{owner_among}
+use Rattle.row_laws.specs.StartLaws.Laws.{StartsAreFound}
+use Rattle.name_rules.specs.MeaningLaws.Meanings.{Differ, IsThing, NamesAreFirst, MeaningsAreFirst, ThingsAre}
+use Rattle.resolve_laws.specs.NameLaws.NameLaws.{tape_of_source, IsSound, NamesOfTapes}
+use Rattle.row_laws.specs.KeyLaws.Keys.{key_places, KeysAreApart}
+use Rattle.row_laws.specs.KeyLaws.Differing.{IsRead, UnitsDiffer, keys_among, KeysDiffer}
+use Rattle.owned_laws.specs.ScopeLaws.Apart.{AllApart, DeclarationsDiffer, NamesAreApart}
+use Rattle.owned_laws.specs.ScopeLaws.Staying.{AreWithin, ItemsStay, SourcesStay, NamesStay}
+use Rattle.owned_laws.specs.OwnerLaws.Fitting.{AllFit, FittingIsWellOwned, ListsFit, SkeletonsAtAreOwned, start_at}
+use Rattle.owned_laws.specs.OwnerLaws.Laws.{owner_among}
 use Rattle.owned_laws.specs.Functions.{FunctionsOwnTheirs, OwnsIts}
-use Rattle.tape_laws.specs.Marks.{function_token, DeclaresIts, ItemsAreBracketed}
+use Rattle.owned_laws.specs.TapeLaws.Marks.{function_token, DeclaresIts, ItemsAreBracketed}
 use Rattle.owned_laws.specs.Around.{Settled}
 use Rattle.owned_laws.specs.Tapes.{TapesFit}
 use Rattle.owned_laws.specs.Programs.{SystemsAreOwned}
-use Rattle.meaning_laws.proofs.Lists.{place_itself, place_is}
-use Rattle.scope_laws.proofs.Places.{declared_place, has_itself, has_left, has_right, differ_before, differ_apart, differ_right, keys_joined}
+use Rattle.name_rules.proofs.MeaningLaws.Lists.{place_itself, place_is}
+use Rattle.owned_laws.proofs.ScopeLaws.Places.{declared_place, has_itself, has_left, has_right, differ_before, differ_apart, differ_right, keys_joined}
 use Rattle.owned_laws.proofs.Places.{Kept, none_kept, joined_kept, none_before, none_behind}
 use Rattle.owned_laws.proofs.Begin.{IsPlaced, AllPlaced, placed_at, tape_kept, ExactAlong, exact, regroup}
 use Rattle.owned_laws.proofs.Placed.{tape_placed}
-use Rattle.tape_laws.proofs.Turns.{declares_its}
+use Rattle.owned_laws.proofs.TapeLaws.Turns.{declares_its}
 use Rattle.owned_laws.proofs.Contexts.{contexts_along}
 use Rattle.owned_laws.proofs.Fits.{Scene, Item as ItemScene, function_there, members, along}
 use Rattle.owned_laws.proofs.Functions.{functions_begin}
@@ -86,13 +86,15 @@ nothing_named : (it : ℕ × Place) → Contains (names_of []).things it → ⊥
 nothing_named it (i, within, is) = omega (arith, within)
 
 -- what holds of all things holds of each
-thing_at : (P : Place → Type 0) (things : List (ℕ × Place)) (it : ℕ × Place) → ThingsAre P things → Contains things it → P it.1
+thing_at : (P : Place → Type 0) (things : List (ℕ × Place)) (it : ℕ × Place) → ThingsAre P things → Contains things it
+    → P it.1
 thing_at P [] it h (i, within, is) = absurd (omega (arith, within))
 thing_at P (x ∷ things) it h (zero, within, is) = subst (λ (y : ℕ × Place). P y.1) is h.0
 thing_at P (x ∷ things) it h (suc i, within, is) = thing_at P things it h.1 (i, omega (arith, within), is)
 
 -- what is first declared as a function is one of those that are numbered
-first_is : (bodies : List Place) (d : Declared) → d.at ≡ d.first → d.role ≡ function_role → is_first_function bodies d ≡ true
+first_is : (bodies : List Place) (d : Declared) → d.at ≡ d.first → d.role ≡ function_role
+    → is_first_function bodies d ≡ true
 first_is bodies d first role =
     ap (λ (b : Bool). if b then (if is_function_role d.role then true else has_place bodies d.at) else false)
     (subst (λ (x : Place). is_place d.at x ≡ true) first (place_itself d.at))
@@ -102,11 +104,13 @@ one_more : (f : Place → Place) (bodies : List Place) (x : Declared) (ds : List
     has_place (map f (functions_among bodies ds)) (f q) ≡ true → has_place (map f (functions_among bodies (x ∷ ds))) (f q) ≡ true
 one_more f bodies x ds q has = on (is_first_function bodies x)
   where
-    on : (b : Bool) → has_place (map f (if b then x.at ∷ functions_among bodies ds else functions_among bodies ds)) (f q) ≡ true
+    on : (b : Bool)
+        → has_place (map f (if b then x.at ∷ functions_among bodies ds else functions_among bodies ds)) (f q) ≡ true
     on true = has_right (f x.at ∷ []) (map f (functions_among bodies ds)) (f q) has
     on false = has
 
-function_numbered : (f : Place → Place) (bodies : List Place) (ds : List Declared) (q : Place) (d : Declared) → declared_at ds q ≡ Some d →
+function_numbered : (f : Place → Place) (bodies : List Place) (ds : List Declared) (q : Place) (d : Declared)
+    → declared_at ds q ≡ Some d →
     is_first_function bodies d ≡ true → has_place (map f (functions_among bodies ds)) (f q) ≡ true
 function_numbered f bodies [] q d e is = absurd cc
 function_numbered f bodies (x ∷ ds) q d e is =

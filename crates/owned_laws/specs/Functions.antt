@@ -1,4 +1,5 @@
--- Each object or function that was first declared at a place as a function has a number among functions, and a skeleton there, of which
+-- Each object or function that was first declared at a place as a function has a number among functions, and a skeleton
+-- there, of which
 -- all variables are its own.
 use Rattle.std.specs.Prelude.{◌≡◌, ℕ, true, All, Some}
 use Rattle.std.specs.List.{Contains}
@@ -13,7 +14,7 @@ use Rattle.row_rules.specs.Annotations.{has_access}
 use Rattle.row_rules.specs.Sites.{functions_of, has_place, owner_by}
 use Rattle.row_rules.specs.Worlds.{numbered_from, skeleton_among}
 use Rattle.constraint_rules.specs.Systems.{Program, starts_of, system_of}
-use Rattle.key_laws.specs.Differing.{IsRead, UnitsDiffer}
+use Rattle.row_laws.specs.KeyLaws.Differing.{IsRead, UnitsDiffer}
 
 -- what was first declared at the place is a function, by its link, and the variables of the skeleton there belong to it
 pub record OwnsIts (p : Program) (q : Place) : Type 0 where
@@ -21,7 +22,7 @@ pub record OwnsIts (p : Program) (q : Place) : Type 0 where
   pub owned : AllOwned (owner_of (system_of p)) (owner_by (functions_of (names_of p.sources)) (Some (link_of (names_of p.sources) q)))
       (nodes (skeleton_among (numbered_from 0 (starts_of (has_access p.lattices) p.sources)) q))
 
--- of units that were read, no two with one number
+-- the law: functions own the variables of their skeletons, where units were read and no two have one number
 abbrev pub FunctionsOwnTheirs : Type 0
 FunctionsOwnTheirs =
     (p : Program) → All IsRead p.sources → UnitsDiffer p.sources → (name : ℕ) (q : Place) (d : Declared)

@@ -4,3 +4,7 @@ pub mod Functions
 pub mod Names
 pub mod Programs
 pub mod Tapes
+pub mod TapeLaws
+pub mod ScopeLaws
+pub mod OwnerLaws
+pub mod ElementLaws

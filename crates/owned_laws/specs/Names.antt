@@ -3,7 +3,7 @@ use Rattle.std.specs.Prelude.{◌≡◌, List, None, Some}
 use Rattle.name_rules.specs.Spellings.{Place}
 use Rattle.name_rules.specs.Scopes.{function_role, Declared, declared_at, Names}
 use Rattle.row_rules.specs.Starting.{Start}
-use Rattle.owner_laws.specs.Fitting.{start_at}
+use Rattle.owned_laws.specs.OwnerLaws.Fitting.{start_at}
 
 -- each function that belongs to itself has a skeleton
 abbrev pub FunctionsBegin : List Start → Names → Type 0

@@ -5,11 +5,11 @@ use Rattle.tape_ops.specs.declared.op.Op.{Op}
 use Rattle.name_rules.specs.Spellings.{Place}
 use Rattle.row_rules.specs.Starting.{Start}
 use Rattle.row_rules.specs.Worlds.{World}
-use Rattle.row_steps.specs.State.{State, nothing}
-use Rattle.row_steps.specs.Steps.{step}
-use Rattle.row_steps.specs.Found.{unit_rows}
-use Rattle.owner_laws.specs.Fitting.{AllFit}
-use Rattle.owner_laws.specs.Rows.{system_with}
+use Rattle.row_rules.specs.RowSteps.State.{State, nothing}
+use Rattle.row_rules.specs.RowSteps.Steps.{step}
+use Rattle.row_rules.specs.RowSteps.Found.{unit_rows}
+use Rattle.owned_laws.specs.OwnerLaws.Fitting.{AllFit}
+use Rattle.owned_laws.specs.OwnerLaws.Rows.{system_with}
 use Rattle.owned_laws.specs.Around.{OpFits, Settled}
 
 -- each op of a tape, in one function
@@ -17,6 +17,7 @@ abbrev pub OpsFit : World → List Start → Option Place → State → List Op 
 OpsFit w starts f st [] = Unit {0}
 OpsFit w starts f st (op ∷ tape) = OpFits w starts f st op × OpsFit w starts f (step w st op) tape
 
+-- the law: where each op of a tape fits in one function, so do the constraints of the tape
 abbrev pub TapesFit : Type 0
 TapesFit =
     (functions : List Place) (starts : List Start) (cs : List Constraint) (w : World) (f : Option Place)

@@ -4,14 +4,16 @@ ghost use Rattle.owned_laws.specs.Functions.{FunctionsOwnTheirs};
 ghost use Rattle.owned_laws.specs.Programs.{SystemsAreOwned};
 ghost use Rattle.owned_laws.specs.Tapes.{TapesFit};
 
-use key_laws::keys_differ;
-use meaning_laws::meanings_are_first;
-use name_laws::names_of_tapes;
-use owner_laws::{fitting_is_well_owned, instances_fit, parts_stay, rows_fit, skeletons_are_owned};
+use crate::owner_laws::{
+    fitting_is_well_owned, instances_fit, parts_stay, rows_fit, skeletons_are_owned,
+};
+use crate::scope_laws::{declarations_differ, names_are_apart, names_stay};
+use crate::tape_laws::items_are_bracketed;
+use name_rules::meaning_laws::meanings_are_first;
+use resolve_laws::name_laws::names_of_tapes;
+use row_laws::key_laws::keys_differ;
 use row_laws::rows_are_found;
-use scope_laws::{declarations_differ, names_are_apart, names_stay};
-use start_laws::starts_are_found;
-use tape_laws::items_are_bracketed;
+use row_laws::start_laws::starts_are_found;
 
 /// The constraints along a tape fit, where the skeletons that each op looks up belong to the
 /// function around it or to nobody.

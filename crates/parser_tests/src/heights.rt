@@ -1,8 +1,6 @@
-//! Units that are exactly 500 high, and those that would be higher by one.
+//! Units that are exactly 500 high, which are read, and those that would be higher by one.
 
-use crate::answers::{answer, fault_text, tokens_of};
-use c_height::of_unit;
-use c_parser::parse;
+use crate::answers::answer;
 use std::alloc::{AllocError, Global};
 use std::process::Abort;
 use std::test::Fail;
@@ -414,23 +412,14 @@ fn nested(alloc: Global, nest: &Nest, count: u32) -> Result<String, AllocError> 
     Ok(source)
 }
 
-/// The height of a source's tree as a text, or its fault.
-fn height_text(rt: &impl Abort, alloc: Global, source: &str) -> Result<String, AllocError> {
-    let tokens = tokens_of(rt, alloc, 1, source);
-    match parse(alloc, &tokens) {
-        Ok(unit) => format!(in alloc; "{} high", of_unit(&unit)),
-        Err(fault) => fault_text(rt, alloc, &tokens, fault),
-    }
-}
-
-/// Compares the height or the fault of a source.
+/// Compares the fault of a source, or that it is read.
 fn compare_height(
     rt: &impl Abort,
     alloc: Global,
     source: &str,
     expected: &str,
 ) -> Result<(), Fail> {
-    let text = height_text(rt, alloc, source)?;
+    let text = answer(rt, alloc, source)?;
     assert_eq!(rt; text.as_str(), expected, "{}", source);
     Ok(())
 }
@@ -439,7 +428,7 @@ fn compare_nest(rt: &impl Abort, alloc: Global, nest: &Nest) -> Result<(), Fail>
     let most = nest.5;
     assert!(rt; most < 1000);
     let lower = nested(alloc, nest, most)?;
-    compare_height(rt, alloc, lower.as_str(), "500 high")?;
+    compare_height(rt, alloc, lower.as_str(), "")?;
     let higher = nested(alloc, nest, most + 1)?;
     compare_height(rt, alloc, higher.as_str(), nest.6)
 }

@@ -6,3 +6,4 @@ mod WholeReports
 mod Placed
 mod Ordered
 mod Sameness
+pub mod ReportChecks

@@ -7,7 +7,8 @@ pub capped_more : (v d : ℕ) → capped (10 * capped v + d) ≡ capped (10 * v 
 capped_more v d = omega arith
 
 -- digits behind a number and behind that number read no higher than 2^32 - 1 write the same, read so
-pub number_behind-capped : (ds : List ℕ) (v w : ℕ) → capped v ≡ capped w → option_map capped (number_behind v ds) ≡ option_map capped (number_behind w ds)
+pub number_behind-capped : (ds : List ℕ) (v w : ℕ) → capped v ≡ capped w
+    → option_map capped (number_behind v ds) ≡ option_map capped (number_behind w ds)
 number_behind-capped [] v w same = ap Some same
 number_behind-capped (d ∷ ds) v w same =
     let further : capped (10 * v + (d - 48)) ≡ capped (10 * w + (d - 48)) = sym (capped_more v (d - 48)) ∙ ap (λ x. capped (10 * x + (d - 48))) same ∙ capped_more w (d - 48) in

@@ -5,7 +5,8 @@ use Rattle.lattice_core.specs.Order.{Order, IsOrder}
 use Rattle.lattice_core.specs.View.{LatticeView, AreLattices, orders_of}
 use Rattle.path_checker.specs.Orders.{AreOrders}
 
-view_of : (o : Option LatticeView) (order : Order) → option_map (λ (view : LatticeView). view.order) o ≡ Some order → (view : LatticeView) × (o ≡ Some view) × (view.order ≡ order)
+view_of : (o : Option LatticeView) (order : Order) → option_map (λ (view : LatticeView). view.order) o ≡ Some order
+    → (view : LatticeView) × (o ≡ Some view) × (view.order ≡ order)
 view_of (Some view) order e = (view, refl, cc)
 view_of None order e = absurd cc
 

@@ -12,7 +12,8 @@ use Rattle.path_checker.proofs.WholeReports.{report_passes, passing_is_report}
 
 module _ (edges : ℕ) where
   -- from each section some lines lead to the end
-  completes : (section : Section) (n : ℕ) → (behind : List Line) × ((others : ℕ) → fault_from others section n behind ≡ None)
+  completes : (section : Section) (n : ℕ)
+      → (behind : List Line) × ((others : ℕ) → fault_from others section n behind ≡ None)
   completes Start n = (Rejected ∷ Error ∷ Path ∷ [], λ others. refl)
   completes Opened n = (Error ∷ Path ∷ [], λ others. refl)
   completes InError n = (Path ∷ [], λ others. refl)
@@ -27,7 +28,8 @@ module _ (edges : ℕ) where
 
   pub record Misfits (section : Section) (n k : ℕ) (lines : List Line) : Type 0 where
     pub stands : StandsAt section n k lines
-    pub none : k < length lines → (others : ℕ) (behind : List Line) → fault_from others section n (take (suc k) lines ++ behind) ≡ None → ⊥
+    pub none : k < length lines → (others : ℕ) (behind : List Line)
+        → fault_from others section n (take (suc k) lines ++ behind) ≡ None → ⊥
 
   pub record NamesNone (section : Section) (n k : ℕ) (lines : List Line) : Type 0 where
     pub stands : StandsAt section n k lines
@@ -55,7 +57,8 @@ module _ (edges : ℕ) where
   unknown_line Other unknown = absurd cc
 
   -- what names one of the constraints names one of more
-  known_of_more : (others : ℕ) (line : Line) → edges ≤ others → is_unknown edges line ≡ false → is_unknown others line ≡ false
+  known_of_more : (others : ℕ) (line : Line) → edges ≤ others → is_unknown edges line ≡ false
+      → is_unknown others line ≡ false
   known_of_more others (Take m) more known = grind (arith, known, more)
   known_of_more others Rejected more known = refl
   known_of_more others Error more known = refl
@@ -65,7 +68,8 @@ module _ (edges : ℕ) where
   known_of_more others Other more known = refl
 
   -- a line that passes moves the place by one
-  stands_on : (section to : Section) (n k : ℕ) (line : Line) (lines : List Line) → next section line ≡ Some to → is_unknown edges line ≡ false →
+  stands_on : (section to : Section) (n k : ℕ) (line : Line) (lines : List Line) → next section line ≡ Some to
+      → is_unknown edges line ≡ false →
       StandsAt to (n + 1) k lines → StandsAt section n (suc k) (line ∷ lines)
   stands_on section to n k line lines follows named stands = record {
     within = omega (arith, stands.within);
@@ -73,12 +77,14 @@ module _ (edges : ℕ) where
     begins = rw (follows, named) stands.begins;
   }
 
-  passes_on : (others : ℕ) (section to : Section) (n : ℕ) (line : Line) (rest : List Line) (b : Bool) → is_unknown others line ≡ b →
+  passes_on : (others : ℕ) (section to : Section) (n : ℕ) (line : Line) (rest : List Line) (b : Bool)
+      → is_unknown others line ≡ b →
       cond b (Some (NoSuchConstraint n)) (fault_from others to (n + 1) rest) ≡ None → fault_from others to (n + 1) rest ≡ None
   passes_on others section to n line rest true is h = absurd cc
   passes_on others section to n line rest false is h = h
 
-  placed_on : (section to : Section) (n : ℕ) (line : Line) (lines : List Line) (fault : ReportFault) → next section line ≡ Some to → is_unknown edges line ≡ false →
+  placed_on : (section to : Section) (n : ℕ) (line : Line) (lines : List Line) (fault : ReportFault)
+      → next section line ≡ Some to → is_unknown edges line ≡ false →
       Placed to (n + 1) lines fault → Placed section n (line ∷ lines) fault
   placed_on section to n line lines (Grammar m) follows named (k, is, misfits) = (
     suc k,
@@ -105,7 +111,8 @@ module _ (edges : ℕ) where
   )
   placed_on section to n line lines NoMemory follows named placed = tt
 
-  at_once : (section : Section) (n : ℕ) (line : Line) (lines : List Line) (fault : ReportFault) → next section line ≡ None → Grammar n ≡ fault → Placed section n (line ∷ lines) fault
+  at_once : (section : Section) (n : ℕ) (line : Line) (lines : List Line) (fault : ReportFault)
+      → next section line ≡ None → Grammar n ≡ fault → Placed section n (line ∷ lines) fault
   at_once section n line lines fault follows is =
       let placed : Placed section n (line ∷ lines) (Grammar n) = (
         0,
@@ -124,7 +131,8 @@ module _ (edges : ℕ) where
   known_below : (m : ℕ) → is_unknown (suc m) (Take m) ≡ false
   known_below m = grind arith
 
-  unnamed : (section to : Section) (n : ℕ) (line : Line) (lines : List Line) (fault : ReportFault) → next section line ≡ Some to → is_unknown edges line ≡ true → NoSuchConstraint n ≡ fault →
+  unnamed : (section to : Section) (n : ℕ) (line : Line) (lines : List Line) (fault : ReportFault)
+      → next section line ≡ Some to → is_unknown edges line ≡ true → NoSuchConstraint n ≡ fault →
       Placed section n (line ∷ lines) fault
   unnamed section to n line lines fault follows unknown is =
       let number = unknown_line line unknown in
@@ -144,27 +152,31 @@ module _ (edges : ℕ) where
       ) in
       subst (λ (f : ReportFault). Placed section n (line ∷ lines) f) is placed
 
-  placed_named : (section to : Section) (n : ℕ) (line : Line) (lines : List Line) (fault : ReportFault) (b : Bool) → is_unknown edges line ≡ b → next section line ≡ Some to →
+  placed_named : (section to : Section) (n : ℕ) (line : Line) (lines : List Line) (fault : ReportFault) (b : Bool)
+      → is_unknown edges line ≡ b → next section line ≡ Some to →
       ((to : Section) → fault_from edges to (n + 1) lines ≡ Some fault → Placed to (n + 1) lines fault) →
       cond b (Some (NoSuchConstraint n)) (fault_from edges to (n + 1) lines) ≡ Some fault → Placed section n (line ∷ lines) fault
   placed_named section to n line lines fault true unknown follows deeper h = unnamed section to n line lines fault follows unknown cc
   placed_named section to n line lines fault false named follows deeper h = placed_on section to n line lines fault follows named (deeper to h)
 
-  placed_behind : (section : Section) (n : ℕ) (line : Line) (lines : List Line) (fault : ReportFault) (o : Option Section) → next section line ≡ o →
+  placed_behind : (section : Section) (n : ℕ) (line : Line) (lines : List Line) (fault : ReportFault) (o : Option Section)
+      → next section line ≡ o →
       ((to : Section) → fault_from edges to (n + 1) lines ≡ Some fault → Placed to (n + 1) lines fault) →
       fault_behind edges n line o (λ s. fault_from edges s (n + 1) lines) ≡ Some fault → Placed section n (line ∷ lines) fault
   placed_behind section n line lines fault None follows deeper h = at_once section n line lines fault follows cc
   placed_behind section n line lines fault (Some to) follows deeper h =
       placed_named section to n line lines fault (is_unknown edges line) refl follows deeper h
 
-  at_end : (section : Section) (n : ℕ) (fault : ReportFault) (b : Bool) → cond b None (Some (Grammar n)) ≡ Some fault → Placed section n [] fault
+  at_end : (section : Section) (n : ℕ) (fault : ReportFault) (b : Bool) → cond b None (Some (Grammar n)) ≡ Some fault
+      → Placed section n [] fault
   at_end section n fault true h = absurd cc
   at_end section n fault false h =
       let placed : Placed section n [] (Grammar n) = (0, omega arith, record { stands = here section n []; none = λ below others behind passes. absurd (omega (arith, below)) }) in
       let same : Grammar n ≡ fault = cc in
       subst (λ (f : ReportFault). Placed section n [] f) same placed
 
-  placed : (lines : List Line) (section : Section) (n : ℕ) (fault : ReportFault) → fault_from edges section n lines ≡ Some fault → Placed section n lines fault
+  placed : (lines : List Line) (section : Section) (n : ℕ) (fault : ReportFault)
+      → fault_from edges section n lines ≡ Some fault → Placed section n lines fault
   placed [] section n fault h = at_end section n fault (may_end section) h
   placed (line ∷ lines) section n fault h =
       placed_behind section n line lines fault (next section line) refl (λ to. placed lines to (n + 1) fault) h
@@ -172,7 +184,8 @@ module _ (edges : ℕ) where
   begins_report : (k : ℕ) (lines : List Line) → StandsAt Start 1 k lines → BeginsReport edges (take k lines)
   begins_report k lines stands = (stands.behind, passing_is_report edges (take k lines ++ stands.behind) stands.begins)
 
-  pub fault_is_placed : (lines : List Line) (fault : ReportFault) → report_fault edges lines ≡ Some fault → IsPlaced edges lines fault
+  pub fault_is_placed : (lines : List Line) (fault : ReportFault) → report_fault edges lines ≡ Some fault
+      → IsPlaced edges lines fault
   fault_is_placed lines (Grammar m) h =
       let there = placed lines Start 1 (Grammar m) h in
       record {

@@ -72,14 +72,16 @@ cleared InError held clear = clear
 cleared (InSub k) held clear = tt
 cleared InPath held clear = tt
 
-moved : (to : Section) (held : Held) (n : ℕ) (lines : List Line) → goes_on to (record held { section = to }) n lines ≡ goes_on to held n lines
+moved : (to : Section) (held : Held) (n : ℕ) (lines : List Line)
+    → goes_on to (record held { section = to }) n lines ≡ goes_on to held n lines
 moved Start held n lines = refl
 moved Opened held n lines = refl
 moved InError held n lines = refl
 moved (InSub k) held n lines = refl
 moved InPath held n lines = refl
 
--- The reader has taken the lines in front of number n: what fails and what is proved behind them is so of the whole text.
+-- The reader has taken the lines in front of number n: what fails and what is proved behind them is so of the whole
+-- text.
 pub record Stands (edges : ℕ) (all : List Line) (held : Held) (n : ℕ) (lines : List Line) : Type 0 where
   pub clear : IsClear held.section held
   pub fault_is : fault_from edges held.section n lines ≡ report_fault edges all
@@ -101,12 +103,15 @@ stands_behind edges all held n line lines to stands follows known =
     }
 
 -- a text that begins with a line has it as its first, and one without a line feed has no line that fits
-pub lines_of-line : (text line behind : List ℕ) → slice_split (λ b. b == 10) text ≡ line ∷ slice_split (λ b. b == 10) behind → lines_of text ≡ line_kind line ∷ lines_of behind
+pub lines_of-line : (text line behind : List ℕ)
+    → slice_split (λ b. b == 10) text ≡ line ∷ slice_split (λ b. b == 10) behind
+    → lines_of text ≡ line_kind line ∷ lines_of behind
 lines_of-line text line behind parts =
     let rest = split_parts (λ b. b == 10) behind in
     ap lines_in parts ∙ ap (λ pieces. lines_in (line ∷ pieces)) rest.2 ∙ ap (λ pieces. line_kind line ∷ lines_in pieces) (sym rest.2)
 
-pub lines_of-whole : (text : List ℕ) → slice_split (λ b. b == 10) text ≡ text ∷ [] → lines_of text ≡ (if bytes_eq text [] then [] else Other ∷ [])
+pub lines_of-whole : (text : List ℕ) → slice_split (λ b. b == 10) text ≡ text ∷ []
+    → lines_of text ≡ (if bytes_eq text [] then [] else Other ∷ [])
 lines_of-whole [] whole = refl
 lines_of-whole (b ∷ text) whole = ap lines_in whole
 

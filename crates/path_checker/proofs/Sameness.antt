@@ -74,7 +74,8 @@ stray_rule sys p is = rw is refl
 sub_rule : (sys : System) (home : Owner) (p : Place) → p.path ≡ Sub home → walk_rule_at sys p ≡ rule_at sys no_order p
 sub_rule sys home p is = by_bound (is_bound p.step) refl
   where
-    by_bound : (b : Bool) → is_bound p.step ≡ b → (if b then Some B1 else rule_at sys no_order p) ≡ rule_at sys no_order p
+    by_bound : (b : Bool) → is_bound p.step ≡ b
+        → (if b then Some B1 else rule_at sys no_order p) ≡ rule_at sys no_order p
     by_bound false e = refl
     by_bound true e = stray_rule sys p (fails p home is e)
 
@@ -86,7 +87,8 @@ same_walk_subs sys lattice earlier (s ∷ subs) =
     ∙ ap (or_else (first_failing sys no_order (Sub (home_of sys s)) lattice 0 (look sys earlier) [] s))
     (same_walk_subs sys lattice (earlier ++ s ∷ []) subs)
   where
-    inside : (see : PathStep → Seen) (before : List Seen) (steps : List PathStep) → faults_for sys None (Sub (home_of sys s)) lattice 0 see before steps
+    inside : (see : PathStep → Seen) (before : List Seen) (steps : List PathStep)
+        → faults_for sys None (Sub (home_of sys s)) lattice 0 see before steps
         ≡ first_failing sys no_order (Sub (home_of sys s)) lattice 0 see before steps
     inside see before [] = refl
     inside see before (t ∷ steps) =

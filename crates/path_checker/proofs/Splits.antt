@@ -8,7 +8,8 @@ module _ (test : ℕ → Bool) where
   is_false false h = refl
 
   -- the first part ends before the first byte that passes
-  pub split_found : (xs : List ℕ) (k : ℕ) → k < length xs → test (get_or xs k 0) ≡ true → ((j : ℕ) → j < k → test (get_or xs j 0) ≡ true → ⊥) →
+  pub split_found : (xs : List ℕ) (k : ℕ) → k < length xs → test (get_or xs k 0) ≡ true
+      → ((j : ℕ) → j < k → test (get_or xs j 0) ≡ true → ⊥) →
       slice_split test xs ≡ take k xs ∷ slice_split test (drop (suc k) xs)
   split_found [] k below here none = absurd (omega arith)
   split_found (x ∷ xs) zero below here none = rw here refl
@@ -20,7 +21,8 @@ module _ (test : ℕ → Bool) where
       rw (ends, deeper) refl
 
   -- without such a byte the text is the one part
-  pub split_whole : (xs : List ℕ) → ((j : ℕ) → j < length xs → test (get_or xs j 0) ≡ true → ⊥) → slice_split test xs ≡ xs ∷ []
+  pub split_whole : (xs : List ℕ) → ((j : ℕ) → j < length xs → test (get_or xs j 0) ≡ true → ⊥)
+      → slice_split test xs ≡ xs ∷ []
   split_whole [] none = refl
   split_whole (x ∷ xs) none =
       let ends : test x ≡ false = is_false (test x) (none 0 (omega arith)) in

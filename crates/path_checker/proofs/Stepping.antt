@@ -34,7 +34,8 @@ call_first sys path lattice elem from after = and_false (not (ends_with_nobody s
 
 -- what is known before the first step
 pub begun : (sys : System) (lattices : Option (List LatticeView)) (path : Path) (lattice elem : ℕ) (see : PathStep → Seen) (from : Option ℕ)
-    (steps : List PathStep) → Walked sys lattices path lattice elem see (first_of (behind lattice from)) None false steps
+    (steps : List PathStep)
+    → Walked sys lattices path lattice elem see (first_of (behind lattice from)) None false steps
     (faults_for sys lattices path lattice elem see (behind lattice from) steps)
 begun sys lattices path lattice elem see None steps = record { before = []; one_is = refl; two_is = refl; call_is = refl; total_is = refl }
 begun sys lattices path lattice elem see (Some v) steps = record {

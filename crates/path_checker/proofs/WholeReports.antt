@@ -18,8 +18,10 @@ known edges m below = grind arith
 
 module _ (edges : ℕ) where
   -- a section in which steps may stand
-  steps_pass : (section : Section) → ((m : ℕ) → next section (Take m) ≡ Some section) → ((m : ℕ) → next section (Through m) ≡ Some section) →
-      (steps : List Written) (behind : List Line) → AreNamed edges steps → Passes edges section behind → Passes edges section (step_lines steps behind)
+  steps_pass : (section : Section) → ((m : ℕ) → next section (Take m) ≡ Some section)
+      → ((m : ℕ) → next section (Through m) ≡ Some section) →
+      (steps : List Written) (behind : List Line) → AreNamed edges steps → Passes edges section behind
+      → Passes edges section (step_lines steps behind)
   steps_pass section takes goes [] behind named passes n = passes n
   steps_pass section takes goes (by_constraint m ∷ steps) behind named passes n =
       rw (takes m, known edges m named.0) (steps_pass section takes goes steps behind named.1 passes (n + 1))
@@ -27,7 +29,8 @@ module _ (edges : ℕ) where
       rw (goes m) (steps_pass section takes goes steps behind named passes (n + 1))
 
   subs_pass : (section : Section) (j : ℕ) → next section (Sub j) ≡ Some (InSub j) → next section Path ≡ Some InPath →
-      (subs : List (List Written)) (behind : List Line) → SubsAreNamed edges subs → Passes edges InPath behind → Passes edges section (sub_lines j subs (Path ∷ behind))
+      (subs : List (List Written)) (behind : List Line) → SubsAreNamed edges subs → Passes edges InPath behind
+      → Passes edges section (sub_lines j subs (Path ∷ behind))
   subs_pass section j opens ends [] behind named passes n = rw ends (passes (n + 1))
   subs_pass section j opens ends (steps ∷ subs) behind named passes n =
       rw opens
@@ -96,8 +99,10 @@ module _ (edges : ℕ) where
       } in
       subst (λ (k : ℕ). SubsLeft k (Sub m ∷ lines)) same here
 
-  sub_goes_on : (j : ℕ) (lines : List Line) (line : Line) (step : Written) → ((steps : List Written) (behind : List Line) → step_lines (step ∷ steps) behind ≡ line ∷ step_lines steps behind) →
-      ((steps : List Written) → AreNamed edges steps → AreNamed edges (step ∷ steps)) → SubLeft j lines → SubLeft j (line ∷ lines)
+  sub_goes_on : (j : ℕ) (lines : List Line) (line : Line) (step : Written)
+      → ((steps : List Written) (behind : List Line) → step_lines (step ∷ steps) behind ≡ line ∷ step_lines steps behind) →
+      ((steps : List Written) → AreNamed edges steps → AreNamed edges (step ∷ steps)) → SubLeft j lines
+      → SubLeft j (line ∷ lines)
   sub_goes_on j lines line step is named left = record {
     steps = step ∷ left.steps;
     behind = left.behind;
@@ -106,8 +111,10 @@ module _ (edges : ℕ) where
     left = left.left;
   }
 
-  path_goes_on : (lines : List Line) (line : Line) (step : Written) → ((steps : List Written) (behind : List Line) → step_lines (step ∷ steps) behind ≡ line ∷ step_lines steps behind) →
-      ((steps : List Written) → AreNamed edges steps → AreNamed edges (step ∷ steps)) → PathLeft lines → PathLeft (line ∷ lines)
+  path_goes_on : (lines : List Line) (line : Line) (step : Written)
+      → ((steps : List Written) (behind : List Line) → step_lines (step ∷ steps) behind ≡ line ∷ step_lines steps behind) →
+      ((steps : List Written) → AreNamed edges steps → AreNamed edges (step ∷ steps)) → PathLeft lines
+      → PathLeft (line ∷ lines)
   path_goes_on lines line step is named left = record {
     steps = step ∷ left.steps;
     errors = left.errors;
@@ -117,18 +124,21 @@ module _ (edges : ℕ) where
   }
 
   -- a sub-path's line stands where its number is the next one
-  by_number : {A : Type 0} → (k m n : ℕ) (section : Section) (behind : Section → Option ReportFault) (b : Bool) → (m == k) ≡ b →
+  by_number : {A : Type 0} → (k m n : ℕ) (section : Section) (behind : Section → Option ReportFault) (b : Bool)
+      → (m == k) ≡ b →
       fault_behind edges n (Sub m) (cond b (Some section) None) behind ≡ None → (m ≡ k → behind section ≡ None → A) → A
   by_number k m n section behind true same h then_ = then_ (grind (arith, same)) h
   by_number k m n section behind false same h then_ = absurd cc
 
   -- a step that does not fail names a constraint
-  by_name : {A : Type 0} → (m n : ℕ) (rest : Option ReportFault) (b : Bool) → not (nat_lt m edges) ≡ b → cond b (Some (NoSuchConstraint n)) rest ≡ None →
+  by_name : {A : Type 0} → (m n : ℕ) (rest : Option ReportFault) (b : Bool) → not (nat_lt m edges) ≡ b
+      → cond b (Some (NoSuchConstraint n)) rest ≡ None →
       (m < edges → rest ≡ None → A) → A
   by_name m n rest true unknown h then_ = absurd cc
   by_name m n rest false is_known h then_ = then_ (grind (arith, is_known)) h
 
-  left_of : (lines : List Line) (section : Section) (n : ℕ) → fault_from edges section n lines ≡ None → Left section lines
+  left_of : (lines : List Line) (section : Section) (n : ℕ) → fault_from edges section n lines ≡ None
+      → Left section lines
   left_of [] Start n h = absurd cc
   left_of [] Opened n h = absurd cc
   left_of [] InError n h = absurd cc

@@ -15,7 +15,7 @@ pub record WrittenError : Type 0 where
   pub subs : List (List Written)
   pub main : List Written
 
--- Each is followed by the lines that stand behind it.
+-- the lines of steps, and those that stand behind them
 abbrev pub step_lines : List Written → List Line → List Line
 step_lines [] behind = behind
 step_lines (by_constraint n ∷ steps) behind = Take n ∷ step_lines steps behind
@@ -26,6 +26,7 @@ abbrev pub sub_lines : ℕ → List (List Written) → List Line → List Line
 sub_lines n [] behind = behind
 sub_lines n (steps ∷ subs) behind = Sub n ∷ step_lines steps (sub_lines (n + 1) subs behind)
 
+-- the lines of errors, each with its sub-paths and its main path
 abbrev pub error_lines : List WrittenError → List Line
 error_lines [] = []
 error_lines (e ∷ errors) = Error ∷ sub_lines 1 e.subs (Path ∷ step_lines e.main (error_lines errors))
@@ -36,10 +37,12 @@ AreNamed edges [] = Unit {0}
 AreNamed edges (by_constraint n ∷ steps) = (n < edges) × AreNamed edges steps
 AreNamed edges (by_sub_path n ∷ steps) = AreNamed edges steps
 
+-- each step of these sub-paths by a constraint has the number of one
 abbrev pub SubsAreNamed : ℕ → List (List Written) → Type 0
 SubsAreNamed edges [] = Unit {0}
 SubsAreNamed edges (steps ∷ subs) = AreNamed edges steps × SubsAreNamed edges subs
 
+-- each step of these errors by a constraint has the number of one
 abbrev pub ErrorsAreNamed : ℕ → List WrittenError → Type 0
 ErrorsAreNamed edges [] = Unit {0}
 ErrorsAreNamed edges (e ∷ errors) = SubsAreNamed edges e.subs × AreNamed edges e.main × ErrorsAreNamed edges errors
@@ -76,6 +79,7 @@ pub record NamesNothing (edges : ℕ) (lines : List Line) (n : ℕ) : Type 0 whe
   pub past : edges ≤ constraint
   pub fits : BeginsReport (suc constraint) (take (suc before) lines)
 
+-- a fault is at the line where it should be; want of memory has none
 abbrev pub IsPlaced : ℕ → List Line → ReportFault → Type 0
 IsPlaced edges lines (Grammar n) = IsMisfit edges lines n
 IsPlaced edges lines (NoSuchConstraint n) = NamesNothing edges lines n

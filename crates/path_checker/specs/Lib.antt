@@ -5,3 +5,4 @@ pub mod Lines
 pub mod Report
 pub mod Reader
 pub mod Grammar
+pub mod ReportChecks

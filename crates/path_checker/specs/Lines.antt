@@ -25,15 +25,17 @@ number_of (d ∷ e ∷ ds) = if d == 48 then None else number_behind 0 (d ∷ e 
 unfoldable pub behind : List ℕ → List ℕ → Option (List ℕ)
 behind word line = if bytes_eq (take (length word) line) word then Some (drop (length word) line) else None
 
--- a line that is read for its number
+-- the line of a sub-path, by its number, if that reads
 abbrev pub sub_line : Option ℕ → Line
 sub_line (Some n) = Sub (capped n)
 sub_line None = Other
 
+-- a step by a sub-path, by its number, if that reads
 abbrev pub through_line : Option ℕ → Line
 through_line (Some n) = Through (capped n)
 through_line None = Other
 
+-- a step by a constraint, by its number, if that reads
 abbrev pub take_line : Option ℕ → Line
 take_line (Some n) = Take (capped n)
 take_line None = Other
@@ -43,6 +45,7 @@ abbrev pub first_word : List (List ℕ) → Line
 first_word (word ∷ next ∷ words) = take_line (number_of word)
 first_word _ = Other
 
+-- a step by what stands behind `sub`, if that begins it
 abbrev pub by_sub : Option (List ℕ) → List ℕ → Line
 by_sub (Some numeral) step = through_line (number_of numeral)
 by_sub None step = first_word (slice_split (λ b. b == 32) step)
@@ -51,10 +54,12 @@ by_sub None step = first_word (slice_split (λ b. b == 32) step)
 unfoldable pub step_kind : List ℕ → Line
 step_kind step = by_sub (behind (codes "sub ") step) step
 
+-- a step, where a line begins with two spaces
 abbrev pub by_indent : Option (List ℕ) → Line
 by_indent (Some step) = step_kind step
 by_indent None = Other
 
+-- a line by what stands behind `sub`, if that begins it, and else as a step
 abbrev pub by_header : Option (List ℕ) → List ℕ → Line
 by_header (Some numeral) line = sub_line (number_of numeral)
 by_header None line = by_indent (behind (codes "  ") line)
@@ -74,5 +79,6 @@ lines_in ([] ∷ []) = []
 lines_in ((b ∷ bs) ∷ []) = Other ∷ []
 lines_in (line ∷ next ∷ pieces) = line_kind line ∷ lines_in (next ∷ pieces)
 
+-- the lines of a text
 abbrev pub lines_of : List ℕ → List Line
 lines_of text = lines_in (slice_split (λ b. b == 10) text)

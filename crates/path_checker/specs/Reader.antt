@@ -16,10 +16,12 @@ pub record Held : Type 0 where
   pub subs : List (List PathStep)
   pub steps : List PathStep
 
+-- a sub-path that was being read is whole
 abbrev pub close_sub : Section → Held → Held
 close_sub (InSub k) held = record held { subs = held.subs ++ held.steps ∷ []; steps = [] }
 close_sub _ held = held
 
+-- a main path that was being read is whole, and its proof too, which ends before line n
 abbrev pub close_proof : Section → ℕ → Held → Held
 close_proof InPath n held =
     record held { proofs = held.proofs ++ record { subs = held.subs; main = held.steps; end = n } ∷ []; subs = []; steps = [] }

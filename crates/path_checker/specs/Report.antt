@@ -17,6 +17,7 @@ pub record Steps : Type 0 where
   pub main : List PathStep
   pub end : ℕ
 
+-- the lists of steps of a path proof
 abbrev pub shape_of : PathProof → Steps
 shape_of proof = record { subs = steps_of proof.subs.items; main = proof.main.items; end = proof.end }
 
@@ -57,6 +58,7 @@ abbrev pub fault_from : ℕ → Section → ℕ → List Line → Option ReportF
 fault_from edges section n [] = if may_end section then None else Some (Grammar n)
 fault_from edges section n (line ∷ lines) = fault_behind edges n line (next section line) (λ s. fault_from edges s (n + 1) lines)
 
+-- the first line of a report that fails
 abbrev pub report_fault : ℕ → List Line → Option ReportFault
 report_fault edges lines = fault_from edges Start 1 lines
 
@@ -75,12 +77,13 @@ subs_at n (Take edge ∷ lines) = subs_at (n + 1) lines
 subs_at n (Through number ∷ lines) = subs_at (n + 1) lines
 subs_at n (_ ∷ lines) = []
 
--- the steps behind the next `path` line, and the number of the line behind them
+-- the steps behind the next `path` line
 abbrev pub main_at : ℕ → List Line → List PathStep
 main_at n [] = []
 main_at n (Path ∷ lines) = steps_at (n + 1) lines
 main_at n (_ ∷ lines) = main_at (n + 1) lines
 
+-- the number of the line behind the steps of the next `path` line
 abbrev pub end_at : ℕ → List Line → ℕ
 end_at n [] = n
 end_at n (Path ∷ lines) = n + 1 + length (steps_at (n + 1) lines)
@@ -93,5 +96,6 @@ proofs_at n (Error ∷ lines) =
     record { subs = subs_at (n + 1) lines; main = main_at (n + 1) lines; end = end_at (n + 1) lines } ∷ proofs_at (n + 1) lines
 proofs_at n (_ ∷ lines) = proofs_at (n + 1) lines
 
+-- the path proofs of a whole report
 abbrev pub proofs_in : List Line → List Steps
 proofs_in lines = proofs_at 1 lines

@@ -32,14 +32,16 @@ behind lattice None = []
 behind lattice (Some from) = Edge (constant_to lattice from) ∷ []
 
 -- the first step of a path that fails, of those that come behind others
-abbrev pub faults_for : System → Option (List LatticeView) → Path → ℕ → ℕ → (PathStep → Seen) → List Seen → List PathStep → Option BadStep
+abbrev pub faults_for : System → Option (List LatticeView) → Path → ℕ → ℕ → (PathStep → Seen) → List Seen
+    → List PathStep → Option BadStep
 faults_for sys lattices path lattice elem see before [] = None
 faults_for sys lattices path lattice elem see before (s ∷ steps) =
     fault_or (rule_for sys lattices (place sys path lattice elem before (see s) (map see steps))) (line_of s)
     (faults_for sys lattices path lattice elem see (see s ∷ before) steps)
 
 -- the first step that fails of sub-paths that come behind earlier ones
-abbrev pub subs_faults_for : System → Option (List LatticeView) → ℕ → ℕ → List (List PathStep) → List (List PathStep) → Option BadStep
+abbrev pub subs_faults_for : System → Option (List LatticeView) → ℕ → ℕ → List (List PathStep) → List (List PathStep)
+    → Option BadStep
 subs_faults_for sys lattices lattice elem earlier [] = None
 subs_faults_for sys lattices lattice elem earlier (s ∷ subs) =
     or_else (faults_for sys lattices (Sub (home_of sys s)) lattice elem (look sys earlier) [] s)

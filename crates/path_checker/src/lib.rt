@@ -1,9 +1,15 @@
-//! Path proofs and walks: whether one holds of a constraint graph, and the reading of a report's text.
+//! Path proofs and walks: whether one holds of a constraint graph, how the text of a report is read, and what a report
+//! comes to.
+//!
+//! Entry: `check`, `check_walk`, `read_report`, and `report_checks::judge_report`. Invariant: the first step that fails
+//! is the one that is named.
+//! It does not know how paths are found. Above: `cqual_tool`, `certificate_reader`.
 #![tactic(auto)]
 
 mod checking;
 mod lines;
 mod report;
+pub mod report_checks;
 mod rules;
 #[cfg(test)]
 mod tests;

@@ -33,7 +33,8 @@ put_behind (entry ∷ entries) key value none =
     (λ rest. ap (λ (pairs : List (List ℕ × (ℕ × ℕ))). pair_of entry ∷ pairs) (put_behind entries key value rest)) none
   where
     chosen : (b : Bool) (meaning : ℕ × ℕ) (rest : Option (ℕ × ℕ)) (here on : List Entry) (pairs : List (List ℕ × (ℕ × ℕ))) →
-        (rest ≡ None → map pair_of on ≡ pairs) → (if b then Some meaning else rest) ≡ None → map pair_of (if b then here else on) ≡ pairs
+        (rest ≡ None → map pair_of on ≡ pairs) → (if b then Some meaning else rest) ≡ None
+        → map pair_of (if b then here else on) ≡ pairs
     chosen true meaning rest here on pairs next none = cc
     chosen false meaning rest here on pairs next none = next none
 
@@ -77,8 +78,10 @@ put_new entries after pairs key word value view put copied new =
     none_of (Some meaning) new = cc
 
 -- whether the pair goes behind
-pub with_known : (pairs : List (List ℕ × (ℕ × ℕ))) (pair : List ℕ × (ℕ × ℕ)) → is_some (meaning_of pairs pair.0) ≡ true → with_pair pairs pair ≡ pairs
+pub with_known : (pairs : List (List ℕ × (ℕ × ℕ))) (pair : List ℕ × (ℕ × ℕ)) → is_some (meaning_of pairs pair.0) ≡ true
+    → with_pair pairs pair ≡ pairs
 with_known pairs pair known = rw known refl
 
-pub with_new : (pairs : List (List ℕ × (ℕ × ℕ))) (pair : List ℕ × (ℕ × ℕ)) → is_some (meaning_of pairs pair.0) ≡ false → with_pair pairs pair ≡ pairs ++ pair ∷ []
+pub with_new : (pairs : List (List ℕ × (ℕ × ℕ))) (pair : List ℕ × (ℕ × ℕ)) → is_some (meaning_of pairs pair.0) ≡ false
+    → with_pair pairs pair ≡ pairs ++ pair ∷ []
 with_new pairs pair new = rw new refl

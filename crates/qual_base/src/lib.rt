@@ -1,4 +1,8 @@
 //! What every crate of the tool stands on: numbers with types of their own, tables, qualifier words.
+//!
+//! Entry: the numbers of `ids`, `Table`, `QualWords`, `NoMemory`. Invariant: a number of one kind is never taken for
+//! one of another.
+//! It does not know C and lattices. Above: every crate that has code.
 #![tactic(auto)]
 
 mod faults;

@@ -32,7 +32,8 @@ get_replicate (suc n) zero o lt = refl
 get_replicate (suc n) (suc i) o lt = get_replicate n i o (omega (arith, lt))
 
 are_shown : (count : ℕ) (all : List Row) (k : ℕ) (rows : List Row) → AreLinked count 0 all
-    → ((i : ℕ) (row : Row) → slice_get rows i ≡ Some row → slice_get all (k + i) ≡ Some row) → AreShown (seen_in all) k rows
+    → ((i : ℕ) (row : Row) → slice_get rows i ≡ Some row → slice_get all (k + i) ≡ Some row)
+    → AreShown (seen_in all) k rows
 are_shown count all k [] low there = tt
 are_shown count all k (row ∷ rows) low there =
     let at : k + 0 ≡ k = omega arith in (
@@ -64,7 +65,8 @@ linked_more : (low count n : ℕ) (rows : List Row) → low ≤ count → AreLin
 linked_more low count n [] le h = tt
 linked_more low count n (row ∷ rows) le h = (node_more low count n row.node le h.0, place_more low count n row.place le h.1, linked_more low count (n + 1) rows le h.2)
 
-part_same : (look more : ℕ → Skel) (own mine : ℕ → Owner) (top n : ℕ) (x : Option (ℕ × Step)) → n < top → ((j : ℕ) → j < top → more j ≡ look j) → ((j : ℕ) → j < top → mine j ≡ own j)
+part_same : (look more : ℕ → Skel) (own mine : ℕ → Owner) (top n : ℕ) (x : Option (ℕ × Step)) → n < top
+    → ((j : ℕ) → j < top → more j ≡ look j) → ((j : ℕ) → j < top → mine j ≡ own j)
     → IsPlaced look own n x → IsPlaced more mine n x
 part_same look more own mine top n None lt same owned h = tt
 part_same look more own mine top n (Some x) lt same owned h =
@@ -77,7 +79,8 @@ part_same look more own mine top n (Some x) lt same owned h =
       leads = λ p. ap (follow (x.1 ∷ p)) (same x.0 (omega (arith, lt, l))) ∙ h.leads p ∙ sym (ap (follow p) (same n lt));
     }
 
-placed_same : (look more : ℕ → Skel) (own mine : ℕ → Owner) (top n : ℕ) (rows : List Row) → n + length rows ≤ top → ((j : ℕ) → j < top → more j ≡ look j)
+placed_same : (look more : ℕ → Skel) (own mine : ℕ → Owner) (top n : ℕ) (rows : List Row) → n + length rows ≤ top
+    → ((j : ℕ) → j < top → more j ≡ look j)
     → ((j : ℕ) → j < top → mine j ≡ own j) → ArePlaced look own n rows → ArePlaced more mine n rows
 placed_same look more own mine top n [] le same owned h = tt
 placed_same look more own mine top n (row ∷ rows) le same owned h =
@@ -145,7 +148,8 @@ topped (function ws ps r e) n place =
           (inner_append (rows_of r back last) (ellipsis_rows n e) (inner r back last refl) (inner_ellipsis n e));
     }
 
-owners_all : (last owner : Owner) (rows : List Row) (place : Place) → IsTopped rows place → owner_set place ≡ Some owner → owners_from last rows ≡ replicate (length rows) owner
+owners_all : (last owner : Owner) (rows : List Row) (place : Place) → IsTopped rows place → owner_set place ≡ Some owner
+    → owners_from last rows ≡ replicate (length rows) owner
 owners_all last owner rows place top is =
     let set : owner_set top.head.place ≡ Some owner = ap owner_set top.place_is ∙ is in
     rw top.parts (rw set (ap (λ (x : List Owner). owner ∷ x) (inner_owners owner top.tail top.rest)))
@@ -155,7 +159,8 @@ owners_behind : (last owner : Owner) (xs ys : List Row) → ((l : Owner) → own
 owners_behind last owner [] ys h = h last
 owners_behind last owner (x ∷ xs) ys h = ap (λ (o : List Owner). unwrap_or (owner_set x.place) last ∷ o) (owners_behind (unwrap_or (owner_set x.place) last) owner xs ys h)
 
-marked : (rows : List Row) (place : Place) (mark : ℕ × ℕ) → IsTopped rows place → mark_set place ≡ Some mark → mark_of rows 0 ≡ Some mark
+marked : (rows : List Row) (place : Place) (mark : ℕ × ℕ) → IsTopped rows place → mark_set place ≡ Some mark
+    → mark_of rows 0 ≡ Some mark
 marked rows place mark top is = let set : mark_set top.head.place ≡ Some mark = ap mark_set top.place_is ∙ is in rw top.parts set
 
 no_mark : (place : Place) → owner_set place ≡ None → mark_set place ≡ None
@@ -182,8 +187,10 @@ no_links count n (Param of i next) e = absurd cc
 no_links count n (Result of x) e = absurd cc
 no_links count n (Ellipsis of) e = absurd cc
 
-pub grown : (rows : List Row) (t : CType) (n : ℕ) (place : Place) (owner : Owner) (mark : ℕ × ℕ) → IsHeld rows → n ≡ length rows → length rows + size t ≤ 2 ^ 24
-    → above place ≡ None → owner_set place ≡ Some owner → mark_set place ≡ Some mark → Grown rows (rows ++ rows_of t n place) t owner mark
+pub grown : (rows : List Row) (t : CType) (n : ℕ) (place : Place) (owner : Owner) (mark : ℕ × ℕ) → IsHeld rows
+    → n ≡ length rows → length rows + size t ≤ 2 ^ 24
+    → above place ≡ None → owner_set place ≡ Some owner → mark_set place ≡ Some mark
+    → Grown rows (rows ++ rows_of t n place) t owner mark
 grown rows t n place owner mark held n_is few no_above owner_is mark_is =
     let added = rows_of t n place in
     let all = rows ++ added in

@@ -49,7 +49,8 @@ param_behind p ps zero lt = absurd (omega (arith, lt))
 param_behind p ps (suc n) lt = let e : suc n - 1 ≡ n = omega arith in rw e refl
 
 -- the constructor around a part, by its place
-by_place : (rows : List Row) (n : ℕ) (place : Place) → n < length rows → mark_of rows n ≡ mark_set place → IsPlaced (skel_of rows) (owner_of rows) n (above place)
+by_place : (rows : List Row) (n : ℕ) (place : Place) → n < length rows → mark_of rows n ≡ mark_set place
+    → IsPlaced (skel_of rows) (owner_of rows) n (above place)
     → MatchOption (above place) (n < length rows → IsTop rows n) (λ x. IsPart (skel_of rows) (owner_of rows) n x.0 x.1 × (n < length rows))
 by_place rows n (OfNobody unit token) lt mark part = λ below. ((unit, token), mark)
 by_place rows n (OfFunction unit token f) lt mark part = λ below. ((unit, token), mark)
@@ -63,7 +64,8 @@ pub above_stands : (rows : List Row) (n : ℕ) (row : Row) → RowStands rows n 
 above_stands rows n row h = by_place rows n row.place h.below (ap (λ (r : Option Row). option_and_then (λ (row : Row). mark_set row.place) r) h.there) h.placed
 
 -- the owner of a skeleton's root is the one that its place names
-set_where_marked : (place : Place) (mark : ℕ × ℕ) → mark_set place ≡ Some mark → owner_set place ≡ Some (unwrap_or (owner_set place) Nobody)
+set_where_marked : (place : Place) (mark : ℕ × ℕ) → mark_set place ≡ Some mark
+    → owner_set place ≡ Some (unwrap_or (owner_set place) Nobody)
 set_where_marked (OfNobody unit token) mark e = refl
 set_where_marked (OfFunction unit token f) mark e = refl
 set_where_marked (Inside of) mark e = absurd cc
@@ -71,7 +73,8 @@ set_where_marked (Param of i next) mark e = absurd cc
 set_where_marked (Result of x) mark e = absurd cc
 set_where_marked (Ellipsis of) mark e = absurd cc
 
-pub top_owner : (rows : List Row) (n : ℕ) (row : Row) → RowStands rows n row → IsTop rows n → unwrap_or (owner_set row.place) Nobody ≡ owner_of rows n
+pub top_owner : (rows : List Row) (n : ℕ) (row : Row) → RowStands rows n row → IsTop rows n
+    → unwrap_or (owner_set row.place) Nobody ≡ owner_of rows n
 top_owner rows n row h top =
     let mark : mark_of rows n ≡ mark_set row.place = ap (λ (r : Option Row). option_and_then (λ (row : Row). mark_set row.place) r) h.there in
     sym (h.owned (unwrap_or (owner_set row.place) Nobody) (set_where_marked row.place top.0 (sym mark ∙ top.1)))

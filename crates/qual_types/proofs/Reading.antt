@@ -51,7 +51,8 @@ shown_front : (look : ℕ → Seen) (n : ℕ) (xs ys : List Row) → AreShown lo
 shown_front look n [] ys h = tt
 shown_front look n (x ∷ xs) ys h = (h.0, shown_front look (n + 1) xs ys h.1)
 
-shown_back : (look : ℕ → Seen) (n k : ℕ) (xs ys : List Row) → n + length xs ≡ k → AreShown look n (xs ++ ys) → AreShown look k ys
+shown_back : (look : ℕ → Seen) (n k : ℕ) (xs ys : List Row) → n + length xs ≡ k → AreShown look n (xs ++ ys)
+    → AreShown look k ys
 shown_back look n k [] ys e h = let same : n ≡ k = omega (arith, e) in subst (λ j. AreShown look j ys) same h
 shown_back look n k (x ∷ xs) ys e h = shown_back look (n + 1) k xs ys (omega (arith, e)) h.1
 
@@ -62,7 +63,8 @@ pub record IsRead (look : ℕ → Seen) (t : CType) (n : ℕ) (place : Place) : 
   pub ellipsis : (look n).ellipsis ≡ ellipsis_seen place
 
 -- a tree that is known gives the rest
-by_tree : (look : ℕ → Seen) (t : CType) (n : ℕ) (row : Row) → look n ≡ shown look n row → tree_seen look n row.node ≡ numbered t n → IsRead look t n row.place
+by_tree : (look : ℕ → Seen) (t : CType) (n : ℕ) (row : Row) → look n ≡ shown look n row
+    → tree_seen look n row.node ≡ numbered t n → IsRead look t n row.place
 by_tree look t n row is e = record {
   tree = ap (λ (s : Seen). s.tree) is ∙ e;
   params = ap (λ (s : Seen). s.params) is ∙ ap (λ (x : Skel). params_seen look x row.place) e;
@@ -70,7 +72,8 @@ by_tree look t n row is e = record {
 }
 
 mutual
-  pub read : (look : ℕ → Seen) (t : CType) (n : ℕ) (place : Place) → AreShown look n (rows_of t n place) → IsRead look t n place
+  pub read : (look : ℕ → Seen) (t : CType) (n : ℕ) (place : Place) → AreShown look n (rows_of t n place)
+      → IsRead look t n place
   read look (base ws) n place h = by_tree look (base ws) n (record { node = nodes.Base; place = place }) h.0 refl
   read look (void ws) n place h = by_tree look (void ws) n (record { node = nodes.Void; place = place }) h.0 refl
   read look (struct ws s) n place h = by_tree look (struct ws s) n (record { node = nodes.Struct s; place = place }) h.0 refl
@@ -88,7 +91,8 @@ mutual
       let all = read_params look n 0 ps (n + 1) one given.params in
       by_tree look (function ws ps r e) n (record { node = nodes.Fun back; place = place }) h.0 (rw (all, given.tree, given.ellipsis) refl)
 
-  read_params : (look : ℕ → Seen) (of i : ℕ) (ts : CTypes) (n : ℕ) → AreShown look n (param_rows of i ts n) → (look (n + sizes ts)).params ≡ no_skels
+  read_params : (look : ℕ → Seen) (of i : ℕ) (ts : CTypes) (n : ℕ) → AreShown look n (param_rows of i ts n)
+      → (look (n + sizes ts)).params ≡ no_skels
       → (look n).params ≡ all_numbered ts n
   read_params look of i no_types n h end = let at : n + 0 ≡ n = omega arith in subst (λ j. (look j).params ≡ no_skels) at end
   read_params look of i (more_types t ts) n h end =
@@ -101,7 +105,8 @@ mutual
       one.params ∙ ap (λ (x : Skels). more_skels (numbered t n) x) all
 
 -- rows that are linked stand one behind the other
-pub linked_append : (count n k : ℕ) (xs ys : List Row) → n + length xs ≡ k → AreLinked count n xs → AreLinked count k ys → AreLinked count n (xs ++ ys)
+pub linked_append : (count n k : ℕ) (xs ys : List Row) → n + length xs ≡ k → AreLinked count n xs → AreLinked count k ys
+    → AreLinked count n (xs ++ ys)
 linked_append count n k [] ys e h g = let same : k ≡ n = omega (arith, e) in subst (λ j. AreLinked count j ys) same g
 linked_append count n k (x ∷ xs) ys e h g = (h.0, h.1, linked_append count (n + 1) k xs ys (omega (arith, e)) h.2 g)
 
@@ -116,12 +121,14 @@ linked_ellipsis : (count n k : ℕ) (e : Option Words) → AreLinked count k (el
 linked_ellipsis count n k None = tt
 linked_ellipsis count n k (Some ws) = (tt, tt, tt)
 
-ellipsis_link : (count n k m : ℕ) (e : Option Words) → m + Rattle.type_table.specs.Types.one_for e ≤ count → IsPlaceLinked count k (Result n (numbered_ellipsis e m))
+ellipsis_link : (count n k m : ℕ) (e : Option Words) → m + Rattle.type_table.specs.Types.one_for e ≤ count
+    → IsPlaceLinked count k (Result n (numbered_ellipsis e m))
 ellipsis_link count n k m None le = tt
 ellipsis_link count n k m (Some ws) le = omega (arith, le)
 
 mutual
-  pub linked : (count : ℕ) (t : CType) (n : ℕ) (place : Place) → n + size t ≤ count → IsPlaceLinked count n place → AreLinked count n (rows_of t n place)
+  pub linked : (count : ℕ) (t : CType) (n : ℕ) (place : Place) → n + size t ≤ count → IsPlaceLinked count n place
+      → AreLinked count n (rows_of t n place)
   linked count (base ws) n place le here = (tt, here, tt)
   linked count (void ws) n place le here = (tt, here, tt)
   linked count (struct ws s) n place le here = (tt, here, tt)
@@ -142,7 +149,8 @@ mutual
             (linked_append count back (back + size r) (rows_of r back last) (ellipsis_rows n e) (omega (arith, m)) two (linked_ellipsis count n (back + size r) e)),
       )
 
-  params_linked : (count of i : ℕ) (ts : CTypes) (n : ℕ) → n + sizes ts < count → AreLinked count n (param_rows of i ts n)
+  params_linked : (count of i : ℕ) (ts : CTypes) (n : ℕ) → n + sizes ts < count
+      → AreLinked count n (param_rows of i ts n)
   params_linked count of i no_types n le = tt
   params_linked count of i (more_types t ts) n le =
       let next = n + size t in
@@ -151,7 +159,8 @@ mutual
       linked_append count n next (rows_of t n (Param of i next)) (param_rows of (i + 1) ts next) (omega (arith, l))
       (linked count t n (Param of i next) (omega (arith, le)) (omega (arith, some), omega (arith, le))) (params_linked count of (i + 1) ts next (omega (arith, le)))
 
-pub placed_append : (look : ℕ → Skel) (own : ℕ → Owner) (n k : ℕ) (xs ys : List Row) → n + length xs ≡ k → ArePlaced look own n xs → ArePlaced look own k ys → ArePlaced look own n (xs ++ ys)
+pub placed_append : (look : ℕ → Skel) (own : ℕ → Owner) (n k : ℕ) (xs ys : List Row) → n + length xs ≡ k
+    → ArePlaced look own n xs → ArePlaced look own k ys → ArePlaced look own n (xs ++ ys)
 placed_append look own n k [] ys e h g = let same : k ≡ n = omega (arith, e) in subst (λ j. ArePlaced look own j ys) same g
 placed_append look own n k (x ∷ xs) ys e h g = (h.0, placed_append look own (n + 1) k xs ys (omega (arith, e)) h.1 g)
 
@@ -171,14 +180,17 @@ module _ (look : ℕ → Seen) (own : ℕ → Owner) (owner : Owner) where
   abbrev AllOwned : ℕ → ℕ → Type 0
   AllOwned n count = (j : ℕ) → n ≤ j → j < n + count → own j ≡ owner
 
-  placed_ellipsis : (of k m : ℕ) (e : Option Words) → of < k → AreShown look k (ellipsis_rows of e) → own of ≡ owner → AllOwned k (Rattle.type_table.specs.Types.one_for e)
-      → ((p : List Step) → follow (steps.Ellipsis ∷ p) (Tree of) ≡ ended p (numbered_ellipsis e k)) → ArePlaced Tree own k (ellipsis_rows of e)
+  placed_ellipsis : (of k m : ℕ) (e : Option Words) → of < k → AreShown look k (ellipsis_rows of e) → own of ≡ owner
+      → AllOwned k (Rattle.type_table.specs.Types.one_for e)
+      → ((p : List Step) → follow (steps.Ellipsis ∷ p) (Tree of) ≡ ended p (numbered_ellipsis e k))
+      → ArePlaced Tree own k (ellipsis_rows of e)
   placed_ellipsis of k m None lt h o all leads = tt
   placed_ellipsis of k m (Some ws) lt h o all leads =
       (record { lower = lt; same_owner = o ∙ sym (all k (omega arith) (omega arith)); leads = λ p. leads p ∙ ends p k ∙ sym (ap (follow p) (ap (λ (s : Seen). s.tree) h.0)) }, tt)
 
   mutual
-    pub placed : (t : CType) (n : ℕ) (place : Place) → AreShown look n (rows_of t n place) → AllOwned n (size t) → IsPlaced Tree own n (above place) → ArePlaced Tree own n (rows_of t n place)
+    pub placed : (t : CType) (n : ℕ) (place : Place) → AreShown look n (rows_of t n place) → AllOwned n (size t)
+        → IsPlaced Tree own n (above place) → ArePlaced Tree own n (rows_of t n place)
     placed (base ws) n place h all here = (here, tt)
     placed (void ws) n place h all here = (here, tt)
     placed (struct ws s) n place h all here = (here, tt)
@@ -221,8 +233,10 @@ module _ (look : ℕ → Seen) (own : ℕ → Owner) (owner : Owner) where
               (λ p. ap (follow (steps.Ellipsis ∷ p)) tree ∙ ap (ended p) last_is))),
         )
 
-    params_placed : (of i : ℕ) (ts : CTypes) (n : ℕ) → of < n → AreShown look n (param_rows of i ts n) → own of ≡ owner → AllOwned n (sizes ts)
-        → ((j : ℕ) (p : List Step) → follow (steps.Param (i + j) ∷ p) (Tree of) ≡ option_and_then (follow p) (param_at (look n).params j)) → ArePlaced Tree own n (param_rows of i ts n)
+    params_placed : (of i : ℕ) (ts : CTypes) (n : ℕ) → of < n → AreShown look n (param_rows of i ts n) → own of ≡ owner
+        → AllOwned n (sizes ts)
+        → ((j : ℕ) (p : List Step) → follow (steps.Param (i + j) ∷ p) (Tree of) ≡ option_and_then (follow p) (param_at (look n).params j))
+        → ArePlaced Tree own n (param_rows of i ts n)
     params_placed of i no_types n lt h mine all leads = tt
     params_placed of i (more_types t ts) n lt h mine all leads =
         let next = n + size t in

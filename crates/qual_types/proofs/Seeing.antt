@@ -11,7 +11,8 @@ use Rattle.qual_types.specs.Skel.{Skel, ref, more_skels}
 use Rattle.qual_types.specs.Rows.{Seen, seen_at, tree_seen, params_seen, shown, all_seen, seen_in, skel_of, above, owner_set, owners_from, owners_of}
 use Rattle.qual_types.specs.Table.{IsNodeLinked, IsPlaceLinked, AreLinked, ArePlaced, IsPlaced, IsHeld, IsPast, RowStands, owner_of}
 
-tree_same : (f g : ℕ → Seen) (count n : ℕ) (node : Node) → IsNodeLinked count n node → ((m : ℕ) → n < m → m < count → f m ≡ g m) → tree_seen f n node ≡ tree_seen g n node
+tree_same : (f g : ℕ → Seen) (count n : ℕ) (node : Node) → IsNodeLinked count n node
+    → ((m : ℕ) → n < m → m < count → f m ≡ g m) → tree_seen f n node ≡ tree_seen g n node
 tree_same f g count n nodes.Base linked same = refl
 tree_same f g count n nodes.Void linked same = refl
 tree_same f g count n (nodes.Struct s) linked same = refl
@@ -22,7 +23,8 @@ tree_same f g count n (nodes.Fun r) linked same =
     rw (one, two) refl
 tree_same f g count n nodes.Ellipsis linked same = refl
 
-params_same : (f g : ℕ → Seen) (count n : ℕ) (tree : Skel) (place : Place) → IsPlaceLinked count n place → ((m : ℕ) → n < m → m < count → f m ≡ g m) → params_seen f tree place ≡ params_seen g tree place
+params_same : (f g : ℕ → Seen) (count n : ℕ) (tree : Skel) (place : Place) → IsPlaceLinked count n place
+    → ((m : ℕ) → n < m → m < count → f m ≡ g m) → params_seen f tree place ≡ params_seen g tree place
 params_same f g count n tree (OfNobody unit token) linked same = refl
 params_same f g count n tree (OfFunction unit token h) linked same = refl
 params_same f g count n tree (Inside of) linked same = refl
@@ -30,7 +32,8 @@ params_same f g count n tree (Param of i next) linked same = ap (λ (x : Seen). 
 params_same f g count n tree (Result of e) linked same = refl
 params_same f g count n tree (Ellipsis of) linked same = refl
 
-shown_same : (f g : ℕ → Seen) (count n : ℕ) (row : Row) → IsNodeLinked count n row.node → IsPlaceLinked count n row.place → ((m : ℕ) → n < m → m < count → f m ≡ g m) → shown f n row ≡ shown g n row
+shown_same : (f g : ℕ → Seen) (count n : ℕ) (row : Row) → IsNodeLinked count n row.node
+    → IsPlaceLinked count n row.place → ((m : ℕ) → n < m → m < count → f m ≡ g m) → shown f n row ≡ shown g n row
 shown_same f g count n row node place same =
     let tree : tree_seen f n row.node ≡ tree_seen g n row.node = tree_same f g count n row.node node same in
     let params : params_seen f (tree_seen f n row.node) row.place ≡ params_seen g (tree_seen f n row.node) row.place = params_same f g count n (tree_seen f n row.node) row.place place same in
@@ -71,7 +74,8 @@ seen_shown count k (r ∷ rows) (suc i) row linked e =
     subst (λ j. seen_at later i ≡ shown (λ m. seen_at (x ∷ later) (m - k)) j row) at (is ∙ more)
 
 -- rows behind the table change nothing
-seen_keeps : (count k : ℕ) (rows more : List Row) (i : ℕ) → AreLinked count k rows → count ≡ k + length rows → i < length rows
+seen_keeps : (count k : ℕ) (rows more : List Row) (i : ℕ) → AreLinked count k rows → count ≡ k + length rows
+    → i < length rows
     → seen_at (all_seen k (rows ++ more)) i ≡ seen_at (all_seen k rows) i
 seen_keeps count k [] more i linked all lt = absurd (omega (arith, lt))
 seen_keeps count k (r ∷ rows) more zero linked all lt =
@@ -79,10 +83,12 @@ seen_keeps count k (r ∷ rows) more zero linked all lt =
     (λ m low below. seen_keeps count (k + 1) rows more (m - (k + 1)) linked.2 (omega (arith, all)) (omega (arith, all, low, below)))
 seen_keeps count k (r ∷ rows) more (suc i) linked all lt = seen_keeps count (k + 1) rows more i linked.2 (omega (arith, all)) (omega (arith, lt))
 
-pub kept : (rows more : List Row) (n : ℕ) → AreLinked (length rows) 0 rows → n < length rows → seen_in (rows ++ more) n ≡ seen_in rows n
+pub kept : (rows more : List Row) (n : ℕ) → AreLinked (length rows) 0 rows → n < length rows
+    → seen_in (rows ++ more) n ≡ seen_in rows n
 kept rows more n linked lt = seen_keeps (length rows) 0 rows more n linked (omega arith) lt
 
-pub seen_is : (count : ℕ) (rows : List Row) (n : ℕ) (row : Row) → AreLinked count 0 rows → slice_get rows n ≡ Some row → seen_in rows n ≡ shown (seen_in rows) n row
+pub seen_is : (count : ℕ) (rows : List Row) (n : ℕ) (row : Row) → AreLinked count 0 rows → slice_get rows n ≡ Some row
+    → seen_in rows n ≡ shown (seen_in rows) n row
 seen_is count rows n row linked e =
     let at : 0 + n ≡ n = omega arith in
     let there = links_at count 0 rows n row linked e in
@@ -92,13 +98,15 @@ seen_is count rows n row linked e =
     (λ m lt below. let e : m - 0 ≡ m = omega arith in ap (seen_at (all_seen 0 rows)) e) in
     subst (λ j. seen_in rows n ≡ shown (seen_in rows) j row) at (is ∙ more)
 
-placed_at : (look : ℕ → Skel) (own : ℕ → Owner) (k : ℕ) (rows : List Row) (i : ℕ) (row : Row) → ArePlaced look own k rows → slice_get rows i ≡ Some row
+placed_at : (look : ℕ → Skel) (own : ℕ → Owner) (k : ℕ) (rows : List Row) (i : ℕ) (row : Row)
+    → ArePlaced look own k rows → slice_get rows i ≡ Some row
     → IsPlaced look own (k + i) (above row.place)
 placed_at look own k [] i row placed e = absurd cc
 placed_at look own k (r ∷ rows) zero row placed e = let same : r ≡ row = cc in let at : k + 0 ≡ k = omega arith in rw (at, ← same) placed.0
 placed_at look own k (r ∷ rows) (suc i) row placed e = let at : k + suc i ≡ (k + 1) + i = omega arith in rw at (placed_at look own (k + 1) rows i row placed.1 e)
 
-owned_at : (last : Owner) (rows : List Row) (i : ℕ) (row : Row) (owner : Owner) → slice_get rows i ≡ Some row → owner_set row.place ≡ Some owner
+owned_at : (last : Owner) (rows : List Row) (i : ℕ) (row : Row) (owner : Owner) → slice_get rows i ≡ Some row
+    → owner_set row.place ≡ Some owner
     → slice_get (owners_from last rows) i ≡ Some owner
 owned_at last [] i row owner e is = absurd cc
 owned_at last (r ∷ rows) zero row owner e is = let same : r ≡ row = cc in let all : owner_set r.place ≡ Some owner = rw same is in rw all refl
@@ -128,7 +136,8 @@ past_is rows n le =
     let own : slice_get (owners_of rows) n ≡ None = none_past (owners_of rows) n (let l = owners_length Nobody rows in omega (arith, l, le)) in
     (le, rw seen refl, rw own refl)
 
-pub row_stands : (rows : List Row) (n : ℕ) (row : Row) → IsHeld rows → slice_get rows n ≡ Some row → RowStands rows n row
+pub row_stands : (rows : List Row) (n : ℕ) (row : Row) → IsHeld rows → slice_get rows n ≡ Some row
+    → RowStands rows n row
 row_stands rows n row held e =
     let links = links_at (length rows) 0 rows n row held.linked e in
     let at : 0 + n ≡ n = omega arith in

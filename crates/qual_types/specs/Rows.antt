@@ -45,6 +45,7 @@ abbrev pub owners_from : Owner → List Row → List Owner
 owners_from last [] = []
 owners_from last (row ∷ rows) = let owner = unwrap_or (owner_set row.place) last in owner ∷ owners_from owner rows
 
+-- the owner of each variable of a table
 abbrev pub owners_of : List Row → List Owner
 owners_of rows = owners_from Nobody rows
 
@@ -59,9 +60,11 @@ pub record Seen : Type 0 where
 abbrev pub nothing : Seen
 nothing = record { tree = no_skeleton; params = no_skels; ellipsis = None }
 
+-- what is seen at a number, by what is seen at all numbers of a table
 abbrev pub seen_at : List Seen → ℕ → Seen
 seen_at all n = unwrap_or (slice_get all n) nothing
 
+-- the skeleton at a row, by what is seen at the numbers behind it
 abbrev pub tree_seen : (ℕ → Seen) → ℕ → Node → Skel
 tree_seen look n nodes.Base = flat n kinds.Base
 tree_seen look n nodes.Void = flat n kinds.Void
@@ -70,6 +73,7 @@ tree_seen look n nodes.Ref = ref n (look (n + 1)).tree
 tree_seen look n (nodes.Fun r) = fun n (look (n + 1)).params (look r).tree (look r).ellipsis
 tree_seen look n nodes.Ellipsis = flat n kinds.Base
 
+-- the parameters from a row on, where it is a parameter and this is its skeleton
 abbrev pub params_seen : (ℕ → Seen) → Skel → Place → Skels
 params_seen look tree (OfNobody unit token) = no_skels
 params_seen look tree (OfFunction unit token f) = no_skels
@@ -78,6 +82,7 @@ params_seen look tree (Param of i next) = more_skels tree (look next).params
 params_seen look tree (Result of e) = no_skels
 params_seen look tree (Ellipsis of) = no_skels
 
+-- the variable of further arguments that a row has, where it is a result
 abbrev pub ellipsis_seen : Place → Option ℕ
 ellipsis_seen (OfNobody unit token) = None
 ellipsis_seen (OfFunction unit token f) = None
@@ -95,6 +100,7 @@ next_seen (Param of i next) = Some next
 next_seen (Result of e) = None
 next_seen (Ellipsis of) = None
 
+-- what is seen at a row, by what is seen at the numbers behind it
 abbrev pub shown : (ℕ → Seen) → ℕ → Row → Seen
 shown look n row = record {
   tree = tree_seen look n row.node;
@@ -107,13 +113,15 @@ abbrev pub all_seen : ℕ → List Row → List Seen
 all_seen n [] = []
 all_seen n (row ∷ rows) = let later = all_seen (n + 1) rows in shown (λ m. seen_at later (m - (n + 1))) n row ∷ later
 
+-- what is seen at a number of a table
 abbrev pub seen_in : List Row → ℕ → Seen
 seen_in rows n = seen_at (all_seen 0 rows) n
 
--- the skeleton of a number, and the parameters of a function from that number on
+-- the skeleton at a number of a table
 abbrev pub skel_of : List Row → ℕ → Skel
 skel_of rows n = (seen_in rows n).tree
 
+-- the parameters of a function from a number of a table on
 abbrev pub params_from : List Row → ℕ → Skels
 params_from rows n = (seen_in rows n).params
 

@@ -21,6 +21,7 @@ mutual
 abbrev pub no_skeleton : Skel
 no_skeleton = flat 0 Nothing
 
+-- the variable of the outermost constructor
 abbrev pub root : Skel → ℕ
 root (flat v k) = v
 root (ref v s) = v
@@ -32,16 +33,19 @@ inside_of (flat v k) = None
 inside_of (ref v s) = Some s
 inside_of (fun v ps r e) = None
 
+-- the parameters of a function, none of what is no function
 abbrev pub params_of : Skel → Skels
 params_of (flat v k) = no_skels
 params_of (ref v s) = no_skels
 params_of (fun v ps r e) = ps
 
+-- what a function gives
 abbrev pub result_of : Skel → Option Skel
 result_of (flat v k) = None
 result_of (ref v s) = None
 result_of (fun v ps r e) = Some r
 
+-- the variable of a function's further arguments, where it takes some
 abbrev pub ellipsis_of : Skel → Option ℕ
 ellipsis_of (flat v k) = None
 ellipsis_of (ref v s) = None
@@ -56,11 +60,13 @@ struct_of (flat v Nothing) = None
 struct_of (ref v s) = None
 struct_of (fun v ps r e) = None
 
+-- the parameter of a number, counted from 0
 abbrev pub param_at : Skels → ℕ → Option Skel
 param_at no_skels i = None
 param_at (more_skels p ps) zero = Some p
 param_at (more_skels p ps) (suc i) = param_at ps i
 
+-- the variable, where there is one
 abbrev pub of_some : Option ℕ → List ℕ
 of_some None = []
 of_some (Some v) = v ∷ []
@@ -76,13 +82,14 @@ abbrev mutual
   all_nodes no_skels = []
   all_nodes (more_skels s ss) = nodes s ++ all_nodes ss
 
--- those of all constructors but the outermost
+-- the variables of all constructors but the outermost
 abbrev pub strict_nodes : Skel → List ℕ
 strict_nodes (flat v k) = []
 strict_nodes (ref v s) = nodes s
 strict_nodes (fun v ps r e) = all_nodes ps ++ (nodes r ++ of_some e)
 
--- The skeleton of a type: its constructors are numbered from n on in pre-order, a type before what it refers to, a function
+-- The skeleton of a type: its constructors are numbered from n on in pre-order, a type before what it refers to, a
+-- function
 -- before its parameters, its result, its ellipsis.
 abbrev pub numbered_ellipsis : Option Words → ℕ → Option ℕ
 numbered_ellipsis None n = None

@@ -23,9 +23,11 @@ owner_of rows v = unwrap_or (slice_get (owners_of rows) v) Nobody
 abbrev pub mark_of : List Row → ℕ → Option (ℕ × ℕ)
 mark_of rows n = option_and_then (λ (row : Row). mark_set row.place) (slice_get rows n)
 
+-- a number that a variable may have
 abbrev pub IsVar : ℕ → Type 0
 IsVar v = v < 2 ^ 24
 
+-- a number that a variable may have, where there is one
 abbrev pub IsSomeVar : Option ℕ → Type 0
 IsSomeVar None = Unit {0}
 IsSomeVar (Some v) = IsVar v
@@ -34,10 +36,12 @@ IsSomeVar (Some v) = IsVar v
 abbrev pub IsLink : ℕ → ℕ → ℕ → Type 0
 IsLink count n m = (n < m) × (m < count)
 
+-- the variable of further arguments, where there is one, is one of the table
 abbrev pub IsEllipsisLink : ℕ → Option ℕ → Type 0
 IsEllipsisLink count None = Unit {0}
 IsEllipsisLink count (Some v) = v < count
 
+-- the parts of the constructor at a number stand behind it in the table
 abbrev pub IsNodeLinked : ℕ → ℕ → Node → Type 0
 IsNodeLinked count n nodes.Base = Unit {0}
 IsNodeLinked count n nodes.Void = Unit {0}
@@ -46,6 +50,7 @@ IsNodeLinked count n nodes.Ref = n + 1 < count
 IsNodeLinked count n (nodes.Fun r) = IsLink count n r
 IsNodeLinked count n nodes.Ellipsis = Unit {0}
 
+-- what the place of a row names, the next parameter or the further arguments, is in the table
 abbrev pub IsPlaceLinked : ℕ → ℕ → Place → Type 0
 IsPlaceLinked count n (OfNobody unit token) = Unit {0}
 IsPlaceLinked count n (OfFunction unit token f) = Unit {0}
@@ -54,6 +59,7 @@ IsPlaceLinked count n (Param of i next) = IsLink count n next
 IsPlaceLinked count n (Result of e) = IsEllipsisLink count e
 IsPlaceLinked count n (Ellipsis of) = Unit {0}
 
+-- what these rows name, which are numbered from n on, is in the table
 abbrev pub AreLinked : ℕ → ℕ → List Row → Type 0
 AreLinked count n [] = Unit {0}
 AreLinked count n (row ∷ rows) = IsNodeLinked count n row.node × IsPlaceLinked count n row.place × AreLinked count (n + 1) rows
@@ -64,23 +70,27 @@ pub record IsPart (look : ℕ → Skel) (own : ℕ → Owner) (n : ℕ) (of : �
   pub same_owner : own of ≡ own n
   pub leads : (p : List Step) → follow (step ∷ p) (look of) ≡ follow p (look n)
 
+-- a row has its owner and its paths from the constructor around it, where there is one
 abbrev pub IsPlaced : (ℕ → Skel) → (ℕ → Owner) → ℕ → Option (ℕ × Step) → Type 0
 IsPlaced look own n None = Unit {0}
 IsPlaced look own n (Some x) = IsPart look own n x.0 x.1
 
+-- these rows, which are numbered from n on, have their owners and paths from the constructors around them
 abbrev pub ArePlaced : (ℕ → Skel) → (ℕ → Owner) → ℕ → List Row → Type 0
 ArePlaced look own n [] = Unit {0}
 ArePlaced look own n (row ∷ rows) = IsPlaced look own n (above row.place) × ArePlaced look own (n + 1) rows
 
+-- what holds of each table of variables
 pub record IsHeld (rows : List Row) : Type 0 where
   pub few : length rows ≤ 2 ^ 24
   pub linked : AreLinked (length rows) 0 rows
   pub placed : ArePlaced (skel_of rows) (owner_of rows) 0 rows
 
--- what is known of a number past the table, and of a row at its number
+-- what is known of a number past the table
 abbrev pub IsPast : List Row → ℕ → Type 0
 IsPast rows n = (length rows ≤ n) × (seen_in rows n ≡ nothing) × (owner_of rows n ≡ Nobody)
 
+-- a row of the table at its number, with what is known of it
 pub record RowStands (rows : List Row) (n : ℕ) (row : Row) : Type 0 where
   pub below : n < length rows
   pub few : length rows ≤ 2 ^ 24
@@ -91,16 +101,17 @@ pub record RowStands (rows : List Row) (n : ℕ) (row : Row) : Type 0 where
   pub placed : IsPlaced (skel_of rows) (owner_of rows) n (above row.place)
   pub owned : (owner : Owner) → owner_set row.place ≡ Some owner → owner_of rows n ≡ owner
 
--- it is a skeleton's root
+-- a number is that of a skeleton's root
 abbrev pub IsTop : List Row → ℕ → Type 0
 IsTop rows n = (mark : ℕ × ℕ) × (mark_of rows n ≡ Some mark)
 
--- what a look at a constructor shows, and what is known of its numbers
+-- the skeleton that a look at a constructor shows
 abbrev pub looked : List Row → Look → Skel
 looked rows (looks.Flat v k) = flat v k
 looked rows (looks.Ref v s) = ref v (skel_of rows s)
 looked rows (looks.Fun v first r e) = fun v (params_from rows first) (skel_of rows r) e
 
+-- the numbers in a look at a constructor are right: its variable may be one, and its parts stand behind it in the table
 abbrev pub IsLook : ℕ → ℕ → Look → Type 0
 IsLook count n (looks.Flat v k) = IsVar v
 IsLook count n (looks.Ref v s) = IsVar v × IsLink count n s
@@ -111,6 +122,7 @@ abbrev pub part_seen : List Row → ℕ → Option ℕ → Skels
 part_seen rows n None = no_skels
 part_seen rows n (Some next) = more_skels (skel_of rows n) (params_from rows next)
 
+-- the part behind a parameter, where there is one, stands behind it in the table
 abbrev pub IsPartLink : ℕ → ℕ → Option ℕ → Type 0
 IsPartLink count n None = Unit {0}
 IsPartLink count n (Some next) = IsLink count n next

@@ -1,4 +1,7 @@
 //! Where qualifier variables stand: positions inside the types of names and expressions, and the table of variables.
+//!
+//! Entry: `VarTable`, `Look`. Invariant: a skeleton takes variables that follow on each other.
+//! It does not know names and constraints. Above: `flow_rules`, `row_world`.
 #![tactic(auto)]
 
 mod growing;

@@ -16,21 +16,26 @@ use Rattle.reader_base.proofs.Looping.{is_loop}
 bracket_shrinks : TurnShrinks bracket_turn
 bracket_shrinks state s ts x e = by_brackets state.brackets ts e
   where
-    by_inside : (i : Inside) (b : Bracket) (bs : List Bracket) (t : Lexeme) (ts : List Lexeme) → bracket_by i b bs t s ts ≡ done x → length x.rest < length (t ∷ ts)
+    by_inside : (i : Inside) (b : Bracket) (bs : List Bracket) (t : Lexeme) (ts : List Lexeme)
+        → bracket_by i b bs t s ts ≡ done x → length x.rest < length (t ∷ ts)
     by_inside (Opens other) b bs t ts e = let is = ap (λ (x : Found Opened). length x.rest) (ok_is e) in omega (arith, is)
     by_inside (Closes other) b bs t ts e = by_same (is_same other b) e
       where
-        by_same : (c : Bool) → (if c then ends (record { brackets = bs; last = t.at }) s ts else refuses Unexpected (t ∷ ts)) ≡ done x → length x.rest < length (t ∷ ts)
+        by_same : (c : Bool)
+            → (if c then ends (record { brackets = bs; last = t.at }) s ts else refuses Unexpected (t ∷ ts)) ≡ done x
+            → length x.rest < length (t ∷ ts)
         by_same true e = let is = ap (λ (x : Found Opened). length x.rest) (ok_is e) in omega (arith, is)
         by_same false e = absurd cc
     by_inside Plain b bs t ts e = let is = ap (λ (x : Found Opened). length x.rest) (ok_is e) in omega (arith, is)
     by_inside Stops b bs t ts e = absurd cc
 
-    by_step : (b : Bracket) (bs : List Bracket) (ts : List Lexeme) → bracket_step b bs s ts ≡ done x → length x.rest < length ts
+    by_step : (b : Bracket) (bs : List Bracket) (ts : List Lexeme) → bracket_step b bs s ts ≡ done x
+        → length x.rest < length ts
     by_step b bs [] e = absurd cc
     by_step b bs (t ∷ ts) e = by_inside (inside_of t.kind) b bs t ts e
 
-    by_brackets : (bs : List Bracket) (ts : List Lexeme) → bracket_turn_by bs s ts ≡ Some (done x) → length x.rest < length ts
+    by_brackets : (bs : List Bracket) (ts : List Lexeme) → bracket_turn_by bs s ts ≡ Some (done x)
+        → length x.rest < length ts
     by_brackets [] ts e = absurd cc
     by_brackets (b ∷ bs) ts e = by_step b bs ts cc
 

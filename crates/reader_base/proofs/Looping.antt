@@ -9,7 +9,9 @@ use Rattle.reader_base.specs.declared.fault.ReadError.TheVariants as errors
 use Rattle.reader_base.specs.Gives.{Fails}
 use Rattle.reader_base.specs.Looping.{FailsTurn, IsLoop}
 
-run_fails : {S : Type 0} (turn : Turn S) → TurnShrinks turn → (a : S) (s : HeldScopes) (ts : List Lexeme) (whole : Read S) → run turn a s ts ≡ whole → (e : ReadError) → FailsTurn e (turn a s ts) → Fails e whole
+run_fails : {S : Type 0} (turn : Turn S) → TurnShrinks turn
+    → (a : S) (s : HeldScopes) (ts : List Lexeme) (whole : Read S) → run turn a s ts ≡ whole → (e : ReadError)
+    → FailsTurn e (turn a s ts) → Fails e whole
 unfolding and_then
 run_fails turn shrinks a s ts whole same (errors.Fault fault token) is = sym same ∙ run_is turn shrinks a s ts ∙ rw is refl
 run_fails turn shrinks a s ts whole same errors.NoMemory is = tt

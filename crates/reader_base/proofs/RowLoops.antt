@@ -17,13 +17,15 @@ use Rattle.reader_base.specs.Rows.{extension_turn, text_turn, qual_turn, array_w
 use Rattle.reader_base.proofs.Looping.{is_loop}
 
 -- a row goes on as long as its items take tokens
-pub repeated_loop : {T : Type 0} (begins : TokenKind → Bool) (read : Reader T) → Shrinks read → IsLoop (repeated_turn begins read)
+pub repeated_loop : {T : Type 0} (begins : TokenKind → Bool) (read : Reader T) → Shrinks read
+    → IsLoop (repeated_turn begins read)
 repeated_loop begins read shrinks = is_loop (repeated_turn begins read) (row_turn_shrinks begins read shrinks)
 
 take_shrinks : Shrinks take_one
 take_shrinks s ts x e = let one = take_falls s ts x e in omega (arith, one)
 
-fits_shrinks : {T : Type 0} (least room : ℕ) (read : Reader T) → Shrinks read → Shrinks (λ s ts. fits least room ts (read s ts))
+fits_shrinks : {T : Type 0} (least room : ℕ) (read : Reader T) → Shrinks read
+    → Shrinks (λ s ts. fits least room ts (read s ts))
 fits_shrinks least room read shrinks s ts x e = shrinks s ts x (fits_ok least room ts e).1
 
 attr_shrinks : Shrinks attr_at

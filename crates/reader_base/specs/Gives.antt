@@ -6,6 +6,7 @@ use Rattle.reader_base.specs.declared.fault.ReadError.{ReadError}
 use Rattle.reader_base.specs.declared.fault.ReadError.TheVariants as errors
 use Rattle.reader_base.specs.declared.place.Place.{Place}
 
+-- a reader's failure is the refusal that the reader of lists gives; want of memory may come anywhere
 abbrev pub Fails : {Y : Type 0} → ReadError → Result Y Refusal → Type 0
 Fails (errors.Fault fault token) read = read ≡ Err (fault, token)
 Fails errors.NoMemory read = Unit {0}
@@ -23,10 +24,10 @@ behind a place = record { tree = a; scopes = place.scopes; rest = place.rest.now
 abbrev pub Reads : {X A : Type 0} → (X → A) → Place → Place → Result X ReadError → Reader A → Type 0
 Reads view before after result reader = Gives (λ x. behind (view x) after) result (reader before.scopes before.rest.now)
 
--- the same of what is its own view, as the number of a token
+-- the same of an answer that is seen as it is, as the number of a token
 abbrev pub Takes : {A : Type 0} → Place → Place → Result A ReadError → Reader A → Type 0
 Takes before after result reader = Reads (λ x. x) before after result reader
 
--- the same of a row
+-- the same of a row, which is seen as its items
 abbrev pub ReadsRow : {A : Type 0} → Place → Place → Result (Vec A) ReadError → Reader (List A) → Type 0
 ReadsRow before after result reader = Reads (λ row. row.items) before after result reader

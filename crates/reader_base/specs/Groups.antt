@@ -4,6 +4,7 @@ use Rattle.c_reading.specs.Reading.{Reader, run}
 use Rattle.c_reading.specs.Tokens as tokens
 use Rattle.reader_base.specs.declared.groups.Opened.{Opened}
 
+-- the brackets that are open, the innermost first
 abbrev pub opened_of : Opened → tokens.Opened
 opened_of opened = record { brackets = reverse opened.brackets.items; last = opened.last }
 

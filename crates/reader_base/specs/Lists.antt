@@ -5,6 +5,7 @@ use Rattle.c_reading.specs.Reading.{Reader, Turn, CommaList, comma_turn, run}
 use Rattle.c_reading.specs.Tokens.{name_at}
 use Rattle.c_reading.specs.Declaring.{identifier_at, next_name}
 
+-- names so far, as a list that no comma ended
 abbrev pub known_names : List Identifier → CommaList Identifier ⊥
 known_names names = record { items = names; ending = None }
 

@@ -1,4 +1,8 @@
 //! Where readers stand, what they are asked for and answer, and the readers of one token.
+//!
+//! Entry: `Answer`, `Inside`, the readers of tokens and groups. Invariant: what a reader answers is what the function
+//! of `c_reading` of the same name answers, given memory.
+//! It does not know how the parts inside are read. Above: all families of readers.
 #![tactic(auto)]
 
 mod asking;

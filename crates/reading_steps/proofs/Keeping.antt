@@ -20,10 +20,6 @@ pub kept_weaker : (b : Bool) (s t : HeldScopes) → Kept true s t → Kept b s t
 kept_weaker true s t h = h
 kept_weaker false s t h = h.outer
 
-pub kept_outer : (b : Bool) (s t : HeldScopes) → Kept b s t → leave t ≡ leave s
-kept_outer true s t h = h.outer
-kept_outer false s t h = h
-
 -- a scope of its own is left as it was entered
 pub own_kept : (scope : HeldScope) (s t : HeldScopes) → Kept false (scope ∷ s) t → Kept true s (leave t)
 own_kept scope s t h = rw h (kept_refl true s)
@@ -45,11 +41,13 @@ hold_kept name kind s t e = by_test (may_declare (innermost s) name kind) e
 
 -- An enumerator.
 
-with_held : (o : Option Kind) (scope : HeldScope) (name : ℕ) (kind : Kind) → (with_kind o scope name kind).held ≡ scope.held
+with_held : (o : Option Kind) (scope : HeldScope) (name : ℕ) (kind : Kind)
+    → (with_kind o scope name kind).held ≡ scope.held
 with_held None scope name kind = refl
 with_held (Some known) scope name kind = refl
 
-with_constant : (o : Option Kind) (scope : HeldScope) (name other : ℕ) → may_declare scope other Constant ≡ true → may_declare (with_kind o scope name Constant) other Constant ≡ true
+with_constant : (o : Option Kind) (scope : HeldScope) (name other : ℕ) → may_declare scope other Constant ≡ true
+    → may_declare (with_kind o scope name Constant) other Constant ≡ true
 with_constant (Some known) scope name other h = h
 with_constant None scope name other h = by_test (nat_eq name other)
   where
@@ -67,15 +65,19 @@ declare_kept name s t e = by_held (is_name (innermost s).held name) e
       constants = λ other may. with_constant (kind_in (innermost s).names name) (innermost s) name other may;
     })
 
-    by_may : (b : Bool) → (if b then Some (with_name (innermost s) name Constant ∷ leave s) else None) ≡ Some t → Kept true s t
+    by_may : (b : Bool) → (if b then Some (with_name (innermost s) name Constant ∷ leave s) else None) ≡ Some t
+        → Kept true s t
     by_may true e = kept cc
     by_may false e = absurd cc
 
-    by_held : (b : Bool) → (if b then None else if may_declare (innermost s) name Constant then Some (with_name (innermost s) name Constant ∷ leave s) else None) ≡ Some t → Kept true s t
+    by_held : (b : Bool)
+        → (if b then None else if may_declare (innermost s) name Constant then Some (with_name (innermost s) name Constant ∷ leave s) else None) ≡ Some t
+        → Kept true s t
     by_held true e = absurd cc
     by_held false e = by_may (may_declare (innermost s) name Constant) e
 
 -- behind its value an enumerator can be declared, where it could before
-pub declare_is : (name : ℕ) (s t : HeldScopes) → is_name (innermost s).held name ≡ false → may_declare (innermost s) name Constant ≡ true → Kept true s t →
+pub declare_is : (name : ℕ) (s t : HeldScopes) → is_name (innermost s).held name ≡ false
+    → may_declare (innermost s) name Constant ≡ true → Kept true s t →
     declare name Constant t ≡ Some (with_name (innermost t) name Constant ∷ leave t)
 declare_is name s t held may h = rw (h.held, held, h.constants name may) refl

@@ -22,8 +22,11 @@ comma_no_end kind h = absurd cc
 
 module _ (keep : Bool) where
   -- Items, as long as a token that passes a test begins one.
-  pub repeated_law : {T : Type 0} (begins : TokenKind → Bool) (read : Reader T) → Shrinks read → (front stops : TokenKind → Bool) → ((kind : TokenKind) → stops kind ≡ true → front kind ≡ true) →
-      ((kind : TokenKind) → stops kind ≡ true → begins kind ≡ false) → ((s : HeldScopes) (ts : List Lexeme) → begins (kind_at ts) ≡ true → Good keep read stops s ts) → Law keep (repeated begins read) front stops
+  pub repeated_law : {T : Type 0} (begins : TokenKind → Bool) (read : Reader T) → Shrinks read
+      → (front stops : TokenKind → Bool) → ((kind : TokenKind) → stops kind ≡ true → front kind ≡ true) →
+      ((kind : TokenKind) → stops kind ≡ true → begins kind ≡ false)
+      → ((s : HeldScopes) (ts : List Lexeme) → begins (kind_at ts) ≡ true → Good keep read stops s ts)
+      → Law keep (repeated begins read) front stops
   unfolding repeated
   repeated_law {T} begins read shrinks front stops fronts off g =
       guarded_law keep begins (λ xs. behind read (λ x. ends (xs ++ x ∷ []))) (row_turn_shrinks begins read shrinks) front stops fronts off
@@ -40,16 +43,19 @@ module _ (keep : Bool) where
     abbrev one_behind : List T → Reader (CommaList T E)
     one_behind xs = behind take_one (λ comma. behind (next comma) (λ y. ends (with_next xs y)))
 
-    one_good : (xs : List T) (s : HeldScopes) (ts : List Lexeme) → is_comma (kind_at ts) ≡ true → Good keep (one_behind xs) stops s ts
+    one_good : (xs : List T) (s : HeldScopes) (ts : List Lexeme) → is_comma (kind_at ts) ≡ true
+        → Good keep (one_behind xs) stops s ts
     one_good xs s ts is =
         take_behind keep (λ comma. behind (next comma) (λ y. ends (with_next xs y))) stops
         (λ comma. bind_law keep (next comma) (λ y. ends (with_next xs y)) any stops stops (next_law comma) (λ y. ends_law keep (with_next xs y) stops stops (λ kind h. h)) (inr (λ kind h. h)))
         s ts (comma_no_end (kind_at ts) is)
 
-    none : (a : CommaList T E) (s : HeldScopes) (k : List Lexeme) → stops (kind_at k) ≡ true → comma_turn next a s k ≡ None
+    none : (a : CommaList T E) (s : HeldScopes) (k : List Lexeme) → stops (kind_at k) ≡ true
+        → comma_turn next a s k ≡ None
     none a s k h = by_ending a.ending a.items k h
       where
-        by_ending : (o : Option E) (xs : List T) (k : List Lexeme) → stops (kind_at k) ≡ true → comma_turn_by next o xs s k ≡ None
+        by_ending : (o : Option E) (xs : List T) (k : List Lexeme) → stops (kind_at k) ≡ true
+            → comma_turn_by next o xs s k ≡ None
         by_ending (Some e) xs k h = refl
         by_ending None xs [] h = refl
         by_ending None xs (t ∷ k) h = rw (off t.kind h) refl
@@ -58,18 +64,21 @@ module _ (keep : Bool) where
     unfolding and_then
     step a s ts = by_ending a.ending refl
       where
-        turn_is : (o : Option E) → a.ending ≡ o → (k : List Lexeme) → comma_turn next a s k ≡ comma_turn_by next o a.items s k
+        turn_is : (o : Option E) → a.ending ≡ o → (k : List Lexeme)
+            → comma_turn next a s k ≡ comma_turn_by next o a.items s k
         turn_is o is k = ap (λ (o : Option E). comma_turn_by next o a.items s k) is
 
         no_tokens : (k : List Lexeme) → first_kind k ≡ None → comma_turn_by next None a.items s k ≡ None
         no_tokens [] h = refl
         no_tokens (t ∷ k) h = absurd cc
 
-        no_comma : (u : Lexeme) → is_comma u.kind ≡ false → (k : List Lexeme) → first_kind k ≡ Some u.kind → comma_turn_by next None a.items s k ≡ None
+        no_comma : (u : Lexeme) → is_comma u.kind ≡ false → (k : List Lexeme) → first_kind k ≡ Some u.kind
+            → comma_turn_by next None a.items s k ≡ None
         no_comma u is [] h = absurd cc
         no_comma u is (t ∷ k) h = let same : t.kind ≡ u.kind = cc in rw (same, is) refl
 
-        a_comma : (u : Lexeme) → is_comma u.kind ≡ true → (k : List Lexeme) → first_kind k ≡ Some u.kind → comma_turn_by next None a.items s k ≡ Some (one_behind a.items s k)
+        a_comma : (u : Lexeme) → is_comma u.kind ≡ true → (k : List Lexeme) → first_kind k ≡ Some u.kind
+            → comma_turn_by next None a.items s k ≡ Some (one_behind a.items s k)
         a_comma u is [] h = absurd cc
         a_comma u is (t ∷ k) h = let same : t.kind ≡ u.kind = cc in rw (same, is) refl
 
@@ -100,17 +109,20 @@ module _ (keep : Bool) where
     }
 
     -- with a first item before the commas
-    pub listed_good : (first : Reader T) (s : HeldScopes) (ts : List Lexeme) → Good keep first front s ts → Good keep (listed first next) stops s ts
+    pub listed_good : (first : Reader T) (s : HeldScopes) (ts : List Lexeme) → Good keep first front s ts
+        → Good keep (listed first next) stops s ts
     unfolding listed
     listed_good first s ts g =
         bind_good keep first (λ x. run (comma_turn next) (record { items = x ∷ []; ending = None })) front stops s ts (λ tree scopes gives at. (commas_law (record { items = tree ∷ []; ending = None })).ready scopes at) g
         (λ x e. (commas_law (record { items = x.tree ∷ []; ending = None })).good x.scopes x.rest) (inr fronts)
 
-    pub listed_ready : (first : Reader T) (begin : TokenKind → Bool) (s : HeldScopes) (at : ℕ) → Ready keep first begin front s at → Ready keep (listed first next) begin stops s at
+    pub listed_ready : (first : Reader T) (begin : TokenKind → Bool) (s : HeldScopes) (at : ℕ)
+        → Ready keep first begin front s at → Ready keep (listed first next) begin stops s at
     unfolding listed
     listed_ready first begin s at r =
         ready_bind keep first (λ x. run (comma_turn next) (record { items = x ∷ []; ending = None })) begin front stops s at r
         (λ tree scopes gives at. (commas_law (record { items = tree ∷ []; ending = None })).ready scopes at)
 
-    pub listed_law : (first : Reader T) (begin : TokenKind → Bool) → Law keep first begin front → Law keep (listed first next) begin stops
+    pub listed_law : (first : Reader T) (begin : TokenKind → Bool) → Law keep first begin front
+        → Law keep (listed first next) begin stops
     listed_law first begin l = record { good = λ s ts. listed_good first s ts (l.good s ts); ready = λ s at. listed_ready first begin s at (l.ready s at) }

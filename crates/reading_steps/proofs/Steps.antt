@@ -18,7 +18,8 @@ use Rattle.reading_steps.specs.Steps.{first_kind, has_end, any, Answered, Comple
 use Rattle.reading_steps.proofs.Keeping.{kept_refl, kept_trans, kept_weaker, own_kept}
 
 -- a loop takes no token back
-pub run_falls : {S : Type 0} (turn : Turn S) → TurnShrinks turn → (a : S) (s : HeldScopes) (ts : List Lexeme) (x : Found S) → run turn a s ts ≡ done x → length x.rest ≤ length ts
+pub run_falls : {S : Type 0} (turn : Turn S) → TurnShrinks turn
+    → (a : S) (s : HeldScopes) (ts : List Lexeme) (x : Found S) → run turn a s ts ≡ done x → length x.rest ≤ length ts
 run_falls turn shrinks a s ts x e =
     run-keep turn (λ a s k. length k ≤ length ts) (λ a s k x h e. let less : length x.rest < length k = shrinks a s k x e in omega arith) a s ts x (omega arith) e
 
@@ -36,7 +37,8 @@ kind_same [] (t ∷ ts) h = absurd cc
 kind_same (t ∷ ts) [] h = absurd cc
 kind_same (t ∷ ts) (u ∷ us) h = cc
 
-pub numbered_append : (at : ℕ) (xs ys : List TokenKind) → numbered_from at (xs ++ ys) ≡ numbered_from at xs ++ numbered_from (at + length xs) ys
+pub numbered_append : (at : ℕ) (xs ys : List TokenKind)
+    → numbered_from at (xs ++ ys) ≡ numbered_from at xs ++ numbered_from (at + length xs) ys
 numbered_append at [] ys = ap (λ (n : ℕ). numbered_from n ys) (omega arith)
 numbered_append at (x ∷ xs) ys =
     ap (λ (k : List Lexeme). record { kind = x; at = at } ∷ k) (numbered_append (suc at) xs ys ∙ ap (λ (n : ℕ). numbered_from (suc at) xs ++ numbered_from n ys) (omega arith))
@@ -55,7 +57,8 @@ pub append_none : {T : Type 0} (xs : List T) → xs ++ [] ≡ xs
 append_none [] = refl
 append_none (x ∷ xs) = ap (λ (ys : List _). x ∷ ys) (append_none xs)
 
-and_then_twice : {A B C : Type 0} (r : Result A Refusal) (f : A → Result B Refusal) (g : B → Result C Refusal) → and_then (and_then r f) g ≡ and_then r (λ x. and_then (f x) g)
+and_then_twice : {A B C : Type 0} (r : Result A Refusal) (f : A → Result B Refusal) (g : B → Result C Refusal)
+    → and_then (and_then r f) g ≡ and_then r (λ x. and_then (f x) g)
 unfolding and_then
 and_then_twice (Ok x) f g = refl
 and_then_twice (Err e) f g = refl
@@ -76,15 +79,18 @@ module _ (keep : Bool) where
       answer = record { before = []; rest = ts; parts = refl; place = refl; ending = λ h. h; same = is; opened = tt }
 
   -- nothing is taken
-  pub ends_good : {A : Type 0} (a : A) (stops : TokenKind → Bool) (s : HeldScopes) (ts : List Lexeme) → Good keep (ends a) stops s ts
+  pub ends_good : {A : Type 0} (a : A) (stops : TokenKind → Bool) (s : HeldScopes) (ts : List Lexeme)
+      → Good keep (ends a) stops s ts
   ends_good a stops s ts = record { before = []; parts = refl; ending = λ h. h; keeps = kept_refl keep s; same = λ k h. refl; ended = λ k h. refl }
 
   -- one token is taken, whatever follows
-  pub take_good : (stops : TokenKind → Bool) (s : HeldScopes) (ts : List Lexeme) → is_end (kind_at ts) ≡ false → Good keep take_one stops s ts
+  pub take_good : (stops : TokenKind → Bool) (s : HeldScopes) (ts : List Lexeme) → is_end (kind_at ts) ≡ false
+      → Good keep take_one stops s ts
   take_good stops s [] h = absurd cc
   take_good stops s (t ∷ ts) h = record { before = t ∷ []; parts = refl; ending = λ e. subst (λ (b : Bool). (if b then true else has_end ts) ≡ true) h e; keeps = kept_refl keep s; same = λ k e. refl; ended = λ k e. refl }
 
-  pub token_good : (test : TokenKind → Bool) (stops : TokenKind → Bool) (s : HeldScopes) (ts : List Lexeme) → ((kind : TokenKind) → test kind ≡ true → is_end kind ≡ false) → Good keep (token_at test) stops s ts
+  pub token_good : (test : TokenKind → Bool) (stops : TokenKind → Bool) (s : HeldScopes) (ts : List Lexeme)
+      → ((kind : TokenKind) → test kind ≡ true → is_end kind ≡ false) → Good keep (token_at test) stops s ts
   token_good test stops s [] h = refused_here (token_at test) stops s [] Unexpected is
     where
       is : (k : List Lexeme) → first_kind k ≡ None → token_at test s k ≡ refuses Unexpected k
@@ -113,7 +119,8 @@ module _ (keep : Bool) where
       Good keep read stops s ts → Good keep other stops s ts
   good_as {A} read other stops s ts same takes g = by_read (read s ts) refl (same ts refl) g
     where
-      like_behind : (t : Lexeme) (b k : List Lexeme) (r : List Lexeme) → ts ≡ (t ∷ b) ++ r → other s ((t ∷ b) ++ k) ≡ read s ((t ∷ b) ++ k)
+      like_behind : (t : Lexeme) (b k : List Lexeme) (r : List Lexeme) → ts ≡ (t ∷ b) ++ r
+          → other s ((t ∷ b) ++ k) ≡ read s ((t ∷ b) ++ k)
       like_behind t b k r parts = same ((t ∷ b) ++ k) (ap first_kind (sym parts))
 
       open_as : (b r : List Lexeme) → ts ≡ b ++ r → Opened keep read stops s b → Opened keep other stops s b
@@ -125,15 +132,18 @@ module _ (keep : Bool) where
       like : (b r k : List Lexeme) → ts ≡ b ++ r → first_kind k ≡ first_kind r → other s (b ++ k) ≡ read s (b ++ k)
       like b r k parts h = same (b ++ k) (first_append b k r h ∙ ap first_kind (sym parts))
 
-      ended_as : (b k : List Lexeme) (x : Found A) → read s ts ≡ done x → ts ≡ b ++ x.rest → stops (kind_at k) ≡ true → other s (b ++ k) ≡ read s (b ++ k)
+      ended_as : (b k : List Lexeme) (x : Found A) → read s ts ≡ done x → ts ≡ b ++ x.rest → stops (kind_at k) ≡ true
+          → other s (b ++ k) ≡ read s (b ++ k)
       ended_as [] k x is parts h = by_takes takes
         where
-          by_takes : ((x : Found A) → read s ts ≡ done x → length x.rest < length ts) ⊎ ((k : List Lexeme) → stops (kind_at k) ≡ true → other s k ≡ read s k) → other s k ≡ read s k
+          by_takes : ((x : Found A) → read s ts ≡ done x → length x.rest < length ts) ⊎ ((k : List Lexeme) → stops (kind_at k) ≡ true → other s k ≡ read s k)
+              → other s k ≡ read s k
           by_takes (inl less) = let lower = less x is in let whole = ap length parts in absurd (omega (arith, lower, whole))
           by_takes (inr alike) = alike k h
       ended_as (t ∷ b) k x is parts h = like_behind t b k x.rest parts
 
-      by_read : (r : Read A) → read s ts ≡ r → other s ts ≡ read s ts → Outcome keep read stops s ts r → Outcome keep other stops s ts (other s ts)
+      by_read : (r : Read A) → read s ts ≡ r → other s ts ≡ read s ts → Outcome keep read stops s ts r
+          → Outcome keep other stops s ts (other s ts)
       by_read (Ok x) is now o = subst (Outcome keep other stops s ts) (sym (now ∙ is)) answer
         where
           answer : Answered keep other stops s ts x
@@ -160,13 +170,15 @@ module _ (keep : Bool) where
 
   -- by a test of the first token, and of the scopes
   pub if_good : {A : Type 0} (test : HeldScopes → TokenKind → Bool) (one two : Reader A) (stops : TokenKind → Bool) (s : HeldScopes) (ts : List Lexeme) →
-      (test s (kind_at ts) ≡ true → Good keep one stops s ts) → (test s (kind_at ts) ≡ false → Good keep two stops s ts) →
+      (test s (kind_at ts) ≡ true → Good keep one stops s ts)
+      → (test s (kind_at ts) ≡ false → Good keep two stops s ts) →
       (test s (kind_at ts) ≡ true → ((x : Found A) → one s ts ≡ done x → length x.rest < length ts) ⊎ ((kind : TokenKind) → stops kind ≡ true → test s kind ≡ true)) →
       (test s (kind_at ts) ≡ false → ((x : Found A) → two s ts ≡ done x → length x.rest < length ts) ⊎ ((kind : TokenKind) → stops kind ≡ true → test s kind ≡ false)) →
       Good keep (λ s ts. if test s (kind_at ts) then one s ts else two s ts) stops s ts
   if_good {A} test one two stops s ts g h one_takes two_takes = by_test (test s (kind_at ts)) refl
     where
-      by_test : (b : Bool) → test s (kind_at ts) ≡ b → Good keep (λ s ts. if test s (kind_at ts) then one s ts else two s ts) stops s ts
+      by_test : (b : Bool) → test s (kind_at ts) ≡ b
+          → Good keep (λ s ts. if test s (kind_at ts) then one s ts else two s ts) stops s ts
       by_test true is = good_as one (λ s ts. if test s (kind_at ts) then one s ts else two s ts) stops s ts (λ k e. rw (kind_same k ts e, is) refl) (takes (one_takes is)) (g is)
         where
           takes : ((x : Found A) → one s ts ≡ done x → length x.rest < length ts) ⊎ ((kind : TokenKind) → stops kind ≡ true → test s kind ≡ true) →
@@ -190,7 +202,8 @@ module _ (keep : Bool) where
       by_room true is = good_as read (λ s ts. fits least room ts (read s ts)) stops s ts (λ k e. rw is refl) (inr (λ k e. rw is refl)) (g (leb-true least room is))
       by_room false is = refused_here (λ s ts. fits least room ts (read s ts)) stops s ts TooDeep (λ k e. rw is refl)
 
-  pub ready_fits : {A : Type 0} (least room : ℕ) (read : Reader A) (front stops : TokenKind → Bool) (s : HeldScopes) (at : ℕ) → least ≤ room → Ready keep read front stops s at →
+  pub ready_fits : {A : Type 0} (least room : ℕ) (read : Reader A) (front stops : TokenKind → Bool) (s : HeldScopes) (at : ℕ)
+      → least ≤ room → Ready keep read front stops s at →
       Ready keep (λ s ts. fits least room ts (read s ts)) front stops s at
   ready_fits least room read front stops s at h r = record {
     more = r.more;
@@ -201,18 +214,22 @@ module _ (keep : Bool) where
     reads = λ k e. fits_is least room (numbered_from at r.more ++ k) (read s (numbered_from at r.more ++ k)) h ∙ r.reads k e;
   }
 
-  pub ready_ends : {A : Type 0} (a : A) (front stops : TokenKind → Bool) (s : HeldScopes) (at : ℕ) → ((kind : TokenKind) → stops kind ≡ true → front kind ≡ true) → Ready keep (ends a) front stops s at
+  pub ready_ends : {A : Type 0} (a : A) (front stops : TokenKind → Bool) (s : HeldScopes) (at : ℕ)
+      → ((kind : TokenKind) → stops kind ≡ true → front kind ≡ true) → Ready keep (ends a) front stops s at
   ready_ends a front stops s at h = record { more = []; tree = a; scopes = s; keeps = kept_refl keep s; begins = λ k e. h (kind_at k) e; reads = λ k e. refl }
 
-  pub ready_take : (kind : TokenKind) (front stops : TokenKind → Bool) (s : HeldScopes) (at : ℕ) → front kind ≡ true → Ready keep take_one front stops s at
+  pub ready_take : (kind : TokenKind) (front stops : TokenKind → Bool) (s : HeldScopes) (at : ℕ) → front kind ≡ true
+      → Ready keep take_one front stops s at
   ready_take kind front stops s at h = record { more = kind ∷ []; tree = at; scopes = s; keeps = kept_refl keep s; begins = λ k e. h; reads = λ k e. refl }
 
-  pub ready_token : (test : TokenKind → Bool) (kind : TokenKind) (front stops : TokenKind → Bool) (s : HeldScopes) (at : ℕ) → test kind ≡ true → front kind ≡ true → Ready keep (token_at test) front stops s at
+  pub ready_token : (test : TokenKind → Bool) (kind : TokenKind) (front stops : TokenKind → Bool) (s : HeldScopes) (at : ℕ)
+      → test kind ≡ true → front kind ≡ true → Ready keep (token_at test) front stops s at
   ready_token test kind front stops s at is h = record { more = kind ∷ []; tree = at; scopes = s; keeps = kept_refl keep s; begins = λ k e. h; reads = λ k e. rw is refl }
 
   -- the same reader, written otherwise, where it begins so
   pub ready_as : {A : Type 0} (read other : Reader A) (front stops : TokenKind → Bool) (s : HeldScopes) (at : ℕ) →
-      ((k : List Lexeme) → front (kind_at k) ≡ true → other s k ≡ read s k) → Ready keep read front stops s at → Ready keep other front stops s at
+      ((k : List Lexeme) → front (kind_at k) ≡ true → other s k ≡ read s k) → Ready keep read front stops s at
+      → Ready keep other front stops s at
   ready_as read other front stops s at same r = record {
     more = r.more;
     tree = r.tree;
@@ -223,8 +240,10 @@ module _ (keep : Bool) where
   }
 
   -- from nothing
-  pub ready_bind : {A B : Type 0} (a : Reader A) (f : A → Reader B) (front middle stops : TokenKind → Bool) (s : HeldScopes) (at : ℕ) → Ready keep a front middle s at →
-      ((tree : A) (scopes : HeldScopes) → Ends keep a middle s tree scopes → (at : ℕ) → Ready keep (f tree) middle stops scopes at) → Ready keep (behind a f) front stops s at
+  pub ready_bind : {A B : Type 0} (a : Reader A) (f : A → Reader B) (front middle stops : TokenKind → Bool) (s : HeldScopes) (at : ℕ)
+      → Ready keep a front middle s at →
+      ((tree : A) (scopes : HeldScopes) → Ends keep a middle s tree scopes → (at : ℕ) → Ready keep (f tree) middle stops scopes at)
+      → Ready keep (behind a f) front stops s at
   unfolding and_then
   ready_bind {A} {B} a f front middle stops s at r next = record {
     more = r.more ++ q.more;
@@ -241,16 +260,20 @@ module _ (keep : Bool) where
       q : Ready keep (f r.tree) middle stops r.scopes at2
       q = next r.tree r.scopes (record { keeps = r.keeps; reads = λ k h. (numbered_from at r.more ++ k, r.reads k h) }) at2
 
-  -- What an answer before a token of one test says of an answer before a token of another test, which may go by the answer.
+  -- What an answer before a token of one test says of an answer before a token of another test, which may go by the
+  -- answer.
   abbrev pub Widens : {A : Type 0} → Reader A → (TokenKind → Bool) → (A → TokenKind → Bool) → HeldScopes → Type 0
   Widens {A} a middle front s =
       (tree : A) (scopes : HeldScopes) (b : List Lexeme) → ((k : List Lexeme) → middle (kind_at k) ≡ true → a s (b ++ k) ≡ ends tree scopes k) → (k : List Lexeme) → front tree (kind_at k) ≡ true →
       a s (b ++ k) ≡ ends tree scopes k
 
   -- from nothing, where the second begins as the first one's answer says
-  pub ready_bind_by : {A B : Type 0} (a : Reader A) (f : A → Reader B) (begin middle stops : TokenKind → Bool) (front : A → TokenKind → Bool) (s : HeldScopes) (at : ℕ) → Widens a middle front s →
-      (r : Ready keep a begin middle s at) → ((k : List Lexeme) → front r.tree (kind_at k) ≡ true → begin (kind_at (numbered_from at r.more ++ k)) ≡ true) →
-      ((tree : A) (scopes : HeldScopes) → Ends keep a middle s tree scopes → (at : ℕ) → Ready keep (f tree) (front tree) stops scopes at) → Ready keep (behind a f) begin stops s at
+  pub ready_bind_by : {A B : Type 0} (a : Reader A) (f : A → Reader B) (begin middle stops : TokenKind → Bool) (front : A → TokenKind → Bool) (s : HeldScopes) (at : ℕ)
+      → Widens a middle front s →
+      (r : Ready keep a begin middle s at)
+      → ((k : List Lexeme) → front r.tree (kind_at k) ≡ true → begin (kind_at (numbered_from at r.more ++ k)) ≡ true) →
+      ((tree : A) (scopes : HeldScopes) → Ends keep a middle s tree scopes → (at : ℕ) → Ready keep (f tree) (front tree) stops scopes at)
+      → Ready keep (behind a f) begin stops s at
   unfolding and_then
   ready_bind_by {A} {B} a f begin middle stops front s at widens r begins next = record {
     more = r.more ++ q.more;
@@ -269,7 +292,8 @@ module _ (keep : Bool) where
       q : Ready keep (f r.tree) (front r.tree) stops r.scopes at2
       q = next r.tree r.scopes (record { keeps = r.keeps; reads = λ k h. (numbered_from at r.more ++ k, r.reads k h) }) at2
 
-  opened_at : {A : Type 0} (read : Reader A) (stops : TokenKind → Bool) (s : HeldScopes) (b : List Lexeme) → ((at : ℕ) → Completes keep read stops s b at) → Opened keep read stops s b
+  opened_at : {A : Type 0} (read : Reader A) (stops : TokenKind → Bool) (s : HeldScopes) (b : List Lexeme)
+      → ((at : ℕ) → Completes keep read stops s b at) → Opened keep read stops s b
   opened_at read stops s [] c = tt
   opened_at read stops s (t ∷ b) c = c
 
@@ -300,7 +324,9 @@ module _ (keep : Bool) where
         }
 
     -- where the second is, at its first token: nothing is owed where the first took nothing
-    first_only : (x : Found A) → Kept keep s x.scopes → (b : List Lexeme) → ((k : List Lexeme) → middle (kind_at k) ≡ true → a s (b ++ k) ≡ done (found x.tree x.scopes k)) → Opened keep (behind a f) stops s (b ++ [])
+    first_only : (x : Found A) → Kept keep s x.scopes → (b : List Lexeme)
+        → ((k : List Lexeme) → middle (kind_at k) ≡ true → a s (b ++ k) ≡ done (found x.tree x.scopes k))
+        → Opened keep (behind a f) stops s (b ++ [])
     unfolding and_then
     first_only x h [] ended = tt
     first_only x h (t ∷ b) ended = λ at.
@@ -314,7 +340,8 @@ module _ (keep : Bool) where
         }
 
     -- where the second is
-    second_opened : (x : Found A) (o : Answered keep a middle s ts x) (b r : List Lexeme) → x.rest ≡ b ++ r → Opened keep (f x.tree) stops x.scopes b → Opened keep (behind a f) stops s (o.before ++ b)
+    second_opened : (x : Found A) (o : Answered keep a middle s ts x) (b r : List Lexeme) → x.rest ≡ b ++ r
+        → Opened keep (f x.tree) stops x.scopes b → Opened keep (behind a f) stops s (o.before ++ b)
     unfolding and_then
     second_opened x o [] r parts p = first_only x o.keeps o.before o.ended
     second_opened x o (t ∷ b) r parts p = opened_at (behind a f) stops s (o.before ++ (t ∷ b)) (λ at.
@@ -328,7 +355,8 @@ module _ (keep : Bool) where
               rw (append_assoc o.before (t ∷ b) (numbered_from at c.more ++ k), o.same ((t ∷ b) ++ (numbered_from at c.more ++ k)) (ap first_kind (sym parts))) (c.reads k h);
         })
 
-    pub bind_good_by : Good keep a middle s ts → ((x : Found A) → a s ts ≡ done x → Good keep (f x.tree) stops x.scopes x.rest) →
+    pub bind_good_by : Good keep a middle s ts
+        → ((x : Found A) → a s ts ≡ done x → Good keep (f x.tree) stops x.scopes x.rest) →
         (((x : Found A) (y : Found B) → a s ts ≡ done x → f x.tree x.scopes x.rest ≡ done y → length y.rest < length x.rest) ⊎ ((kind : TokenKind) → stops kind ≡ true → middle kind ≡ true)) →
         Good keep (behind a f) stops s ts
     unfolding and_then
@@ -352,7 +380,8 @@ module _ (keep : Bool) where
             }
         by_a (Ok x) is o = by_f (f x.tree x.scopes x.rest) refl (gf x is)
           where
-            by_f : (r : Read B) → f x.tree x.scopes x.rest ≡ r → Outcome keep (f x.tree) stops x.scopes x.rest r → Good keep (behind a f) stops s ts
+            by_f : (r : Read B) → f x.tree x.scopes x.rest ≡ r → Outcome keep (f x.tree) stops x.scopes x.rest r
+                → Good keep (behind a f) stops s ts
             by_f (Err e) then_is p = subst (Outcome keep (behind a f) stops s ts) (sym now) answer
               where
                 now : behind a f s ts ≡ Err e
@@ -373,7 +402,8 @@ module _ (keep : Bool) where
                 now : behind a f s ts ≡ done y
                 now = rw is then_is
 
-                ended_by : (b k : List Lexeme) → x.rest ≡ b ++ y.rest → stops (kind_at k) ≡ true → a s (o.before ++ (b ++ k)) ≡ done (found x.tree x.scopes (b ++ k))
+                ended_by : (b k : List Lexeme) → x.rest ≡ b ++ y.rest → stops (kind_at k) ≡ true
+                    → a s (o.before ++ (b ++ k)) ≡ done (found x.tree x.scopes (b ++ k))
                 ended_by (t ∷ b) k parts h = o.same ((t ∷ b) ++ k) (ap first_kind (sym parts))
                 ended_by [] k parts h = by_passes passes
                   where
@@ -395,7 +425,8 @@ module _ (keep : Bool) where
   -- where the second begins with what ends the first
   module _ {A B : Type 0} (a : Reader A) (f : A → Reader B) (middle stops : TokenKind → Bool) (s : HeldScopes) (ts : List Lexeme)
       (ready : (tree : A) (scopes : HeldScopes) → Gives keep a middle s tree scopes → (at : ℕ) → Ready keep (f tree) middle stops scopes at) where
-    pub bind_good : Good keep a middle s ts → ((x : Found A) → a s ts ≡ done x → Good keep (f x.tree) stops x.scopes x.rest) →
+    pub bind_good : Good keep a middle s ts
+        → ((x : Found A) → a s ts ≡ done x → Good keep (f x.tree) stops x.scopes x.rest) →
         (((x : Found A) (y : Found B) → a s ts ≡ done x → f x.tree x.scopes x.rest ≡ done y → length y.rest < length x.rest) ⊎ ((kind : TokenKind) → stops kind ≡ true → middle kind ≡ true)) →
         Good keep (behind a f) stops s ts
     bind_good = bind_good_by a f middle stops (λ tree. middle) s ts (λ tree scopes b ended k h. ended k h) ready
@@ -408,7 +439,8 @@ module _ (keep : Bool) where
 
   module _ {S : Type 0} (turn : Turn S) (shrinks : TurnShrinks turn) (stops : TokenKind → Bool)
       (none : (a : S) (s : HeldScopes) (k : List Lexeme) → stops (kind_at k) ≡ true → turn a s k ≡ None) where
-    pub run_stops : (a : S) (s : HeldScopes) (k : List Lexeme) → stops (kind_at k) ≡ true → run turn a s k ≡ done (found a s k)
+    pub run_stops : (a : S) (s : HeldScopes) (k : List Lexeme) → stops (kind_at k) ≡ true
+        → run turn a s k ≡ done (found a s k)
     run_stops a s k h = run_is turn shrinks a s k ∙ rw (none a s k h) refl
 
   module _ {S : Type 0} (turn : Turn S) (shrinks : TurnShrinks turn) (stops : TokenKind → Bool)
@@ -419,7 +451,8 @@ module _ (keep : Bool) where
     turns_good zero a s ts less = absurd (omega (arith, less))
     turns_good (suc n) a s ts less = by_turn (λ a s ts. turns_good n a s ts) (step a s ts)
       where
-        by_turn : ((a : S) (s : HeldScopes) (ts : List Lexeme) → length ts < n → Good keep (run turn a) stops s ts) → GoodTurn turn stops a s ts → Good keep (run turn a) stops s ts
+        by_turn : ((a : S) (s : HeldScopes) (ts : List Lexeme) → length ts < n → Good keep (run turn a) stops s ts)
+            → GoodTurn turn stops a s ts → Good keep (run turn a) stops s ts
         by_turn again (inl off) =
             good_as (ends a) (run turn a) stops s ts (λ k h. run_is turn shrinks a s k ∙ rw (off k h) refl) (inr (λ k h. run_stops turn shrinks stops none a s k h)) (ends_good a stops s ts)
         by_turn again (inr g) =
@@ -444,12 +477,14 @@ module _ (keep : Bool) where
   Passes {A} {B} f middle stops =
       ((a : A) (s : HeldScopes) (ts : List Lexeme) (y : Found B) → f a s ts ≡ done y → length y.rest < length ts) ⊎ ((kind : TokenKind) → stops kind ≡ true → middle kind ≡ true)
 
-  pub passes_at : {A B : Type 0} (f : A → Reader B) (middle stops : TokenKind → Bool) (r : Read A) → Passes f middle stops →
+  pub passes_at : {A B : Type 0} (f : A → Reader B) (middle stops : TokenKind → Bool) (r : Read A)
+      → Passes f middle stops →
       (((x : Found A) (y : Found B) → r ≡ done x → f x.tree x.scopes x.rest ≡ done y → length y.rest < length x.rest) ⊎ ((kind : TokenKind) → stops kind ≡ true → middle kind ≡ true))
   passes_at f middle stops r (inl less) = inl (λ x y is e. less x.tree x.scopes x.rest y e)
   passes_at f middle stops r (inr pass) = inr pass
 
-  pub bind_law : {A B : Type 0} (a : Reader A) (f : A → Reader B) (front middle stops : TokenKind → Bool) → Law keep a front middle → ((x : A) → Law keep (f x) middle stops) → Passes f middle stops →
+  pub bind_law : {A B : Type 0} (a : Reader A) (f : A → Reader B) (front middle stops : TokenKind → Bool)
+      → Law keep a front middle → ((x : A) → Law keep (f x) middle stops) → Passes f middle stops →
       Law keep (behind a f) front stops
   bind_law a f front middle stops la lf passes = record {
     good = λ s ts.
@@ -458,18 +493,24 @@ module _ (keep : Bool) where
   }
 
   -- behind a first token that is known
-  pub take_behind : {B : Type 0} (f : ℕ → Reader B) (stops : TokenKind → Bool) → ((x : ℕ) → Law keep (f x) any stops) → (s : HeldScopes) (ts : List Lexeme) → is_end (kind_at ts) ≡ false → Good keep (behind take_one f) stops s ts
+  pub take_behind : {B : Type 0} (f : ℕ → Reader B) (stops : TokenKind → Bool) → ((x : ℕ) → Law keep (f x) any stops)
+      → (s : HeldScopes) (ts : List Lexeme) → is_end (kind_at ts) ≡ false → Good keep (behind take_one f) stops s ts
   take_behind f stops lf s ts known =
       bind_good take_one f any stops s ts (λ tree scopes gives at. (lf tree).ready scopes at) (take_good any s ts known) (λ x is. (lf x.tree).good x.scopes x.rest) (inr (λ kind h. refl))
 
-  pub ends_law : {A : Type 0} (a : A) (front stops : TokenKind → Bool) → ((kind : TokenKind) → stops kind ≡ true → front kind ≡ true) → Law keep (ends a) front stops
+  pub ends_law : {A : Type 0} (a : A) (front stops : TokenKind → Bool)
+      → ((kind : TokenKind) → stops kind ≡ true → front kind ≡ true) → Law keep (ends a) front stops
   ends_law a front stops h = record { good = λ s ts. ends_good a stops s ts; ready = λ s at. ready_ends a front stops s at h }
 
-  pub token_law : (test : TokenKind → Bool) (kind : TokenKind) (front : TokenKind → Bool) → ((kind : TokenKind) → test kind ≡ true → is_end kind ≡ false) → test kind ≡ true → front kind ≡ true → Law keep (token_at test) front any
+  pub token_law : (test : TokenKind → Bool) (kind : TokenKind) (front : TokenKind → Bool)
+      → ((kind : TokenKind) → test kind ≡ true → is_end kind ≡ false) → test kind ≡ true → front kind ≡ true
+      → Law keep (token_at test) front any
   token_law test kind front no_end is h = record { good = λ s ts. token_good test any s ts no_end; ready = λ s at. ready_token test kind front any s at is h }
 
   -- before fewer tokens
-  pub good_before : {A : Type 0} (read : Reader A) (stops fewer : TokenKind → Bool) (s : HeldScopes) (ts : List Lexeme) → ((kind : TokenKind) → fewer kind ≡ true → stops kind ≡ true) → Good keep read stops s ts → Good keep read fewer s ts
+  pub good_before : {A : Type 0} (read : Reader A) (stops fewer : TokenKind → Bool) (s : HeldScopes) (ts : List Lexeme)
+      → ((kind : TokenKind) → fewer kind ≡ true → stops kind ≡ true) → Good keep read stops s ts
+      → Good keep read fewer s ts
   good_before {A} read stops fewer s ts h g = by_read (read s ts) g
     where
       open_before : (b : List Lexeme) → Opened keep read stops s b → Opened keep read fewer s b
@@ -480,8 +521,10 @@ module _ (keep : Bool) where
       by_read (Ok x) o = record { before = o.before; parts = o.parts; ending = o.ending; keeps = o.keeps; same = o.same; ended = λ k e. o.ended k (h (kind_at k) e) }
       by_read (Err e) o = record { before = o.before; rest = o.rest; parts = o.parts; place = o.place; ending = o.ending; same = o.same; opened = open_before o.before o.opened }
 
-  pub ready_before : {A : Type 0} (read : Reader A) (front wider stops fewer : TokenKind → Bool) (s : HeldScopes) (at : ℕ) → ((kind : TokenKind) → fewer kind ≡ true → stops kind ≡ true) →
-      ((kind : TokenKind) → front kind ≡ true → wider kind ≡ true) → Ready keep read front stops s at → Ready keep read wider fewer s at
+  pub ready_before : {A : Type 0} (read : Reader A) (front wider stops fewer : TokenKind → Bool) (s : HeldScopes) (at : ℕ)
+      → ((kind : TokenKind) → fewer kind ≡ true → stops kind ≡ true) →
+      ((kind : TokenKind) → front kind ≡ true → wider kind ≡ true) → Ready keep read front stops s at
+      → Ready keep read wider fewer s at
   ready_before read front wider stops fewer s at h w r = record {
     more = r.more;
     tree = r.tree;
@@ -491,17 +534,23 @@ module _ (keep : Bool) where
     reads = λ k e. r.reads k (h (kind_at k) e);
   }
 
-  pub law_before : {A : Type 0} (read : Reader A) (front wider stops fewer : TokenKind → Bool) → ((kind : TokenKind) → fewer kind ≡ true → stops kind ≡ true) →
-      ((kind : TokenKind) → front kind ≡ true → wider kind ≡ true) → Law keep read front stops → Law keep read wider fewer
+  pub law_before : {A : Type 0} (read : Reader A) (front wider stops fewer : TokenKind → Bool)
+      → ((kind : TokenKind) → fewer kind ≡ true → stops kind ≡ true) →
+      ((kind : TokenKind) → front kind ≡ true → wider kind ≡ true) → Law keep read front stops
+      → Law keep read wider fewer
   law_before read front wider stops fewer h w l = record {
     good = λ s ts. good_before read stops fewer s ts h (l.good s ts);
     ready = λ s at. ready_before read front wider stops fewer s at h w (l.ready s at);
   }
 
   -- a loop that goes on as long as its next token passes a test
-  pub guarded_law : {S : Type 0} (test : TokenKind → Bool) (read : S → Reader S) → TurnShrinks (λ a s ts. if test (kind_at ts) then Some (read a s ts) else None) → (front stops : TokenKind → Bool) →
-      ((kind : TokenKind) → stops kind ≡ true → front kind ≡ true) → ((kind : TokenKind) → stops kind ≡ true → test kind ≡ false) →
-      ((a : S) (s : HeldScopes) (ts : List Lexeme) → test (kind_at ts) ≡ true → Good keep (read a) stops s ts) → (a : S) → Law keep (run (λ a s ts. if test (kind_at ts) then Some (read a s ts) else None) a) front stops
+  pub guarded_law : {S : Type 0} (test : TokenKind → Bool) (read : S → Reader S)
+      → TurnShrinks (λ a s ts. if test (kind_at ts) then Some (read a s ts) else None)
+      → (front stops : TokenKind → Bool) →
+      ((kind : TokenKind) → stops kind ≡ true → front kind ≡ true)
+      → ((kind : TokenKind) → stops kind ≡ true → test kind ≡ false) →
+      ((a : S) (s : HeldScopes) (ts : List Lexeme) → test (kind_at ts) ≡ true → Good keep (read a) stops s ts) → (a : S)
+      → Law keep (run (λ a s ts. if test (kind_at ts) then Some (read a s ts) else None) a) front stops
   guarded_law {S} test read shrinks front stops fronts off g a = record {
     good = run_good turn shrinks stops none step a;
     ready = λ s at. record { more = []; tree = a; scopes = s; keeps = kept_refl keep s; begins = λ k h. fronts (kind_at k) h; reads = λ k h. run_stops turn shrinks stops none a s k h };
@@ -520,7 +569,8 @@ module _ (keep : Bool) where
           by_test true is = inr (read a, (λ k e. rw (kind_same k ts e, is) refl), g a s ts is)
           by_test false is = inl (λ k e. rw (kind_same k ts e, is) refl)
 
-  -- A loop whose end depends on what was read: together with what stands behind it, it can be read from nothing from each
+  -- A loop whose end depends on what was read: together with what stands behind it, it can be read from nothing from
+  -- each
   -- state that keeps an invariant.
   module _ {S B : Type 0} (turn : Turn S) (shrinks : TurnShrinks turn) (finish : S → Reader B) (finish_falls : (a : S) (s : HeldScopes) (ts : List Lexeme) (y : Found B) → finish a s ts ≡ done y → length y.rest ≤ length ts)
       (P : S → HeldScopes → Type 0) (goes stops : TokenKind → Bool) (some_kind : TokenKind) (some_goes : goes some_kind ≡ true) (stop_goes : (kind : TokenKind) → stops kind ≡ true → goes kind ≡ true)
@@ -528,7 +578,8 @@ module _ (keep : Bool) where
       (step : (a : S) (s : HeldScopes) (ts : List Lexeme) → P a s →
       (((k : List Lexeme) → first_kind k ≡ first_kind ts ⊎ (stops (kind_at k) ≡ true) → turn a s k ≡ None) × Good keep (finish a) stops s ts)
       ⊎ ((read : Reader S) × ((k : List Lexeme) → first_kind k ≡ first_kind ts → turn a s k ≡ Some (read s k)) × Good keep read goes s ts × ((us : List Lexeme) (x : Found S) → read s us ≡ done x → P x.tree x.scopes))) where
-    loop_good : (n : ℕ) (a : S) (s : HeldScopes) (ts : List Lexeme) → length ts < n → P a s → Good keep (behind (run turn a) finish) stops s ts
+    loop_good : (n : ℕ) (a : S) (s : HeldScopes) (ts : List Lexeme) → length ts < n → P a s
+        → Good keep (behind (run turn a) finish) stops s ts
     unfolding and_then
     loop_good zero a s ts less p = absurd (omega (arith, less))
     loop_good (suc n) a s ts less p = by_turn (λ a s ts less p. loop_good n a s ts less p) (step a s ts p)
@@ -550,7 +601,8 @@ module _ (keep : Bool) where
             kept_by : (tree : S) (scopes : HeldScopes) → Gives keep g.0 goes s tree scopes → P tree scopes
             kept_by tree scopes gives = let h = gives.reads (record { kind = some_kind; at = 0 } ∷ []) some_goes in g.3 h.0 (found tree scopes (record { kind = some_kind; at = 0 } ∷ [])) h.1
 
-            takes : (x : Found B) → behind g.0 (λ x. behind (run turn x) finish) s ts ≡ done x → length x.rest < length ts
+            takes : (x : Found B) → behind g.0 (λ x. behind (run turn x) finish) s ts ≡ done x
+                → length x.rest < length ts
             takes x e =
                 let b = bind_ok e in
                 let c = bind_ok b.2 in
@@ -559,12 +611,15 @@ module _ (keep : Bool) where
                 let last : length x.rest ≤ length c.0.rest = finish_falls c.0.tree c.0.scopes c.0.rest x c.2 in
                 omega (arith, fewer, rest, last)
 
-    pub loop_law_good : (a : S) (s : HeldScopes) (ts : List Lexeme) → P a s → Good keep (behind (run turn a) finish) stops s ts
+    pub loop_law_good : (a : S) (s : HeldScopes) (ts : List Lexeme) → P a s
+        → Good keep (behind (run turn a) finish) stops s ts
     loop_law_good a s ts p = loop_good (suc (length ts)) a s ts (omega arith) p
 
   -- What a reader does behind a first token that it does not refuse. With `if_good` this is a choice by two tokens.
-  pub tail_good : {A : Type 0} (read : Reader A) (stops : TokenKind → Bool) (s : HeldScopes) (t : Lexeme) (ts k0 : List Lexeme) (y : Found A) → read s (t ∷ k0) ≡ done y →
-      ((x : Found A) → read s (t ∷ ts) ≡ done x → length x.rest < suc (length ts)) → Good keep read stops s (t ∷ ts) → Good keep (λ s k. read s (t ∷ k)) stops s ts
+  pub tail_good : {A : Type 0} (read : Reader A) (stops : TokenKind → Bool) (s : HeldScopes) (t : Lexeme) (ts k0 : List Lexeme) (y : Found A)
+      → read s (t ∷ k0) ≡ done y →
+      ((x : Found A) → read s (t ∷ ts) ≡ done x → length x.rest < suc (length ts)) → Good keep read stops s (t ∷ ts)
+      → Good keep (λ s k. read s (t ∷ k)) stops s ts
   tail_good {A} read stops s t ts k0 y goes takes g = by_read (read s (t ∷ ts)) refl g
     where
       end_behind : has_end ts ≡ true → has_end (t ∷ ts) ≡ true
@@ -574,17 +629,21 @@ module _ (keep : Bool) where
           by_end true = refl
           by_end false = h
 
-      open_behind : (u : Lexeme) (b : List Lexeme) → u ≡ t → Opened keep read stops s (u ∷ b) → Opened keep (λ s k. read s (t ∷ k)) stops s b
+      open_behind : (u : Lexeme) (b : List Lexeme) → u ≡ t → Opened keep read stops s (u ∷ b)
+          → Opened keep (λ s k. read s (t ∷ k)) stops s b
       open_behind u [] is o = tt
       open_behind u (v ∷ b) is o = λ at.
           let c = o at in
           record { more = c.more; tree = c.tree; scopes = c.scopes; keeps = c.keeps; reads = λ k h. ap (λ (u : Lexeme). read s (u ∷ ((v ∷ b) ++ (numbered_from at c.more ++ k)))) (sym is) ∙ c.reads k h }
 
-      by_read : (r : Read A) → read s (t ∷ ts) ≡ r → Outcome keep read stops s (t ∷ ts) r → Outcome keep (λ s k. read s (t ∷ k)) stops s ts r
+      by_read : (r : Read A) → read s (t ∷ ts) ≡ r → Outcome keep read stops s (t ∷ ts) r
+          → Outcome keep (λ s k. read s (t ∷ k)) stops s ts r
       by_read (Ok x) is o = by_before o.before o.parts o.same o.ended
         where
-          by_before : (b : List Lexeme) → t ∷ ts ≡ b ++ x.rest → ((k : List Lexeme) → first_kind k ≡ first_kind x.rest → read s (b ++ k) ≡ done (found x.tree x.scopes k)) →
-              ((k : List Lexeme) → stops (kind_at k) ≡ true → read s (b ++ k) ≡ done (found x.tree x.scopes k)) → Answered keep (λ s k. read s (t ∷ k)) stops s ts x
+          by_before : (b : List Lexeme) → t ∷ ts ≡ b ++ x.rest
+              → ((k : List Lexeme) → first_kind k ≡ first_kind x.rest → read s (b ++ k) ≡ done (found x.tree x.scopes k)) →
+              ((k : List Lexeme) → stops (kind_at k) ≡ true → read s (b ++ k) ≡ done (found x.tree x.scopes k))
+              → Answered keep (λ s k. read s (t ∷ k)) stops s ts x
           by_before [] parts same ended = let less = takes x is in let whole = ap length parts in absurd (omega (arith, less, whole))
           by_before (u ∷ b) parts same ended =
               let first = head_is t u ts (b ++ x.rest) parts in
@@ -598,7 +657,9 @@ module _ (keep : Bool) where
               }
       by_read (Err e) is o = by_before o.before o.parts o.same o.opened
         where
-          by_before : (b : List Lexeme) → t ∷ ts ≡ b ++ o.rest → ((k : List Lexeme) → first_kind k ≡ first_kind o.rest → read s (b ++ k) ≡ Err (e.0, number_at k)) → Opened keep read stops s b →
+          by_before : (b : List Lexeme) → t ∷ ts ≡ b ++ o.rest
+              → ((k : List Lexeme) → first_kind k ≡ first_kind o.rest → read s (b ++ k) ≡ Err (e.0, number_at k))
+              → Opened keep read stops s b →
               Refused keep (λ s k. read s (t ∷ k)) stops s ts e
           by_before [] parts same opened = let now : read s (t ∷ k0) ≡ Err (e.0, t.at) = same (t ∷ k0) (ap first_kind parts) in absurd cc
           by_before (u ∷ b) parts same opened =
@@ -615,7 +676,8 @@ module _ (keep : Bool) where
 
 -- What is kept inside an expression is kept by a declaration too.
 module _ (keep : Bool) where
-  pub good_weaker : {A : Type 0} (read : Reader A) (stops : TokenKind → Bool) (s : HeldScopes) (ts : List Lexeme) → Good true read stops s ts → Good keep read stops s ts
+  pub good_weaker : {A : Type 0} (read : Reader A) (stops : TokenKind → Bool) (s : HeldScopes) (ts : List Lexeme)
+      → Good true read stops s ts → Good keep read stops s ts
   good_weaker {A} read stops s ts g = by_read (read s ts) g
     where
       open_weaker : (b : List Lexeme) → Opened true read stops s b → Opened keep read stops s b
@@ -626,26 +688,32 @@ module _ (keep : Bool) where
       by_read (Ok x) o = record { before = o.before; parts = o.parts; ending = o.ending; keeps = kept_weaker keep s x.scopes o.keeps; same = o.same; ended = o.ended }
       by_read (Err e) o = record { before = o.before; rest = o.rest; parts = o.parts; place = o.place; ending = o.ending; same = o.same; opened = open_weaker o.before o.opened }
 
-  pub ready_weaker : {A : Type 0} (read : Reader A) (front stops : TokenKind → Bool) (s : HeldScopes) (at : ℕ) → Ready true read front stops s at → Ready keep read front stops s at
+  pub ready_weaker : {A : Type 0} (read : Reader A) (front stops : TokenKind → Bool) (s : HeldScopes) (at : ℕ)
+      → Ready true read front stops s at → Ready keep read front stops s at
   ready_weaker read front stops s at r = record { more = r.more; tree = r.tree; scopes = r.scopes; keeps = kept_weaker keep s r.scopes r.keeps; begins = r.begins; reads = r.reads }
 
-  pub law_weaker : {A : Type 0} (read : Reader A) (front stops : TokenKind → Bool) → Law true read front stops → Law keep read front stops
+  pub law_weaker : {A : Type 0} (read : Reader A) (front stops : TokenKind → Bool) → Law true read front stops
+      → Law keep read front stops
   law_weaker read front stops l = record { good = λ s ts. good_weaker read stops s ts (l.good s ts); ready = λ s at. ready_weaker read front stops s at (l.ready s at) }
 
   -- A reader that begins with other scopes.
-  pub good_from : {A : Type 0} (read : Reader A) (change : HeldScopes → HeldScopes) (stops : TokenKind → Bool) (s : HeldScopes) (ts : List Lexeme) → Kept keep s (change s) → Good keep read stops (change s) ts →
+  pub good_from : {A : Type 0} (read : Reader A) (change : HeldScopes → HeldScopes) (stops : TokenKind → Bool) (s : HeldScopes) (ts : List Lexeme)
+      → Kept keep s (change s) → Good keep read stops (change s) ts →
       Good keep (λ s ts. read (change s) ts) stops s ts
   good_from {A} read change stops s ts first g = by_read (read (change s) ts) g
     where
-      open_from : (b : List Lexeme) → Opened keep read stops (change s) b → Opened keep (λ s ts. read (change s) ts) stops s b
+      open_from : (b : List Lexeme) → Opened keep read stops (change s) b
+          → Opened keep (λ s ts. read (change s) ts) stops s b
       open_from [] o = tt
       open_from (t ∷ b) o = λ at. let c = o at in record { more = c.more; tree = c.tree; scopes = c.scopes; keeps = kept_trans keep s (change s) c.scopes first c.keeps; reads = c.reads }
 
-      by_read : (r : Read A) → Outcome keep read stops (change s) ts r → Outcome keep (λ s ts. read (change s) ts) stops s ts r
+      by_read : (r : Read A) → Outcome keep read stops (change s) ts r
+          → Outcome keep (λ s ts. read (change s) ts) stops s ts r
       by_read (Ok x) o = record { before = o.before; parts = o.parts; ending = o.ending; keeps = kept_trans keep s (change s) x.scopes first o.keeps; same = o.same; ended = o.ended }
       by_read (Err e) o = record { before = o.before; rest = o.rest; parts = o.parts; place = o.place; ending = o.ending; same = o.same; opened = open_from o.before o.opened }
 
-  pub ready_from : {A : Type 0} (read : Reader A) (change : HeldScopes → HeldScopes) (front stops : TokenKind → Bool) (s : HeldScopes) (at : ℕ) → Kept keep s (change s) → Ready keep read front stops (change s) at →
+  pub ready_from : {A : Type 0} (read : Reader A) (change : HeldScopes → HeldScopes) (front stops : TokenKind → Bool) (s : HeldScopes) (at : ℕ)
+      → Kept keep s (change s) → Ready keep read front stops (change s) at →
       Ready keep (λ s ts. read (change s) ts) front stops s at
   ready_from read change front stops s at first r = record {
     more = r.more;
@@ -665,13 +733,15 @@ pub own_good : {A B : Type 0} (scope : HeldScopes → HeldScope) (read : Reader 
 unfolding and_then
 own_good {A} {B} scope read make stops s ts g = by_read (read (scope s ∷ s) ts) refl g
   where
-    open_own : (b : List Lexeme) → Opened false read stops (scope s ∷ s) b → Opened true (in_scope scope read make) stops s b
+    open_own : (b : List Lexeme) → Opened false read stops (scope s ∷ s) b
+        → Opened true (in_scope scope read make) stops s b
     open_own [] o = tt
     open_own (t ∷ b) o = λ at.
         let c = o at in
         record { more = c.more; tree = make c.tree c.scopes; scopes = leave c.scopes; keeps = own_kept (scope s) s c.scopes c.keeps; reads = λ k h. rw (c.reads k h) refl }
 
-    by_read : (r : Read A) → read (scope s ∷ s) ts ≡ r → Outcome false read stops (scope s ∷ s) ts r → Good true (in_scope scope read make) stops s ts
+    by_read : (r : Read A) → read (scope s ∷ s) ts ≡ r → Outcome false read stops (scope s ∷ s) ts r
+        → Good true (in_scope scope read make) stops s ts
     by_read (Ok x) is o = subst (Outcome true (in_scope scope read make) stops s ts) (sym now) answer
       where
         now : in_scope scope read make s ts ≡ done (found (make x.tree x.scopes) (leave x.scopes) x.rest)

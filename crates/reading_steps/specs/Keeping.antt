@@ -1,4 +1,5 @@
--- What a reader leaves of the scopes: those round the innermost one, and inside an expression also all that an enumerator
+-- What a reader leaves of the scopes: those round the innermost one, and inside an expression also all that an
+-- enumerator
 -- behind it is refused for.
 use Rattle.std.specs.Prelude.{◌≡◌, ℕ, Bool, true, false}
 use Rattle.typedef_scope.specs.declared.kind.Kind.TheVariants.{Constant}
@@ -8,7 +9,8 @@ use Rattle.c_units.specs.HeldScopes.{HeldScopes, innermost, leave, may_declare}
 pub record Keeps (s t : HeldScopes) : Type 0 where
   pub outer : leave t ≡ leave s
   pub held : (innermost t).held ≡ (innermost s).held
-  pub constants : (name : ℕ) → may_declare (innermost s) name Constant ≡ true → may_declare (innermost t) name Constant ≡ true
+  pub constants : (name : ℕ) → may_declare (innermost s) name Constant ≡ true
+      → may_declare (innermost t) name Constant ≡ true
 
 -- what an expression leaves, and what a declaration does
 abbrev pub Kept : Bool → HeldScopes → HeldScopes → Type 0

@@ -1,7 +1,10 @@
--- What a reader does when other tokens stand behind those that it took, and how what it read before a refusal is completed.
+-- What a reader does when other tokens stand behind those that it took, and how what it read before a refusal is
+-- completed.
 --
--- A completion is a list of tokens, and it is the reader itself that reads it: no tree is spoken of. Nothing is owed where
--- nothing was taken, so a reader need not be one that could have begun. The bind that stands outside completes its own rest.
+-- A completion is a list of tokens, and it is the reader itself that reads it: no tree is spoken of. Nothing is owed
+-- where
+-- nothing was taken, so a reader need not be one that could have begun. The bind that stands outside completes its own
+-- rest.
 use Rattle.std.specs.Prelude.{◌≡◌, ℕ, Bool, true, false, if◌then◌else◌, List, [], ◌∷◌, ◌++◌, length, ◌<◌, Option, Some, None, Ok, Err}
 use Rattle.c_words.specs.declared.kinds.TokenKind.{TokenKind}
 use Rattle.c_tree.specs.declared.lexeme.Lexeme.{Lexeme}
@@ -21,6 +24,7 @@ abbrev pub has_end : List Lexeme → Bool
 has_end [] = false
 has_end (t ∷ ts) = if is_end t.kind then true else has_end ts
 
+-- each kind of token passes
 abbrev pub any : TokenKind → Bool
 any kind = true
 
@@ -39,7 +43,8 @@ pub record Completes {A : Type 0} (b : Bool) (read : Reader A) (stops : TokenKin
   pub tree : A
   pub scopes : HeldScopes
   pub keeps : Kept b s scopes
-  pub reads : (k : List Lexeme) → stops (kind_at k) ≡ true → read s (before ++ (numbered_from at more ++ k)) ≡ ends tree scopes k
+  pub reads : (k : List Lexeme) → stops (kind_at k) ≡ true
+      → read s (before ++ (numbered_from at more ++ k)) ≡ ends tree scopes k
 
 -- Nothing is to be completed where nothing was taken: there what stands before may end, or go on otherwise.
 abbrev pub Opened : {A : Type 0} → Bool → Reader A → (TokenKind → Bool) → HeldScopes → List Lexeme → Type 0
@@ -56,6 +61,7 @@ pub record Refused {A : Type 0} (b : Bool) (read : Reader A) (stops : TokenKind 
   pub same : (k : List Lexeme) → first_kind k ≡ first_kind rest → read s (before ++ k) ≡ Err (e.0, number_at k)
   pub opened : Opened b read stops s before
 
+-- what a reader owes by its answer: as above for what it read, or for a refusal
 abbrev pub Outcome : {A : Type 0} → Bool → Reader A → (TokenKind → Bool) → HeldScopes → List Lexeme → Read A → Type 0
 Outcome b read stops s ts (Ok x) = Answered b read stops s ts x
 Outcome b read stops s ts (Err e) = Refused b read stops s ts e
@@ -81,7 +87,8 @@ pub record Law {A : Type 0} (b : Bool) (read : Reader A) (front stops : TokenKin
 -- What it answers before each token of a test, of tokens of which it takes one at least.
 pub record Gives {A : Type 0} (b : Bool) (a : Reader A) (middle : TokenKind → Bool) (s : HeldScopes) (tree : A) (scopes : HeldScopes) : Type 0 where
   pub keeps : Kept b s scopes
-  pub reads : (k : List Lexeme) → middle (kind_at k) ≡ true → (ts : List Lexeme) × (a s ts ≡ ends tree scopes k) × (length k < length ts)
+  pub reads : (k : List Lexeme) → middle (kind_at k) ≡ true
+      → (ts : List Lexeme) × (a s ts ≡ ends tree scopes k) × (length k < length ts)
 
 -- The same, whether it takes one or not.
 pub record Ends {A : Type 0} (b : Bool) (a : Reader A) (middle : TokenKind → Bool) (s : HeldScopes) (tree : A) (scopes : HeldScopes) : Type 0 where

@@ -1,4 +1,5 @@
--- Before which tokens the readers of each nonterminal are asked to end: those that completions put behind them, and no more.
+-- Before which tokens the readers of each nonterminal are asked to end: those that completions put behind them, and no
+-- more.
 use Rattle.std.specs.Prelude.{ℕ, Bool, true, false, ◌&&◌, not, [], length}
 use Rattle.c_words.specs.declared.kinds.TokenKind.{TokenKind}
 use Rattle.c_words.specs.declared.kinds.TokenKind.TheVariants as kinds
@@ -12,19 +13,22 @@ use Rattle.c_reading.specs.Tokens.{is_else, is_open_brace}
 use Rattle.c_reading.specs.Parts.{Begun, nothing, extensions, star}
 use Rattle.c_reading.specs.Specifying.{is_start, start_at}
 
+-- a number
 abbrev pub is_number : TokenKind → Bool
 is_number kinds.Number = true
 is_number kind = false
 
+-- the keyword `int`
 abbrev pub is_int : TokenKind → Bool
 is_int (kinds.Keyword keywords.Int) = true
 is_int kind = false
 
+-- a name
 abbrev pub is_name_kind : TokenKind → Bool
 is_name_kind (kinds.Name name) = true
 is_name_kind kind = false
 
--- an operand, with its postfix forms
+-- an operand with its postfix forms, and an expression that does not go on with a comma
 abbrev pub stops_operand : TokenKind → Bool
 stops_operand (kinds.Punct puncts.CloseParen) = true
 stops_operand (kinds.Punct puncts.CloseBracket) = true
@@ -34,7 +38,7 @@ stops_operand (kinds.Punct puncts.Semicolon) = true
 stops_operand (kinds.Punct puncts.Colon) = true
 stops_operand kind = false
 
--- an expression that does not go on with a comma, and one that does
+-- an expression that goes on with commas
 abbrev pub stops_whole : TokenKind → Bool
 stops_whole (kinds.Punct puncts.CloseParen) = true
 stops_whole (kinds.Punct puncts.CloseBracket) = true
@@ -43,6 +47,7 @@ stops_whole (kinds.Punct puncts.Semicolon) = true
 stops_whole (kinds.Punct puncts.Colon) = true
 stops_whole kind = false
 
+-- an expression of a reach
 abbrev pub stops_expr : Reach → TokenKind → Bool
 stops_expr Whole kind = stops_whole kind
 stops_expr Assigned kind = stops_operand kind
@@ -72,6 +77,7 @@ stops_named (kinds.Punct puncts.Colon) = true
 stops_named (kinds.Punct puncts.OpenBrace) = true
 stops_named kind = false
 
+-- a declarator of a mode
 abbrev pub stops_declr : Mode → TokenKind → Bool
 stops_declr Named kind = stops_named kind
 stops_declr Abstract kind = stops_type kind

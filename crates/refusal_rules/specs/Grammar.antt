@@ -46,6 +46,7 @@ right_line (binary p) = 3
 
 module _ (all : List Lexeme) where
   abbrev mutual
+    -- an expression (6.5)
     pub DerivesExpr : Expr → Type 0
     DerivesExpr (operation e op token e2) =
         DerivesExpr e × DerivesExpr e2 × IsOperator op × DerivesMiddle op × (left_line op ≤ expr_level e)
@@ -86,57 +87,69 @@ module _ (all : List Lexeme) where
         DerivesExpr e × DerivesExpr e2 × DerivesExpr e3 × (1 ≤ expr_level e) × (1 ≤ expr_level e2) × (1 ≤ expr_level e3)
     DerivesExpr (generic keyword opening e xs closing) = DerivesExpr e × (1 ≤ expr_level e) × (xs ≢ no_assocs) × DerivesAssocs xs
 
+    -- the associations of `_Generic`
     pub DerivesAssocs : Assocs → Type 0
     DerivesAssocs no_assocs = Unit {0}
     DerivesAssocs (more_assocs x xs) = DerivesAssoc x × DerivesAssocs xs
 
+    -- an association: a type name or `default`, and an assignment expression
     pub DerivesAssoc : Assoc → Type 0
     DerivesAssoc (typed_assoc ws d colon e) =
         (ws ≢ no_words) × DerivesTypeWords ws × DerivesSomeAbstract d × DerivesExpr e × (1 ≤ expr_level e)
     DerivesAssoc (default_assoc keyword colon e) = DerivesExpr e × (1 ≤ expr_level e)
 
+    -- the middle of `?:`, which may be left out
     pub DerivesMiddle : Operator → Type 0
     DerivesMiddle comma = Unit {0}
     DerivesMiddle (assign p) = Unit {0}
     DerivesMiddle (cond e colon) = DerivesSomeExpr e
     DerivesMiddle (binary p) = Unit {0}
 
+    -- an expression that may be left out
     pub DerivesSomeExpr : SomeExpr → Type 0
     DerivesSomeExpr no_expr = Unit {0}
     DerivesSomeExpr (some_expr e) = DerivesExpr e
 
+    -- the arguments of a call, each an assignment expression
     pub DerivesArguments : Exprs → Type 0
     DerivesArguments no_exprs = Unit {0}
     DerivesArguments (more_exprs e es) = DerivesExpr e × (1 ≤ expr_level e) × DerivesArguments es
 
+    -- the steps of `__builtin_offsetof` behind its first member
     pub DerivesSteps : Desigs → Type 0
     DerivesSteps no_desigs = Unit {0}
     DerivesSteps (more_desigs d ds) = DerivesStep d × DerivesSteps ds
 
+    -- a step: a member or an index, and no range or old form
     pub DerivesStep : Desig → Type 0
     DerivesStep (member_desig token name) = Unit {0}
     DerivesStep (index_desig opening e closing) = DerivesExpr e
     DerivesStep (range_desig opening e dots e2 closing) = ⊥
     DerivesStep (old_desig name colon) = ⊥
 
+    -- the designators of an initialiser
     pub DerivesDesigs : Desigs → Type 0
     DerivesDesigs no_desigs = Unit {0}
     DerivesDesigs (more_desigs d ds) = DerivesDesig d × DerivesDesigs ds
 
+    -- a designator; an index or a bound is a conditional expression
     pub DerivesDesig : Desig → Type 0
     DerivesDesig (member_desig token name) = Unit {0}
     DerivesDesig (index_desig opening e closing) = DerivesExpr e × (2 ≤ expr_level e)
     DerivesDesig (range_desig opening e dots e2 closing) = DerivesExpr e × (2 ≤ expr_level e) × DerivesExpr e2 × (2 ≤ expr_level e2)
     DerivesDesig (old_desig name colon) = Unit {0}
 
+    -- the specifiers of the name of a type (6.7.6)
     pub DerivesTypeWords : SpecWords → Type 0
     DerivesTypeWords no_words = Unit {0}
     DerivesTypeWords (more_words w ws) = DerivesSpecWord w × IsTypeWord w × DerivesTypeWords ws
 
+    -- the specifiers of a declaration, a member or a parameter
     pub DerivesSpecWords : SpecWords → Type 0
     DerivesSpecWords no_words = Unit {0}
     DerivesSpecWords (more_words w ws) = DerivesSpecWord w × DerivesSpecWords ws
 
+    -- a word of specifiers
     pub DerivesSpecWord : SpecWord → Type 0
     DerivesSpecWord (storage word) = is_storage word.keyword ≡ true
     DerivesSpecWord (thread keyword) = Unit {0}
@@ -155,45 +168,55 @@ module _ (all : List Lexeme) where
     DerivesSpecWord (align attr) = IsGroup all attr.group
     DerivesSpecWord (auto_word token) = Unit {0}
 
+    -- the body of a struct or union, if any
     pub DerivesBody : SomeBody → Type 0
     DerivesBody no_body = Unit {0}
     DerivesBody (some_body opening items closing) = DerivesStructItems items
 
+    -- the members of a struct or union
     pub DerivesStructItems : StructItems → Type 0
     DerivesStructItems no_struct_items = Unit {0}
     DerivesStructItems (more_struct_items item items) = DerivesStructItem item × DerivesStructItems items
 
+    -- a member's declaration (6.7.2.1), a semicolon alone, or a `_Static_assert`
     pub DerivesStructItem : StructItem → Type 0
     DerivesStructItem (member exts ws ds semi) =
         (ws ≢ no_words) × DerivesSpecWords ws × (has_auto ws ≡ false) × IsMemStart ds × DerivesMemDeclrs ds
     DerivesStructItem (member_semi semi) = Unit {0}
     DerivesStructItem (member_assert it) = IsGroup all it.group
 
+    -- the declarators of a member's declaration
     pub DerivesMemDeclrs : MemDeclrs → Type 0
     DerivesMemDeclrs no_mem_declrs = Unit {0}
     DerivesMemDeclrs (more_mem_declrs attrs d ds) = AreAttrs all attrs × DerivesMemDeclr d × DerivesMemDeclrs ds
 
+    -- a member's declarator with a name, maybe with a width, or a width alone
     pub DerivesMemDeclr : MemDeclr → Type 0
     DerivesMemDeclr (named d width attrs) =
         DerivesDeclr d × (is_named d ≡ true) × DerivesSomeValue width × AreAttrs all attrs
     DerivesMemDeclr (unnamed colon e attrs) = DerivesExpr e × (2 ≤ expr_level e) × AreAttrs all attrs
 
+    -- a width or a value that may be left out, a conditional expression
     pub DerivesSomeValue : SomeValue → Type 0
     DerivesSomeValue no_value = Unit {0}
     DerivesSomeValue (some_value token e) = DerivesExpr e × (2 ≤ expr_level e)
 
+    -- an enumeration type (6.7.2.2)
     pub DerivesEnum : EnumType → Type 0
     DerivesEnum (enum_of keyword attrs tag body) = AreAttrs all attrs × HasTagOrEnumBody tag body × DerivesEnumBody body
 
+    -- the body of an enumeration, if any, with an enumerator at least
     pub DerivesEnumBody : SomeEnumBody → Type 0
     DerivesEnumBody no_enum_body = Unit {0}
     DerivesEnumBody (some_enum_body opening es last closing) = (es ≢ no_enumerators) × DerivesEnumerators es
 
+    -- the enumerators of an enumeration
     pub DerivesEnumerators : Enumerators → Type 0
     DerivesEnumerators no_enumerators = Unit {0}
     DerivesEnumerators (more_enumerators name attrs value es) =
         AreAttrs all attrs × DerivesSomeValue value × DerivesEnumerators es
 
+    -- a declarator, with a name (6.7.5) or without (6.7.6)
     pub DerivesDeclr : Declr → Type 0
     DerivesDeclr (pointer star words d) = All (IsPointerWord all) words × DerivesDeclr d × (is_named d ≡ true)
     DerivesDeclr (declr_name token name) = Unit {0}
@@ -211,70 +234,86 @@ module _ (all : List Lexeme) where
     DerivesDeclr (identifiers d opening names closing) = DerivesDeclr d × (is_bare_name d ≡ true) × (names ≢ [])
     DerivesDeclr (base_name token) = Unit {0}
 
+    -- an abstract declarator, or none
     pub DerivesSomeAbstract : SomeDeclr → Type 0
     DerivesSomeAbstract no_declr = Unit {0}
     DerivesSomeAbstract (some_declr d) = DerivesDeclr d × (is_named d ≡ false)
 
+    -- an abstract declarator that is no pointer, or none
     pub DerivesSomeDirect : SomeDeclr → Type 0
     DerivesSomeDirect no_declr = Unit {0}
     DerivesSomeDirect (some_declr d) = DerivesDeclr d × (is_named d ≡ false) × (is_direct d ≡ true)
 
+    -- what stands in the brackets of an array declarator
     pub DerivesSize : SomeSize → Type 0
     DerivesSize no_size = Unit {0}
     DerivesSize (some_size size) = DerivesArraySize size
 
+    -- the size of an array: an assignment expression or `*`
     pub DerivesArraySize : ArraySize → Type 0
     DerivesArraySize (size_value e) = DerivesExpr e × (1 ≤ expr_level e)
     DerivesArraySize (size_star star) = Unit {0}
 
+    -- the parameters of a function declarator
     pub DerivesParams : Params → Type 0
     DerivesParams no_params = Unit {0}
     DerivesParams (more_params ws d attrs ps) =
         (ws ≢ no_words) × DerivesSpecWords ws × (has_auto ws ≡ false) × DerivesSomeDeclr d × AreAttrs all attrs × DerivesParams ps
 
+    -- a declarator that may be absent
     pub DerivesSomeDeclr : SomeDeclr → Type 0
     DerivesSomeDeclr no_declr = Unit {0}
     DerivesSomeDeclr (some_declr d) = DerivesDeclr d
 
+    -- an initialiser: an assignment expression, or a braced list
     pub DerivesInit : Init → Type 0
     DerivesInit (init_value e) = DerivesExpr e × (1 ≤ expr_level e)
     DerivesInit (init_braced list) = DerivesInitList list
 
+    -- a braced list of initialisers
     pub DerivesInitList : InitList → Type 0
     DerivesInitList (init_list opening items last closing) = DerivesInitItems items × IsItemsEnd items last
 
+    -- the items of a list of initialisers
     pub DerivesInitItems : InitItems → Type 0
     DerivesInitItems no_init_items = Unit {0}
     DerivesInitItems (more_init_items ds equal init items) =
         DerivesDesigs ds × IsDesignated ds equal × DerivesInit init × DerivesInitItems items
 
+    -- an initialiser that may be left out
     pub DerivesSomeInit : SomeInit → Type 0
     DerivesSomeInit no_init = Unit {0}
     DerivesSomeInit (some_init equal init) = DerivesInit init
 
+    -- the declarators of a declaration, each with a name
     pub DerivesInitDeclrs : InitDeclrs → Type 0
     DerivesInitDeclrs no_init_declrs = Unit {0}
     DerivesInitDeclrs (more_init_declrs attrs d asm_label attrs2 init ds) =
         AreAttrs all attrs × DerivesDeclr d × (is_named d ≡ true) × IsLabel all asm_label × AreAttrs all attrs2
         × DerivesSomeInit init × DerivesInitDeclrs ds
 
+    -- a declaration (6.7)
     pub DerivesDeclaration : Declaration → Type 0
     DerivesDeclaration (declaration exts ws ds semi) =
         (ws ≢ no_words) × DerivesSpecWords ws × IsInitStart ds × DerivesInitDeclrs ds × IsAutoWhere (has_auto ws) ws ds
 
+    -- a declaration, or a `_Static_assert`
     pub DerivesDecl : Decl → Type 0
     DerivesDecl (decl_declaration d) = DerivesDeclaration d
     DerivesDecl (decl_assert it) = IsGroup all it.group
 
+    -- the items of a block
     pub DerivesBlockItems : BlockItems → Type 0
     DerivesBlockItems no_block_items = Unit {0}
     DerivesBlockItems (more_block_items item items) = DerivesBlockItem item × DerivesBlockItems items
 
+    -- an item of a block; a declaration of labels has one at least
     pub DerivesBlockItem : BlockItem → Type 0
     DerivesBlockItem (block_decl d) = DerivesDecl d
     DerivesBlockItem (block_stmt s) = DerivesStmt s
     DerivesBlockItem (block_labels keyword names semi) = names ≢ []
 
+    -- a statement (6.8)
     pub DerivesStmt : Stmt → Type 0
     DerivesStmt (block opening items closing) = DerivesBlockItems items × AreLabelsFirst items
     DerivesStmt (expr_stmt e semi) = DerivesSomeExpr e
@@ -297,14 +336,17 @@ module _ (all : List Lexeme) where
         DerivesExpr e × (2 ≤ expr_level e) × DerivesExpr e2 × (2 ≤ expr_level e2) × DerivesStmt s
     DerivesStmt (goto_value keyword star e semi) = DerivesExpr e
 
+    -- the `else` of an `if`, if any; it is not looked at which `if` it belongs to
     pub DerivesOther : SomeElse → Type 0
     DerivesOther no_else = Unit {0}
     DerivesOther (some_else keyword s) = DerivesStmt s
 
+    -- the first clause of a `for`
     pub DerivesStart : ForStart → Type 0
     DerivesStart (start_declaration d) = DerivesDeclaration d
     DerivesStart (start_value e semi) = DerivesSomeExpr e
 
+  -- the declarations behind a list of identifiers
   abbrev pub DeriveDeclarations : List Declaration → Type 0
   DeriveDeclarations [] = Unit {0}
   DeriveDeclarations (d ∷ ds) = DerivesDeclaration d × DeriveDeclarations ds

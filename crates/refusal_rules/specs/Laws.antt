@@ -12,10 +12,11 @@ use Rattle.refusal_rules.specs.Allowed.{Code, syntax, BeginsTree, BeginsUnitOfAn
 abbrev pub UnitsAreTrees : Type 0
 UnitsAreTrees = (all : List Lexeme) (items : List Item) → IsUnit all items → All (DerivesItem all) items
 
--- where a well-formed unit begins so, a tree does, and a unit that is well formed but for its height
+-- where a well-formed unit begins so, a tree does
 abbrev pub UnitsBeginAsTrees : Type 0
 UnitsBeginAsTrees = (wide : Bool) (before : List TokenKind) → BeginsUnit wide before → BeginsTree before
 
+-- where a well-formed unit begins so, a unit that is well formed but for its height does
 abbrev pub UnitsBeginAtAnyHeight : Type 0
 UnitsBeginAtAnyHeight = (wide : Bool) (before : List TokenKind) → BeginsUnit wide before → BeginsUnitOfAnyHeight wide before
 

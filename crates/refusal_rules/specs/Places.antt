@@ -51,6 +51,7 @@ in_function d s =
 abbrev pub of_expr : Expr → (Option HeldScopes → List Place) → Option HeldScopes → List Place
 of_expr e inside s = (expression e, s) ∷ inside s
 
+-- specifiers, and the parts inside them
 abbrev pub of_specs : SpecWords → (Option HeldScopes → List Place) → Option HeldScopes → List Place
 of_specs ws inside s = (specifiers ws, s) ∷ inside s
 
@@ -60,6 +61,7 @@ of_name None token name s = []
 of_name (Some kind) token name s = (declared token name kind, s) ∷ []
 
 abbrev mutual
+  -- the parts inside an expression, itself aside
   pub expr_inside : Expr → Option HeldScopes → List Place
   expr_inside (operation e op token e2) s =
       of_expr e (expr_inside e) s ++ operator_inside op (behind s (expr_scopes e))
@@ -108,34 +110,41 @@ abbrev mutual
       ++ of_expr e3 (expr_inside e3) (behind (behind s (expr_scopes e)) (expr_scopes e2))
   expr_inside (generic keyword opening e xs closing) s = of_expr e (expr_inside e) s ++ assocs_inside xs (behind s (expr_scopes e))
 
+  -- the parts of the associations of `_Generic`
   pub assocs_inside : Assocs → Option HeldScopes → List Place
   assocs_inside no_assocs s = []
   assocs_inside (more_assocs x xs) s = assoc_inside x s ++ assocs_inside xs (behind s (assoc_scopes x))
 
+  -- the parts of an association
   pub assoc_inside : Assoc → Option HeldScopes → List Place
   assoc_inside (typed_assoc ws d colon e) s =
       of_specs ws (spec_words_inside ws) s ++ some_declr_inside None d (behind s (spec_words_scopes ws))
       ++ of_expr e (expr_inside e) (behind_type ws d s)
   assoc_inside (default_assoc keyword colon e) s = of_expr e (expr_inside e) s
 
+  -- the parts of the middle of `?:`
   pub operator_inside : Operator → Option HeldScopes → List Place
   operator_inside comma s = []
   operator_inside (assign p) s = []
   operator_inside (cond e colon) s = some_expr_inside e s
   operator_inside (binary p) s = []
 
+  -- an expression that may be left out, with the parts inside it
   pub some_expr_inside : SomeExpr → Option HeldScopes → List Place
   some_expr_inside no_expr s = []
   some_expr_inside (some_expr e) s = of_expr e (expr_inside e) s
 
+  -- the arguments of a call, with the parts inside them
   pub exprs_inside : Exprs → Option HeldScopes → List Place
   exprs_inside no_exprs s = []
   exprs_inside (more_exprs e es) s = of_expr e (expr_inside e) s ++ exprs_inside es (behind s (expr_scopes e))
 
+  -- the parts inside specifiers: in bodies, type names and expressions
   pub spec_words_inside : SpecWords → Option HeldScopes → List Place
   spec_words_inside no_words s = []
   spec_words_inside (more_words w ws) s = spec_word_inside w s ++ spec_words_inside ws (behind s (spec_word_scopes w))
 
+  -- the parts inside one word of specifiers
   pub spec_word_inside : SpecWord → Option HeldScopes → List Place
   spec_word_inside (storage word) s = []
   spec_word_inside (thread keyword) s = []
@@ -152,42 +161,51 @@ abbrev mutual
   spec_word_inside (align attr) s = []
   spec_word_inside (auto_word token) s = []
 
+  -- the parts of the body of a struct or union, if any
   pub some_body_inside : SomeBody → Option HeldScopes → List Place
   some_body_inside no_body s = []
   some_body_inside (some_body opening items closing) s = struct_items_inside items s
 
+  -- the parts of the members of a struct or union
   pub struct_items_inside : StructItems → Option HeldScopes → List Place
   struct_items_inside no_struct_items s = []
   struct_items_inside (more_struct_items item items) s =
       struct_item_inside item s ++ struct_items_inside items (behind s (struct_item_scopes item))
 
+  -- the parts of a member's declaration
   pub struct_item_inside : StructItem → Option HeldScopes → List Place
   struct_item_inside (member exts ws ds semi) s =
       of_specs ws (spec_words_inside ws) s ++ mem_declrs_inside ds (behind s (spec_words_scopes ws))
   struct_item_inside (member_semi semi) s = []
   struct_item_inside (member_assert it) s = []
 
+  -- the parts of the declarators of a member's declaration
   pub mem_declrs_inside : MemDeclrs → Option HeldScopes → List Place
   mem_declrs_inside no_mem_declrs s = []
   mem_declrs_inside (more_mem_declrs attrs d ds) s =
       mem_declr_inside d s ++ mem_declrs_inside ds (behind s (mem_declr_scopes d))
 
+  -- the parts of a member's declarator and width
   pub mem_declr_inside : MemDeclr → Option HeldScopes → List Place
   mem_declr_inside (named d width attrs) s =
       declr_inside None d s ++ some_value_inside width (behind s (declr_scopes None d))
   mem_declr_inside (unnamed colon e attrs) s = of_expr e (expr_inside e) s
 
+  -- a width or a value, with the parts inside it
   pub some_value_inside : SomeValue → Option HeldScopes → List Place
   some_value_inside no_value s = []
   some_value_inside (some_value token e) s = of_expr e (expr_inside e) s
 
+  -- the parts of an enumeration type
   pub enum_type_inside : EnumType → Option HeldScopes → List Place
   enum_type_inside (enum_of keyword attrs tag body) s = some_enum_body_inside body s
 
+  -- the parts of the body of an enumeration, if any
   pub some_enum_body_inside : SomeEnumBody → Option HeldScopes → List Place
   some_enum_body_inside no_enum_body s = []
   some_enum_body_inside (some_enum_body opening es last closing) s = enumerators_inside es s
 
+  -- the enumerators, each before the parts of its value
   pub enumerators_inside : Enumerators → Option HeldScopes → List Place
   enumerators_inside no_enumerators s = []
   enumerators_inside (more_enumerators name attrs value es) s =
@@ -195,6 +213,7 @@ abbrev mutual
       ++ enumerators_inside es
       (behind (behind (behind_name name.name s) (some_value_scopes value)) (declare name.name Constant))
 
+  -- the name of a declarator, where a kind is wanted, and the parts of its sizes and parameters
   pub declr_inside : Option Kind → Declr → Option HeldScopes → List Place
   declr_inside kind (pointer star words d) s = declr_inside kind d s
   declr_inside kind (declr_name token name) s = of_name kind token name s
@@ -212,51 +231,62 @@ abbrev mutual
   declr_inside kind (identifiers d opening names closing) s = declr_inside kind d s
   declr_inside kind (base_name token) s = []
 
+  -- the parts of a declarator that may be absent
   pub some_declr_inside : Option Kind → SomeDeclr → Option HeldScopes → List Place
   some_declr_inside kind no_declr s = []
   some_declr_inside kind (some_declr d) s = declr_inside kind d s
 
+  -- the parts of the size of an array, if any
   pub some_size_inside : SomeSize → Option HeldScopes → List Place
   some_size_inside no_size s = []
   some_size_inside (some_size size) s = array_size_inside size s
 
+  -- the parts of the size of an array
   pub array_size_inside : ArraySize → Option HeldScopes → List Place
   array_size_inside (size_value e) s = of_expr e (expr_inside e) s
   array_size_inside (size_star star) s = []
 
+  -- the parts of the parameters of a function declarator
   pub params_inside : Params → Option HeldScopes → List Place
   params_inside no_params s = []
   params_inside (more_params ws d attrs ps) s =
       of_specs ws (spec_words_inside ws) s ++ some_declr_inside (Some Value) d (behind_words ws d s)
       ++ params_inside ps (released Value (behind (behind_words ws d s) (some_declr_scopes (Some Value) d)))
 
+  -- the parts of an initialiser
   pub init_inside : Init → Option HeldScopes → List Place
   init_inside (init_value e) s = of_expr e (expr_inside e) s
   init_inside (init_braced list) s = init_list_inside list s
 
+  -- the parts of a braced list
   pub init_list_inside : InitList → Option HeldScopes → List Place
   init_list_inside (init_list opening items last closing) s = init_items_inside items s
 
+  -- the parts of the items of a list
   pub init_items_inside : InitItems → Option HeldScopes → List Place
   init_items_inside no_init_items s = []
   init_items_inside (more_init_items ds equal init items) s =
       desigs_inside ds s ++ init_inside init (behind s (desigs_scopes ds))
       ++ init_items_inside items (behind (behind s (desigs_scopes ds)) (init_scopes init))
 
+  -- the parts of designators, or of the steps of an offset
   pub desigs_inside : Desigs → Option HeldScopes → List Place
   desigs_inside no_desigs s = []
   desigs_inside (more_desigs d ds) s = desig_inside d s ++ desigs_inside ds (behind s (desig_scopes d))
 
+  -- the index or the bounds of a designator, with the parts inside them
   pub desig_inside : Desig → Option HeldScopes → List Place
   desig_inside (member_desig token name) s = []
   desig_inside (index_desig opening e closing) s = of_expr e (expr_inside e) s
   desig_inside (range_desig opening e dots e2 closing) s = of_expr e (expr_inside e) s ++ of_expr e2 (expr_inside e2) (behind s (expr_scopes e))
   desig_inside (old_desig name colon) s = []
 
+  -- the parts of an initialiser that may be left out
   pub some_init_inside : SomeInit → Option HeldScopes → List Place
   some_init_inside no_init s = []
   some_init_inside (some_init equal init) s = init_inside init s
 
+  -- the parts of the declarators of a declaration, whose names are of this kind
   pub init_declrs_inside : Kind → InitDeclrs → Option HeldScopes → List Place
   init_declrs_inside kind no_init_declrs s = []
   init_declrs_inside kind (more_init_declrs attrs d asm_label attrs2 init ds) s =
@@ -265,32 +295,38 @@ abbrev mutual
       ++ init_declrs_inside kind ds
       (behind (released kind (behind s (declr_scopes (Some kind) d))) (some_init_scopes init))
 
+  -- the parts of declarators behind `__auto_type`
   pub auto_declrs_inside : InitDeclrs → Option HeldScopes → List Place
   auto_declrs_inside no_init_declrs s = []
   auto_declrs_inside (more_init_declrs attrs d asm_label attrs2 init ds) s =
       declr_inside (Some Value) d s ++ some_init_inside init (behind s (auto_name_scopes d))
       ++ auto_declrs_inside ds (released Value (behind (behind s (auto_name_scopes d)) (some_init_scopes init)))
 
+  -- the parts of a declaration
   pub declaration_inside : Declaration → Option HeldScopes → List Place
   declaration_inside (declaration exts ws ds semi) s =
       of_specs ws (spec_words_inside ws) s
       ++ (if has_auto ws then auto_declrs_inside ds (behind s (spec_words_scopes ws))
       else init_declrs_inside (declared_kind ws) ds (behind s (spec_words_scopes ws)))
 
+  -- the parts of a declaration; an assertion has none
   pub decl_inside : Decl → Option HeldScopes → List Place
   decl_inside (decl_declaration d) s = declaration_inside d s
   decl_inside (decl_assert it) s = []
 
+  -- the parts of the items of a block
   pub block_items_inside : BlockItems → Option HeldScopes → List Place
   block_items_inside no_block_items s = []
   block_items_inside (more_block_items item items) s =
       block_item_inside item s ++ block_items_inside items (behind s (block_item_scopes item))
 
+  -- the parts of an item of a block
   pub block_item_inside : BlockItem → Option HeldScopes → List Place
   block_item_inside (block_decl d) s = decl_inside d s
   block_item_inside (block_stmt t) s = stmt_inside t s
   block_item_inside (block_labels keyword names semi) s = []
 
+  -- the parts of a statement
   pub stmt_inside : Stmt → Option HeldScopes → List Place
   stmt_inside (block opening items closing) s = block_items_inside items (entered s)
   stmt_inside (expr_stmt e semi) s = some_expr_inside e s
@@ -323,10 +359,12 @@ abbrev mutual
       ++ stmt_inside t (behind (behind s (expr_scopes e)) (expr_scopes e2))
   stmt_inside (goto_value keyword star e semi) s = of_expr e (expr_inside e) s
 
+  -- the parts of the statement behind `else`, if any
   pub some_else_inside : SomeElse → Option HeldScopes → List Place
   some_else_inside no_else s = []
   some_else_inside (some_else keyword t) s = stmt_inside t (entered s)
 
+  -- the parts of the first clause of a `for`
   pub for_start_inside : ForStart → Option HeldScopes → List Place
   for_start_inside (start_declaration d) s = declaration_inside d s
   for_start_inside (start_value e semi) s = some_expr_inside e s
@@ -335,11 +373,13 @@ abbrev mutual
 abbrev pub in_identifiers : Declr → Option HeldScopes → Option HeldScopes
 in_identifiers d s = behind s (λ t. behind (declr_scopes (Some Value) d t) (λ u. Some (enter u)))
 
+-- in the block of a function with a list of identifiers, with the scope of the declarations behind that
 abbrev pub in_old_function : Declr → List Declaration → Option HeldScopes → Option HeldScopes
 in_old_function d ds s =
     behind s (λ t. behind (declr_scopes (Some Value) d t) (λ u. behind (declarations_scopes ds (enter u))
     (λ w. Some (reopen (innermost w) (release Value (leave w))))))
 
+-- the parts of the declarations behind a list of identifiers
 abbrev pub declarations_inside : List Declaration → Option HeldScopes → List Place
 declarations_inside [] s = []
 declarations_inside (d ∷ ds) s = declaration_inside d s ++ declarations_inside ds (behind s (declaration_scopes d))

@@ -8,7 +8,8 @@ use Rattle.renaming_laws.specs.Laws.{RenamedIsAlike}
 use Rattle.renaming_laws.proofs.Pulling.{accepted_pulled, stays_pulled, exceeded_goes}
 use Rattle.renaming_laws.proofs.Turning.{renamed_turns}
 
-pulled : (ren : Renaming) (sys other : System) (orders : List Order) → IsRenamed ren sys other → IsAccepted other orders → IsAccepted sys orders
+pulled : (ren : Renaming) (sys other : System) (orders : List Order) → IsRenamed ren sys other → IsAccepted other orders
+    → IsAccepted sys orders
 pulled ren sys other orders is h lattice order there = accepted_pulled ren sys other is lattice order (h lattice order there)
 
 module _ (ren : Renaming) (sys other : System) (is : IsRenamed ren sys other) where

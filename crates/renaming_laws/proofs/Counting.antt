@@ -17,7 +17,8 @@ put_off f a b n = if nat_eq (f n) b then f a else f n
 false_not : false ≡ true → ⊥
 false_not h = subst (λ b. elim b as (λ x. Type 0) [ true ↦ ⊥ | false ↦ Unit {0} ]) h tt
 
-ways : (x y z : ℕ) (c : Bool) → nat_eq x y ≡ c → ((x ≡ y) × ((if nat_eq x y then z else x) ≡ z)) ⊎ ((x ≡ y → ⊥) × ((if nat_eq x y then z else x) ≡ x))
+ways : (x y z : ℕ) (c : Bool) → nat_eq x y ≡ c
+    → ((x ≡ y) × ((if nat_eq x y then z else x) ≡ z)) ⊎ ((x ≡ y → ⊥) × ((if nat_eq x y then z else x) ≡ x))
 ways x y z true is = inl (eqb-true x y is, ap (λ c. if c then z else x) is)
 ways x y z false is = inr ((λ same. false_not (sym is ∙ eq-eqb x y same)), ap (λ c. if c then z else x) is)
 
@@ -31,11 +32,13 @@ module _ (f : ℕ → ℕ) (a b : ℕ) (h : IsInto f (suc a) (suc b)) where
   later : (n : ℕ) → n < a → f n ≡ f a → ⊥
   later n low same = let is : n ≡ a = h.apart n a (omega arith) (omega arith) same in omega arith
 
-  inside_by : (n : ℕ) → n < a → ((f n ≡ b) × (put_off f a b n ≡ f a)) ⊎ ((f n ≡ b → ⊥) × (put_off f a b n ≡ f n)) → put_off f a b n < b
+  inside_by : (n : ℕ) → n < a → ((f n ≡ b) × (put_off f a b n ≡ f a)) ⊎ ((f n ≡ b → ⊥) × (put_off f a b n ≡ f n))
+      → put_off f a b n < b
   inside_by n low (inl (last, is)) = subst (λ x. x < b) (sym is) (below_last (f a) b (h.inside a (omega arith)) (λ same. later n low (last ∙ sym same)))
   inside_by n low (inr (other, is)) = subst (λ x. x < b) (sym is) (below_last (f n) b (h.inside n (omega arith)) other)
 
-  apart_by : (i j : ℕ) → i < a → j < a → put_off f a b i ≡ put_off f a b j → ((f i ≡ b) × (put_off f a b i ≡ f a)) ⊎ ((f i ≡ b → ⊥) × (put_off f a b i ≡ f i)) →
+  apart_by : (i j : ℕ) → i < a → j < a → put_off f a b i ≡ put_off f a b j
+      → ((f i ≡ b) × (put_off f a b i ≡ f a)) ⊎ ((f i ≡ b → ⊥) × (put_off f a b i ≡ f i)) →
       ((f j ≡ b) × (put_off f a b j ≡ f a)) ⊎ ((f j ≡ b → ⊥) × (put_off f a b j ≡ f j)) → i ≡ j
   apart_by i j low high same (inl (p, q)) (inl (r, s)) = h.apart i j (omega arith) (omega arith) (p ∙ sym r)
   apart_by i j low high same (inl (p, q)) (inr (r, s)) = absurd (later j high (sym s ∙ (sym same ∙ q)))
@@ -59,7 +62,8 @@ stands_at [] n low = absurd (omega arith)
 stands_at (x ∷ xs) zero low = (x, refl)
 stands_at (x ∷ xs) (suc n) low = stands_at xs n (omega arith)
 
-found : {A : Type 0} (same : A → A → Type 0) (x : A) (ys : List A) (m : ℕ) (o : Option A) → slice_get ys m ≡ o → Agree same (Some x) o → m < length ys
+found : {A : Type 0} (same : A → A → Type 0) (x : A) (ys : List A) (m : ℕ) (o : Option A) → slice_get ys m ≡ o
+    → Agree same (Some x) o → m < length ys
 found same x ys m None is h = absurd h
 found same x ys m (Some y) is h = slice_get_within ys m y is
 

@@ -1,4 +1,5 @@
--- What meets a system meets one that it is under other numbers, where each variable and each copy is seen under its new number.
+-- What meets a system meets one that it is under other numbers, where each variable and each copy is seen under its new
+-- number.
 use Rattle.std.proofs.Common.{◌≡◌, ℕ, ◌≤◌, true, List, [], ◌∷◌, length, map, slice_get, Option, None, Some, refl, subst, sym, ap, ◌∙◌}
 use Rattle.std.specs.Int.{bit_at}
 use Rattle.std.proofs.lemmas.List.{length-map}
@@ -19,22 +20,26 @@ pub record IsFound {A : Type 0} (same : A → A → Type 0) (x : A) (found : Opt
   pub is : found ≡ Some it
   pub alike : same x it
 
-found_in : {A : Type 0} (same : A → A → Type 0) (x : A) (found : Option A) → Agree same (Some x) found → IsFound same x found
+found_in : {A : Type 0} (same : A → A → Type 0) (x : A) (found : Option A) → Agree same (Some x) found
+    → IsFound same x found
 found_in same x None h = absurd h
 found_in same x (Some y) h = record { it = y; is = refl; alike = h }
 
-carried : (ren : Renaming) (lattice : ℕ) (link : Link) (old new : ℕ) → new ≡ old → IsInLattice lattice link old → IsInLattice lattice (renamed_link ren link) new
+carried : (ren : Renaming) (lattice : ℕ) (link : Link) (old new : ℕ) → new ≡ old → IsInLattice lattice link old
+    → IsInLattice lattice (renamed_link ren link) new
 carried ren lattice (Le u v) old new is h = ap (λ m. bit_at m lattice) is ∙ h
 carried ren lattice (Const named e v) old new is h = h
 carried ren lattice (Bound v named e) old new is h = h
 carried ren lattice (Enter s u v) old new is h = ap (λ m. bit_at m lattice) is ∙ h
 carried ren lattice (Leave s u v) old new is h = ap (λ m. bit_at m lattice) is ∙ h
 
-seen_renamed : (ren : Renaming) (owner : Owner) (sites : List ℕ) → seen_from (renamed_owner ren owner) (map ren.sites.to sites) ≡ map ren.sites.to (seen_from owner sites)
+seen_renamed : (ren : Renaming) (owner : Owner) (sites : List ℕ)
+    → seen_from (renamed_owner ren owner) (map ren.sites.to sites) ≡ map ren.sites.to (seen_from owner sites)
 seen_renamed ren Nobody sites = refl
 seen_renamed ren (Function f) sites = refl
 
-either_renamed : (ren : Renaming) (a b : Owner) → either (renamed_owner ren a) (renamed_owner ren b) ≡ renamed_owner ren (either a b)
+either_renamed : (ren : Renaming) (a b : Owner)
+    → either (renamed_owner ren a) (renamed_owner ren b) ≡ renamed_owner ren (either a b)
 either_renamed ren Nobody b = refl
 either_renamed ren (Function f) b = refl
 
@@ -42,7 +47,8 @@ module _ (ren : Renaming) (sys other : System) (is : IsRenamed ren sys other) wh
   abbrev renamed_sites : List ℕ → List ℕ
   renamed_sites sites = map ren.sites.to sites
 
-  pub stands : (lattice n : ℕ) (link : Link) → Stands sys lattice n link → Stands other lattice (ren.constraints.to n) (renamed_link ren link)
+  pub stands : (lattice n : ℕ) (link : Link) → Stands sys lattice n link
+      → Stands other lattice (ren.constraints.to n) (renamed_link ren link)
   stands lattice n link st =
       let found = found_in (IsSameConstraint ren) st.constraint (slice_get other.constraints (ren.constraints.to n))
       (subst (λ o. Agree (IsSameConstraint ren) o (slice_get other.constraints (ren.constraints.to n))) st.there (is.constraints n)) in
@@ -53,11 +59,13 @@ module _ (ren : Renaming) (sys other : System) (is : IsRenamed ren sys other) wh
         carried = carried ren lattice link st.constraint.lattices found.it.lattices found.alike.lattices_are st.carried;
       }
 
-  site_there : (s : ℕ) (site : Site) → slice_get sys.sites s ≡ Some site → IsFound (IsSameSite ren) site (slice_get other.sites (ren.sites.to s))
+  site_there : (s : ℕ) (site : Site) → slice_get sys.sites s ≡ Some site
+      → IsFound (IsSameSite ren) site (slice_get other.sites (ren.sites.to s))
   site_there s site there = found_in (IsSameSite ren) site (slice_get other.sites (ren.sites.to s))
       (subst (λ o. Agree (IsSameSite ren) o (slice_get other.sites (ren.sites.to s))) there (is.sites s))
 
-  calls : (s : ℕ) (outer inner : Owner) → Calls sys s outer inner → Calls other (ren.sites.to s) (renamed_owner ren outer) (renamed_owner ren inner)
+  calls : (s : ℕ) (outer inner : Owner) → Calls sys s outer inner
+      → Calls other (ren.sites.to s) (renamed_owner ren outer) (renamed_owner ren inner)
   calls s outer inner c =
       let found = site_there s c.it c.there in
       record {
@@ -67,17 +75,20 @@ module _ (ren : Renaming) (sys other : System) (is : IsRenamed ren sys other) wh
         inner_is = ap (λ o. renamed_owner ren o) c.inner_is ∙ ap (λ f. Function f) (sym found.alike.target_is);
       }
 
-  call_string : (owner : Owner) (sites : List ℕ) → IsCallString sys owner sites → IsCallString other (renamed_owner ren owner) (renamed_sites sites)
+  call_string : (owner : Owner) (sites : List ℕ) → IsCallString sys owner sites
+      → IsCallString other (renamed_owner ren owner) (renamed_sites sites)
   call_string owner [] h = tt
   call_string owner (site ∷ []) h = (renamed_owner ren h.0, calls site h.0 owner h.1)
   call_string owner (site ∷ before ∷ sites) h = (renamed_owner ren h.0, calls site h.0 owner h.1, call_string h.0 (before ∷ sites) h.2)
 
-  copy : (depth : ℕ) (owner : Owner) (sites : List ℕ) → IsCopy sys depth owner sites → IsCopy other depth (renamed_owner ren owner) (renamed_sites sites)
+  copy : (depth : ℕ) (owner : Owner) (sites : List ℕ) → IsCopy sys depth owner sites
+      → IsCopy other depth (renamed_owner ren owner) (renamed_sites sites)
   copy depth Nobody sites h = ap (λ s. renamed_sites s) h
   copy depth (Function f) sites h = (call_string (Function f) sites h.0, subst (λ n. n ≤ depth) (sym (length-map sites ren.sites.to)) h.1)
 
   -- the copies of a variable
-  copy_of : (depth v : ℕ) (sites : List ℕ) → IsCopy sys depth (owner_of sys v) sites → IsCopy other depth (owner_of other (ren.vars.to v)) (renamed_sites sites)
+  copy_of : (depth v : ℕ) (sites : List ℕ) → IsCopy sys depth (owner_of sys v) sites
+      → IsCopy other depth (owner_of other (ren.vars.to v)) (renamed_sites sites)
   copy_of depth v sites h = subst (λ o. IsCopy other depth o (renamed_sites sites)) (sym (is.owners v)) (copy depth (owner_of sys v) sites h)
 
   copy_either : (depth u v : ℕ) (sites : List ℕ) → IsCopy sys depth (either (owner_of sys u) (owner_of sys v)) sites →
@@ -91,7 +102,8 @@ module _ (ren : Renaming) (sys other : System) (is : IsRenamed ren sys other) wh
   abbrev pub pulled : Assignment → Assignment
   pulled new v sites = new (ren.vars.to v) (renamed_sites sites)
 
-  pub at_pulled : (new : Assignment) (v : ℕ) (sites : List ℕ) → at other new (ren.vars.to v) (renamed_sites sites) ≡ at sys (pulled new) v sites
+  pub at_pulled : (new : Assignment) (v : ℕ) (sites : List ℕ)
+      → at other new (ren.vars.to v) (renamed_sites sites) ≡ at sys (pulled new) v sites
   at_pulled new v sites = ap (λ o. new (ren.vars.to v) (seen_from o (renamed_sites sites))) (is.owners v) ∙ ap (λ s. new (ren.vars.to v) s) (seen_renamed ren (owner_of sys v) sites)
 
   module _ (lattice : ℕ) (order : Order) where
@@ -102,13 +114,16 @@ module _ (ren : Renaming) (sys other : System) (is : IsRenamed ren sys other) wh
     both_pulled new u v from to h = subst (λ x. leq order x (at sys (pulled new) v to) ≡ true) (at_pulled new u from)
         (subst (λ y. leq order (at other new (ren.vars.to u) (renamed_sites from)) y ≡ true) (at_pulled new v to) h)
 
-    fits : (depth s : ℕ) (sites : List ℕ) → length (s ∷ sites) ≤ depth → length (ren.sites.to s ∷ renamed_sites sites) ≤ depth
+    fits : (depth s : ℕ) (sites : List ℕ) → length (s ∷ sites) ≤ depth
+        → length (ren.sites.to s ∷ renamed_sites sites) ≤ depth
     fits depth s sites h = subst (λ n. n ≤ depth) (sym (length-map (s ∷ sites) ren.sites.to)) h
 
-    owner_copy : (depth : ℕ) (site new : Site) (sites : List ℕ) → IsSameSite ren site new → IsCopy sys depth site.owner sites → IsCopy other depth new.owner (renamed_sites sites)
+    owner_copy : (depth : ℕ) (site new : Site) (sites : List ℕ) → IsSameSite ren site new
+        → IsCopy sys depth site.owner sites → IsCopy other depth new.owner (renamed_sites sites)
     owner_copy depth site new sites same h = subst (λ o. IsCopy other depth o (renamed_sites sites)) (sym same.owner_is) (copy depth site.owner sites h)
 
-    pub rises_pulled : (depth : ℕ) (new : Assignment) → Rises other lattice order depth new → Rises sys lattice order depth (pulled new)
+    pub rises_pulled : (depth : ℕ) (new : Assignment) → Rises other lattice order depth new
+        → Rises sys lattice order depth (pulled new)
     rises_pulled depth new h = record {
       elements = λ v sites. h.elements (ren.vars.to v) (renamed_sites sites);
       le = λ n u v sites st here. both_pulled new u v sites sites
@@ -127,11 +142,13 @@ module _ (ren : Renaming) (sys other : System) (is : IsRenamed ren sys other) wh
           (owner_copy depth site found.it sites found.alike here) (fits depth s sites room));
     }
 
-    pub keeps_pulled : (depth : ℕ) (new : Assignment) (n : ℕ) → Keeps other lattice order depth new (ren.constraints.to n) → Keeps sys lattice order depth (pulled new) n
+    pub keeps_pulled : (depth : ℕ) (new : Assignment) (n : ℕ)
+        → Keeps other lattice order depth new (ren.constraints.to n) → Keeps sys lattice order depth (pulled new) n
     keeps_pulled depth new n h e v sites st here = subst (λ x. leq order x e ≡ true) (at_pulled new v sites)
         (h e (ren.vars.to v) (renamed_sites sites) (stands lattice n (Bound v lattice e) st) (copy_of depth v sites here))
 
-    pub meets_pulled : (depth : ℕ) (new : Assignment) → Meets other lattice order depth new → Meets sys lattice order depth (pulled new)
+    pub meets_pulled : (depth : ℕ) (new : Assignment) → Meets other lattice order depth new
+        → Meets sys lattice order depth (pulled new)
     meets_pulled depth new h = record { rises = rises_pulled depth new h.rises; bound = λ n. keeps_pulled depth new n (h.bound (ren.constraints.to n)) }
 
     pub accepted_pulled : IsAcceptedIn other lattice order → IsAcceptedIn sys lattice order

@@ -5,7 +5,8 @@ use Rattle.renaming_laws.specs.Renamings.{renamed_owner, IsSameConstraint, IsSam
 use Rattle.renaming_laws.specs.Example.{sys, other, exchanged, renaming}
 use Rattle.renaming_laws.specs.Laws.{SomeAreRenamed}
 
-constraints : (n : ℕ) → Agree (IsSameConstraint renaming) (slice_get sys.constraints n) (slice_get other.constraints (exchanged n))
+constraints : (n : ℕ)
+    → Agree (IsSameConstraint renaming) (slice_get sys.constraints n) (slice_get other.constraints (exchanged n))
 constraints zero = record { link_is = refl; lattices_are = refl }
 constraints (suc zero) = record { link_is = refl; lattices_are = refl }
 constraints (suc (suc zero)) = record { link_is = refl; lattices_are = refl }

@@ -10,7 +10,8 @@ use Rattle.flow_graph.specs.System.{owner_of}
 use Rattle.renaming_laws.specs.Renamings.{Renaming, turned, renamed_owner, renamed_link, IsSameConstraint, IsSameSite, Agree}
 use Rattle.renaming_laws.specs.Laws.{RenamedTurns}
 
-agree_turns : {A : Type 0} (same other : A → A → Type 0) (o p : Option A) → ((x y : A) → same x y → other y x) → Agree same o p → Agree other p o
+agree_turns : {A : Type 0} (same other : A → A → Type 0) (o p : Option A) → ((x y : A) → same x y → other y x)
+    → Agree same o p → Agree other p o
 agree_turns same other None None turn h = tt
 agree_turns same other None (Some y) turn h = absurd h
 agree_turns same other (Some x) None turn h = absurd h
@@ -29,7 +30,8 @@ link_back ren (Enter s u v) = ap (λ x. Enter x (ren.vars.from (ren.vars.to u)) 
 link_back ren (Leave s u v) = ap (λ x. Leave x (ren.vars.from (ren.vars.to u)) (ren.vars.from (ren.vars.to v))) (ren.sites.from_to s)
     ∙ (ap (λ x. Leave s x (ren.vars.from (ren.vars.to v))) (ren.vars.from_to u) ∙ ap (λ x. Leave s u x) (ren.vars.from_to v))
 
-constraint_turns : (ren : Renaming) (old new : Constraint) → IsSameConstraint ren old new → IsSameConstraint (turned ren) new old
+constraint_turns : (ren : Renaming) (old new : Constraint) → IsSameConstraint ren old new
+    → IsSameConstraint (turned ren) new old
 constraint_turns ren old new h = record {
   link_is = sym (link_back ren old.link) ∙ ap (λ l. renamed_link (turned ren) l) (sym h.link_is);
   lattices_are = sym h.lattices_are;

@@ -8,7 +8,8 @@ use Rattle.flow_graph.specs.declared.constraint.Constraint.{Constraint}
 use Rattle.flow_graph.specs.declared.constraint.Site.{Site}
 use Rattle.flow_graph.specs.System.{System, owner_of}
 
--- A numbering: the new number of each old one and the old one of each new one. No two have one new number, and no new number
+-- A numbering: the new number of each old one and the old one of each new one. No two have one new number, and no new
+-- number
 -- is left out.
 pub record Numbering : Type 0 where
   pub to : ℕ → ℕ
@@ -16,19 +17,22 @@ pub record Numbering : Type 0 where
   pub from_to : (n : ℕ) → from (to n) ≡ n
   pub to_from : (n : ℕ) → to (from n) ≡ n
 
+-- new numbers of variables, sites, functions and constraints
 pub record Renaming : Type 0 where
   pub vars : Numbering
   pub sites : Numbering
   pub functions : Numbering
   pub constraints : Numbering
 
--- the same the other way
+-- a numbering the other way
 abbrev pub back : Numbering → Numbering
 back it = record { to = it.from; from = it.to; from_to = it.to_from; to_from = it.from_to }
 
+-- the renaming the other way
 abbrev pub turned : Renaming → Renaming
 turned ren = record { vars = back ren.vars; sites = back ren.sites; functions = back ren.functions; constraints = back ren.constraints }
 
+-- an owner under new numbers
 abbrev pub renamed_owner : Renaming → Owner → Owner
 renamed_owner ren Nobody = Nobody
 renamed_owner ren (Function f) = Function (ren.functions.to f)
@@ -60,6 +64,7 @@ Agree same (Some x) (Some y) = same x y
 
 -- One system is the other under its numbers: each constraint, each site and the owner of each variable, and no others.
 pub record IsRenamed (ren : Renaming) (sys other : System) : Type 0 where
-  pub constraints : (n : ℕ) → Agree (IsSameConstraint ren) (slice_get sys.constraints n) (slice_get other.constraints (ren.constraints.to n))
+  pub constraints : (n : ℕ)
+      → Agree (IsSameConstraint ren) (slice_get sys.constraints n) (slice_get other.constraints (ren.constraints.to n))
   pub sites : (s : ℕ) → Agree (IsSameSite ren) (slice_get sys.sites s) (slice_get other.sites (ren.sites.to s))
   pub owners : (v : ℕ) → owner_of other (ren.vars.to v) ≡ renamed_owner ren (owner_of sys v)

@@ -7,14 +7,16 @@ use Rattle.annotate.specs.Texts.{line}
 use Rattle.report_laws.proofs.Bytes.{has, all_lack}
 
 -- a list has a first part
-pub parts_of : (test : ℕ → Bool) (xs : List ℕ) → (part : List ℕ) × (parts : List (List ℕ)) × (slice_split test xs ≡ part ∷ parts)
+pub parts_of : (test : ℕ → Bool) (xs : List ℕ)
+    → (part : List ℕ) × (parts : List (List ℕ)) × (slice_split test xs ≡ part ∷ parts)
 parts_of test [] = ([], [], refl)
 parts_of test (x ∷ xs) =
     let deeper = parts_of test xs in
     elim (test x) as (λ b. (part : List ℕ) × (parts : List (List ℕ)) × (cond b ([] ∷ slice_split test xs) (onto_first x (slice_split test xs)) ≡ part ∷ parts))
     [ true ↦ ([], slice_split test xs, refl) | false ↦ (x ∷ deeper.0, deeper.1, ap (onto_first x) deeper.2) ]
 
-two_parts : (x part : List ℕ) (parts : List (List ℕ)) → lines_in (x ∷ part ∷ parts) ≡ line_kind x ∷ lines_in (part ∷ parts)
+two_parts : (x part : List ℕ) (parts : List (List ℕ))
+    → lines_in (x ∷ part ∷ parts) ≡ line_kind x ∷ lines_in (part ∷ parts)
 two_parts [] part parts = refl
 two_parts (b ∷ bs) part parts = refl
 

@@ -32,7 +32,8 @@ none_of_two : (a b : Option BadStep) → or_else a b ≡ None → (a ≡ None) �
 none_of_two (Some bad) b is = absurd cc
 none_of_two None b is = (refl, is)
 
-no_rule : (why : Option Why) (line : ℕ) (rest : Option BadStep) → fault_or why line rest ≡ None → (why ≡ None) × (rest ≡ None)
+no_rule : (why : Option Why) (line : ℕ) (rest : Option BadStep) → fault_or why line rest ≡ None
+    → (why ≡ None) × (rest ≡ None)
 no_rule (Some why) line rest is = absurd cc
 no_rule None line rest is = (refl, is)
 
@@ -46,21 +47,25 @@ module _ (sys : System) where
   edge_known None known = absurd cc
   edge_known (Some c) known = (c, refl)
 
-  sub_there : (earlier : List (List PathStep)) (k : ℕ) (steps : Option (List PathStep)) → slice_get earlier k ≡ steps → is_missing (span_of sys steps) ≡ false → k < length earlier
+  sub_there : (earlier : List (List PathStep)) (k : ℕ) (steps : Option (List PathStep)) → slice_get earlier k ≡ steps
+      → is_missing (span_of sys steps) ≡ false → k < length earlier
   sub_there earlier k None is there = absurd cc
   sub_there earlier k (Some steps) is there = within_of earlier k steps is
 
-  sub_known : (earlier : List (List PathStep)) (number : ℕ) (b : Bool) → (number == 0) ≡ b → is_missing (cond b NoSub (span_of sys (slice_get earlier (number - 1)))) ≡ false → number ≤ length earlier
+  sub_known : (earlier : List (List PathStep)) (number : ℕ) (b : Bool) → (number == 0) ≡ b
+      → is_missing (cond b NoSub (span_of sys (slice_get earlier (number - 1)))) ≡ false → number ≤ length earlier
   sub_known earlier number true is there = absurd cc
   sub_known earlier number false is there =
       let below = sub_there earlier (number - 1) (slice_get earlier (number - 1)) refl there in omega (arith, below)
 
-  step_known : (earlier : List (List PathStep)) → length earlier < 2 ^ 32 - 1 → (s : PathStep) → is_unknown (look sys earlier s) ≡ false → is_missing (look sys earlier s) ≡ false → IsKnown sys s
+  step_known : (earlier : List (List PathStep)) → length earlier < 2 ^ 32 - 1 → (s : PathStep)
+      → is_unknown (look sys earlier s) ≡ false → is_missing (look sys earlier s) ≡ false → IsKnown sys s
   step_known earlier few (Take edge line) known there = edge_known (slice_get sys.constraints edge) known
   step_known earlier few (Sub number line) known there =
       let below = sub_known earlier number (number == 0) refl there in omega (arith, below, few)
 
-  path_known : (order : Order) (path : Path) (lattice elem : ℕ) (earlier : List (List PathStep)) → length earlier < 2 ^ 32 - 1 → (before : List Seen) (steps : List PathStep) →
+  path_known : (order : Order) (path : Path) (lattice elem : ℕ) (earlier : List (List PathStep))
+      → length earlier < 2 ^ 32 - 1 → (before : List Seen) (steps : List PathStep) →
       first_failing sys order path lattice elem (look sys earlier) before steps ≡ None → AllKnown sys steps
   path_known order path lattice elem earlier few before [] none = tt
   path_known order path lattice elem earlier few before (s ∷ steps) none =
@@ -70,14 +75,17 @@ module _ (sys : System) where
       let rules = clear sys order here parts.0 in
       (step_known earlier few s rules.known rules.there, path_known order path lattice elem earlier few (see s ∷ before) steps parts.1)
 
-  subs_known : (order : Order) (lattice elem : ℕ) (earlier subs : List (List PathStep)) → length earlier + length subs < 2 ^ 32 - 1 → subs_fault sys order lattice elem earlier subs ≡ None → SubsKnown sys subs
+  subs_known : (order : Order) (lattice elem : ℕ) (earlier subs : List (List PathStep))
+      → length earlier + length subs < 2 ^ 32 - 1 → subs_fault sys order lattice elem earlier subs ≡ None
+      → SubsKnown sys subs
   subs_known order lattice elem earlier [] few none = tt
   subs_known order lattice elem earlier (s ∷ subs) few none =
       let parts = none_of_two (first_failing sys order (Inside (home_of sys s)) lattice elem (look sys earlier) [] s) (subs_fault sys order lattice elem (earlier ++ s ∷ []) subs) none in
       let longer : length (earlier ++ s ∷ []) + length subs < 2 ^ 32 - 1 = let more = length-append earlier (s ∷ []) in omega (arith, more, few) in
       (path_known order (Inside (home_of sys s)) lattice elem earlier (omega (arith, few)) [] s parts.0, subs_known order lattice elem (earlier ++ s ∷ []) subs longer parts.1)
 
-  pub proof_known : (orders : List Order) (subs : List (List PathStep)) (main : List PathStep) (end : ℕ) → length subs < 2 ^ 32 - 1 → first_fault sys orders subs main end ≡ None →
+  pub proof_known : (orders : List Order) (subs : List (List PathStep)) (main : List PathStep) (end : ℕ)
+      → length subs < 2 ^ 32 - 1 → first_fault sys orders subs main end ≡ None →
       SubsKnown sys subs × AllKnown sys main
   proof_known orders subs [] end few none = absurd cc
   proof_known orders subs (first ∷ main) end few none =

@@ -40,7 +40,8 @@ two_words : (n : ℕ) (word : List ℕ) (pieces : List (List ℕ)) (more : (part
     first_word (word ∷ pieces) ≡ first_word (word ∷ more.0 ∷ more.1)
 two_words n word pieces more = ap (λ (ps : List (List ℕ)). first_word (word ∷ ps)) more.2
 
-numbered : (n : ℕ) (x : List ℕ) → n < 2 ^ 32 - 1 → first_word (slice_split (λ b. b == 32) (decimal n ++ 32 ∷ x)) ≡ Take n
+numbered : (n : ℕ) (x : List ℕ) → n < 2 ^ 32 - 1
+    → first_word (slice_split (λ b. b == 32) (decimal n ++ 32 ∷ x)) ≡ Take n
 numbered n x small =
     let test : ℕ → Bool = λ b. b == 32 in
     let more = parts_of test x in

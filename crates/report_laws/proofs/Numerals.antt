@@ -18,7 +18,8 @@ pub record Writes (n : ℕ) (ds : List ℕ) : Type 0 where
 digit_is : (k : ℕ) → k < 10 → is_ascii_digit (48 + k) ≡ true
 digit_is k small = grind arith
 
-append_behind : (v w : ℕ) (ds : List ℕ) (e : ℕ) → number_behind v ds ≡ Some w → is_ascii_digit e ≡ true → number_behind v (ds ++ e ∷ []) ≡ Some (10 * w + (e - 48))
+append_behind : (v w : ℕ) (ds : List ℕ) (e : ℕ) → number_behind v ds ≡ Some w → is_ascii_digit e ≡ true
+    → number_behind v (ds ++ e ∷ []) ≡ Some (10 * w + (e - 48))
 append_behind v w [] e is digit = let same : v ≡ w = cc in rw (digit, same) refl
 append_behind v w (d ∷ ds) e is digit =
     (elim (is_ascii_digit d) as

@@ -22,7 +22,8 @@ then_free xs ys p q = lacks_append 10 xs ys p q
 pub number_free : (n : ℕ) → Free (decimal n)
 number_free n = decimal_lacks 10 n (omega arith)
 
-unit_found : (units : List UnitText) (number : ℕ) (unit : UnitText) → unit_in units number ≡ Some unit → (k : ℕ) × (slice_get units k ≡ Some unit)
+unit_found : (units : List UnitText) (number : ℕ) (unit : UnitText) → unit_in units number ≡ Some unit
+    → (k : ℕ) × (slice_get units k ≡ Some unit)
 unit_found [] number unit is = absurd cc
 unit_found (u ∷ units) number unit is =
     (elim (nat_eq u.lexed.unit number) as (λ b. cond b (Some u) (unit_in units number) ≡ Some unit → (k : ℕ) × (slice_get (u ∷ units) k ≡ Some unit))
@@ -37,7 +38,8 @@ marks_free (Result ∷ steps) = then_free (codes ".res") (marks_text steps) refl
 marks_free (Ellipsis ∷ steps) = then_free (codes ".etc") (marks_text steps) refl (marks_free steps)
 
 module _ (scene : Scene) (one : HasNoFeeds scene) where
-  at_free : (k : ℕ) (unit : UnitText) (token : ℕ) (there : Option Token) → slice_get scene.units k ≡ Some unit → Free (place_at unit token there)
+  at_free : (k : ℕ) (unit : UnitText) (token : ℕ) (there : Option Token) → slice_get scene.units k ≡ Some unit
+      → Free (place_at unit token there)
   at_free k unit token None is = refl
   at_free k unit token (Some t) is =
       let spot = token_spot unit.lexed token in
@@ -47,14 +49,16 @@ module _ (scene : Scene) (one : HasNoFeeds scene) where
       (then_free (file ++ codes ":") (decimal spot.line) (then_free file (codes ":") (lacks_of 10 file (one.files k unit token is)) refl) (number_free spot.line)) refl)
       (number_free spot.column)
 
-  found_free : (number token : ℕ) (unit : Option UnitText) → unit_in scene.units number ≡ unit → Free (place_in unit token)
+  found_free : (number token : ℕ) (unit : Option UnitText) → unit_in scene.units number ≡ unit
+      → Free (place_in unit token)
   found_free number token None is = refl
   found_free number token (Some unit) is = let there = unit_found scene.units number unit is in at_free there.0 unit token (slice_get unit.lexed.tokens token) there.1
 
   pub place_free : (unit token : ℕ) → Free (place_text scene unit token)
   place_free unit token = found_free unit token (unit_in scene.units unit) refl
 
-  bytes_free : (number token : ℕ) (unit : Option UnitText) → unit_in scene.units number ≡ unit → Free (bytes_in unit token)
+  bytes_free : (number token : ℕ) (unit : Option UnitText) → unit_in scene.units number ≡ unit
+      → Free (bytes_in unit token)
   bytes_free number token None is = refl
   bytes_free number token (Some unit) is =
       let there = unit_found scene.units number unit is in lacks_of 10 (text_of unit.lexed token) (one.tokens there.0 unit token there.1)
@@ -71,18 +75,21 @@ module _ (scene : Scene) (one : HasNoFeeds scene) where
   var_free : (v : ℕ) → Free (var_text scene v)
   var_free v = position_free (slice_get scene.positions v)
 
-  entry_free : (k : ℕ) (view : LatticeView) (elem : ℕ) (name : Option (List ℕ)) → slice_get scene.lattices k ≡ Some view → name_at view.entries elem ≡ name → Free (unwrap_or name [])
+  entry_free : (k : ℕ) (view : LatticeView) (elem : ℕ) (name : Option (List ℕ)) → slice_get scene.lattices k ≡ Some view
+      → name_at view.entries elem ≡ name → Free (unwrap_or name [])
   entry_free k view elem None there is = refl
   entry_free k view elem (Some name) there is = lacks_of 10 name (one.names k view elem name there is)
 
-  in_free : (lattice elem : ℕ) (view : Option LatticeView) → slice_get scene.lattices lattice ≡ view → Free (name_in view elem)
+  in_free : (lattice elem : ℕ) (view : Option LatticeView) → slice_get scene.lattices lattice ≡ view
+      → Free (name_in view elem)
   in_free lattice elem None is = refl
   in_free lattice elem (Some view) is = entry_free lattice view elem (name_at view.entries elem) is refl
 
   pub elem_free : (lattice elem : ℕ) → Free (elem_text scene lattice elem)
   elem_free lattice elem = in_free lattice elem (slice_get scene.lattices lattice) refl
 
-  flow_free : (word : List ℕ) (from to : ℕ) → Free word → Free (word ++ var_text scene from ++ codes " to " ++ var_text scene to)
+  flow_free : (word : List ℕ) (from to : ℕ) → Free word
+      → Free (word ++ var_text scene from ++ codes " to " ++ var_text scene to)
   flow_free word from to p =
       then_free (word ++ var_text scene from ++ codes " to ") (var_text scene to)
       (then_free (word ++ var_text scene from) (codes " to ") (then_free word (var_text scene from) p (var_free from)) refl) (var_free to)

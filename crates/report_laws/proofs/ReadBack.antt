@@ -10,14 +10,16 @@ use Rattle.report_laws.specs.Laws.{written, written_proof, ErrorsReadBack}
 abbrev NoStep : List Line → Type 0
 NoStep lines = (n : ℕ) → steps_at n lines ≡ []
 
-steps_read : (steps : List Written) (behind : List Line) → NoStep behind → (n : ℕ) → map written (steps_at n (step_lines steps behind)) ≡ steps
+steps_read : (steps : List Written) (behind : List Line) → NoStep behind → (n : ℕ)
+    → map written (steps_at n (step_lines steps behind)) ≡ steps
 steps_read [] behind none n = ap (map written) (none n)
 steps_read (by_constraint m ∷ steps) behind none n = ap (λ (ws : List Written). by_constraint m ∷ ws) (steps_read steps behind none (n + 1))
 steps_read (by_sub_path m ∷ steps) behind none n = ap (λ (ws : List Written). by_sub_path m ∷ ws) (steps_read steps behind none (n + 1))
 
 module _ {A : Type 0} (behind : List Line) (read : ℕ → List Line → A) (want : A) where
   -- what steps do not change is read behind them
-  behind_steps : ((n m : ℕ) (lines : List Line) → read n (Take m ∷ lines) ≡ read (n + 1) lines) → ((n m : ℕ) (lines : List Line) → read n (Through m ∷ lines) ≡ read (n + 1) lines) →
+  behind_steps : ((n m : ℕ) (lines : List Line) → read n (Take m ∷ lines) ≡ read (n + 1) lines)
+      → ((n m : ℕ) (lines : List Line) → read n (Through m ∷ lines) ≡ read (n + 1) lines) →
       ((n : ℕ) → read n behind ≡ want) → (steps : List Written) (n : ℕ) → read n (step_lines steps behind) ≡ want
   behind_steps takes goes is [] n = is n
   behind_steps takes goes is (by_constraint m ∷ steps) n = rw (takes n m (step_lines steps behind)) (behind_steps takes goes is steps (n + 1))
@@ -27,7 +29,8 @@ no_step : (k : ℕ) (subs : List (List Written)) (main : List Line) → NoStep (
 no_step k [] main n = refl
 no_step k (steps ∷ subs) main n = refl
 
-subs_read : (k : ℕ) (subs : List (List Written)) (main : List Line) (n : ℕ) → map (map written) (subs_at n (sub_lines k subs (Path ∷ main))) ≡ subs
+subs_read : (k : ℕ) (subs : List (List Written)) (main : List Line) (n : ℕ)
+    → map (map written) (subs_at n (sub_lines k subs (Path ∷ main))) ≡ subs
 subs_read k [] main n = refl
 subs_read k (steps ∷ subs) main n =
     let rest = sub_lines (k + 1) subs (Path ∷ main) in
@@ -42,7 +45,8 @@ main_read k (steps ∷ subs) main behind none n =
     behind_steps (sub_lines (k + 1) subs (Path ∷ step_lines main behind)) (λ n lines. map written (main_at n lines)) main (λ n m lines. refl) (λ n m lines. refl)
     (main_read (k + 1) subs main behind none) steps (n + 1)
 
-proofs_read : (k : ℕ) (subs : List (List Written)) (main : List Written) (behind : List Line) (want : List WrittenError) → ((n : ℕ) → map written_proof (proofs_at n behind) ≡ want) → (n : ℕ) →
+proofs_read : (k : ℕ) (subs : List (List Written)) (main : List Written) (behind : List Line) (want : List WrittenError)
+    → ((n : ℕ) → map written_proof (proofs_at n behind) ≡ want) → (n : ℕ) →
     map written_proof (proofs_at n (sub_lines k subs (Path ∷ step_lines main behind))) ≡ want
 proofs_read k [] main behind want is n =
     behind_steps behind (λ n lines. map written_proof (proofs_at n lines)) want (λ n m lines. refl) (λ n m lines. refl) is main (n + 1)

@@ -10,7 +10,8 @@ use Rattle.report_laws.specs.Scenes.{TokensHaveNoFeed}
 use Rattle.report_laws.proofs.Bytes.{has, none_of}
 use Rattle.report_laws.proofs.Tokens.{token_free}
 
-pushed : {A : Type 0} (xs : List A) (y x : A) (k : ℕ) → slice_get (xs ++ y ∷ []) k ≡ Some x → (slice_get xs k ≡ Some x) ⊎ (y ≡ x)
+pushed : {A : Type 0} (xs : List A) (y x : A) (k : ℕ) → slice_get (xs ++ y ∷ []) k ≡ Some x
+    → (slice_get xs k ≡ Some x) ⊎ (y ≡ x)
 pushed [] y x zero e = inr cc
 pushed [] y x (suc k) e = absurd cc
 pushed (z ∷ xs) y x zero e = inl e
@@ -19,14 +20,16 @@ pushed (z ∷ xs) y x (suc k) e = pushed xs y x k e
 abbrev TokensFree : List ℕ → List Token → Type 0
 TokensFree bytes tokens = (k : ℕ) (t : Token) → slice_get tokens k ≡ Some t → has 10 (slice_range bytes t.start t.end) ≡ false
 
-token_more : (bytes : List ℕ) (tokens : List Token) (token : Token) → TokensFree bytes tokens → has 10 (slice_range bytes token.start token.end) ≡ false → TokensFree bytes (tokens ++ token ∷ [])
+token_more : (bytes : List ℕ) (tokens : List Token) (token : Token) → TokensFree bytes tokens
+    → has 10 (slice_range bytes token.start token.end) ≡ false → TokensFree bytes (tokens ++ token ∷ [])
 token_more bytes tokens token free here k t there =
     elim (pushed tokens token t k there) [ inl old ↦ free k t old | inr same ↦ subst (λ (t : Token). has 10 (slice_range bytes t.start t.end) ≡ false) same here ]
 
 taken_range : (bytes : List ℕ) (at n : ℕ) → slice_range bytes at (at + n) ≡ take n (drop at bytes)
 taken_range bytes at n = ap (λ k. take k (drop at bytes)) (let same : at + n - at ≡ n = omega arith in same)
 
-reached_free : (unit : ℕ) (wide : Bool) (words : Meanings) (bytes : List ℕ) (front : Front) → Reaches unit wide words bytes front → TokensFree bytes front.tokens
+reached_free : (unit : ℕ) (wide : Bool) (words : Meanings) (bytes : List ℕ) (front : Front)
+    → Reaches unit wide words bytes front → TokensFree bytes front.tokens
 reached_free unit wide words bytes front begins = λ k t there. absurd cc
 reached_free unit wide words bytes front (skips old new reached s) = subst (λ (ts : List Token). TokensFree bytes ts) (sym s.tokens) (reached_free unit wide words bytes old reached)
 reached_free unit wide words bytes front (takes old new reached t) =

@@ -33,7 +33,8 @@ abbrev pub errors_then : List WrittenError → List Line → List Line
 errors_then [] behind = behind
 errors_then (e ∷ errors) behind = Error ∷ sub_lines 1 e.subs (Path ∷ step_lines e.main (errors_then errors behind))
 
-then_append : (one two : List WrittenError) (behind : List Line) → errors_then (one ++ two) behind ≡ errors_then one (errors_then two behind)
+then_append : (one two : List WrittenError) (behind : List Line)
+    → errors_then (one ++ two) behind ≡ errors_then one (errors_then two behind)
 then_append [] two behind = refl
 then_append (e ∷ one) two behind = ap (λ (ls : List Line). Error ∷ sub_lines 1 e.subs (Path ∷ step_lines e.main ls)) (then_append one two behind)
 
@@ -42,7 +43,8 @@ then_nothing [] = refl
 then_nothing (e ∷ errors) = ap (λ (ls : List Line). Error ∷ sub_lines 1 e.subs (Path ∷ step_lines e.main ls)) (then_nothing errors)
 
 module _ (scene : Scene) (sys : System) (one : HasNoFeeds scene) (few : length sys.constraints ≤ most_constraints) where
-  take_line : (edge : ℕ) (c : Constraint) (rest : List ℕ) → edge < 2 ^ 32 - 1 → lines_of (constraint_text scene edge (Some c) ++ rest) ≡ Take edge ∷ lines_of rest
+  take_line : (edge : ℕ) (c : Constraint) (rest : List ℕ) → edge < 2 ^ 32 - 1
+      → lines_of (constraint_text scene edge (Some c) ++ rest) ≡ Take edge ∷ lines_of rest
   take_line edge c rest small =
       let place = place_text scene c.span.unit c.span.from in
       let link = link_text scene c.link in
@@ -54,17 +56,20 @@ module _ (scene : Scene) (sys : System) (one : HasNoFeeds scene) (few : length s
       ap (λ (t : List ℕ). line_kind (codes "  " ++ t)) (words_of (decimal edge) place link) ∙ take_kind edge (place ++ 32 ∷ link) small in
       line_first (front ++ place ++ codes " " ++ link) rest free ∙ ap (λ (l : Line). l ∷ lines_of rest) kind
 
-  through_line : (number : ℕ) (rest : List ℕ) → number < 2 ^ 32 - 1 → lines_of (line (codes "  sub " ++ decimal number) ++ rest) ≡ Through number ∷ lines_of rest
+  through_line : (number : ℕ) (rest : List ℕ) → number < 2 ^ 32 - 1
+      → lines_of (line (codes "  sub " ++ decimal number) ++ rest) ≡ Through number ∷ lines_of rest
   through_line number rest small =
       line_first (codes "  sub " ++ decimal number) rest (then_free (codes "  sub ") (decimal number) refl (number_free number))
       ∙ ap (λ (l : Line). l ∷ lines_of rest) (through_kind number small)
 
-  heading : (number : ℕ) (rest : List ℕ) → number < 2 ^ 32 - 1 → lines_of (line (codes "sub " ++ decimal number) ++ rest) ≡ Sub number ∷ lines_of rest
+  heading : (number : ℕ) (rest : List ℕ) → number < 2 ^ 32 - 1
+      → lines_of (line (codes "sub " ++ decimal number) ++ rest) ≡ Sub number ∷ lines_of rest
   heading number rest small =
       line_first (codes "sub " ++ decimal number) rest (then_free (codes "sub ") (decimal number) refl (number_free number))
       ∙ ap (λ (l : Line). l ∷ lines_of rest) (sub_kind number small)
 
-  steps_lines : (steps : List PathStep) (rest : List ℕ) → AllKnown sys steps → lines_of (steps_text scene sys steps ++ rest) ≡ step_lines (map written steps) (lines_of rest)
+  steps_lines : (steps : List PathStep) (rest : List ℕ) → AllKnown sys steps
+      → lines_of (steps_text scene sys steps ++ rest) ≡ step_lines (map written steps) (lines_of rest)
   steps_lines [] rest known = refl
   steps_lines (TakeStep edge l ∷ steps) rest known =
       let c = known.0.0 in
@@ -81,7 +86,8 @@ module _ (scene : Scene) (sys : System) (one : HasNoFeeds scene) (few : length s
       ∙ through_line number (behind ++ rest) known.0
       ∙ ap (λ (ls : List Line). Through number ∷ ls) (steps_lines steps rest known.1)
 
-  subs_lines : (k : ℕ) (subs : List (List PathStep)) (rest : List ℕ) → SubsKnown sys subs → k + length subs ≤ 2 ^ 32 - 1 →
+  subs_lines : (k : ℕ) (subs : List (List PathStep)) (rest : List ℕ) → SubsKnown sys subs
+      → k + length subs ≤ 2 ^ 32 - 1 →
       lines_of (subs_text scene sys k subs ++ rest) ≡ sub_lines k (map (map written) subs) (lines_of rest)
   subs_lines k [] rest known small = refl
   subs_lines k (steps ∷ subs) rest known small =
@@ -102,7 +108,8 @@ module _ (scene : Scene) (sys : System) (one : HasNoFeeds scene) (few : length s
       omega (arith, deeper, length-append (line word ++ here) more, length-append (line word) here, length-append word (10 ∷ []))
 
   -- the text above a path proof
-  head_free : (lattice elem bound unit token : ℕ) → Free (codes "error " ++ elem_text scene lattice elem ++ codes " exceeds " ++ elem_text scene lattice bound ++ codes " at " ++ place_text scene unit token)
+  head_free : (lattice elem bound unit token : ℕ)
+      → Free (codes "error " ++ elem_text scene lattice elem ++ codes " exceeds " ++ elem_text scene lattice bound ++ codes " at " ++ place_text scene unit token)
   head_free lattice elem bound unit token =
       let a = elem_text scene lattice elem in
       let b = elem_text scene lattice bound in
@@ -128,7 +135,8 @@ module _ (scene : Scene) (sys : System) (one : HasNoFeeds scene) (few : length s
   rejected_line rest = line_first (codes "rejected") rest refl ∙ ap (λ (l : Line). l ∷ lines_of rest) rejected_kind
 
   -- the sub-paths of an error are fewer than the bytes of its text
-  subs_few : (number : ℕ) (text : List ℕ) (is : IsError scene sys number text) → length text < 2 ^ 32 - 1 → 1 + length is.subs ≤ 2 ^ 32 - 1
+  subs_few : (number : ℕ) (text : List ℕ) (is : IsError scene sys number text) → length text < 2 ^ 32 - 1
+      → 1 + length is.subs ≤ 2 ^ 32 - 1
   subs_few number text is short =
       let e = error_line scene is.lattice is.elem is.limit is.bound.constraint.span in
       let s = subs_text scene sys 1 is.subs in
@@ -138,12 +146,14 @@ module _ (scene : Scene) (sys : System) (one : HasNoFeeds scene) (few : length s
       let whole : length text ≡ length (e ++ (s ++ p ++ m)) = ap length is.spelled in
       omega (arith, short, long, whole, length-append e (s ++ p ++ m), length-append (s ++ p) m, length-append s p)
 
-  pub error_known : (number : ℕ) (text : List ℕ) (is : IsError scene sys number text) → length text < 2 ^ 32 - 1 → SubsKnown sys is.subs × AllKnown sys is.main
+  pub error_known : (number : ℕ) (text : List ℕ) (is : IsError scene sys number text) → length text < 2 ^ 32 - 1
+      → SubsKnown sys is.subs × AllKnown sys is.main
   error_known number text is short =
       let small = subs_few number text is short in
       proof_known sys (orders_of scene.lattices) is.subs is.main is.end (omega (arith, small)) is.holds
 
-  error_first : (number : ℕ) (text : List ℕ) (is : IsError scene sys number text) (rest : List ℕ) → length text < 2 ^ 32 - 1 →
+  error_first : (number : ℕ) (text : List ℕ) (is : IsError scene sys number text) (rest : List ℕ)
+      → length text < 2 ^ 32 - 1 →
       lines_of (text ++ rest) ≡ Error ∷ sub_lines 1 (map (map written) is.subs) (Path ∷ step_lines (map written is.main) (lines_of rest))
   error_first number text is rest short =
       let span = is.bound.constraint.span in
@@ -159,11 +169,13 @@ module _ (scene : Scene) (sys : System) (one : HasNoFeeds scene) (few : length s
       (subs_lines 1 is.subs (p ++ (m ++ rest)) known.0 (subs_few number text is short)
       ∙ ap (sub_lines 1 (map (map written) is.subs)) (path_line (m ++ rest) ∙ ap (λ (ls : List Line). Path ∷ ls) (steps_lines is.main rest known.1)))
 
-  one_first : (number : ℕ) (text : List ℕ) (is : IsErrorOf scene sys number text) (rest : List ℕ) → length text < 2 ^ 32 - 1 → lines_of (text ++ rest) ≡ errors_then (error_of is) (lines_of rest)
+  one_first : (number : ℕ) (text : List ℕ) (is : IsErrorOf scene sys number text) (rest : List ℕ)
+      → length text < 2 ^ 32 - 1 → lines_of (text ++ rest) ≡ errors_then (error_of is) (lines_of rest)
   one_first number text (NotExceeded kept) rest short = refl
   one_first number text (Exceeded error over is) rest short = error_first number error is rest short
 
-  pub errors_first : (number : ℕ) (text : List ℕ) (listed : Errors scene sys number text) (rest : List ℕ) → length text < 2 ^ 32 - 1 → lines_of (text ++ rest) ≡ errors_then (errors_of listed) (lines_of rest)
+  pub errors_first : (number : ℕ) (text : List ℕ) (listed : Errors scene sys number text) (rest : List ℕ)
+      → length text < 2 ^ 32 - 1 → lines_of (text ++ rest) ≡ errors_then (errors_of listed) (lines_of rest)
   errors_first number text NoConstraint rest short = refl
   errors_first _ _ (NextError number text error before is) rest short =
       let long = length-append text error in

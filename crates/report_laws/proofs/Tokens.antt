@@ -62,7 +62,8 @@ number_free (c ∷ cs) is = elim (one_holds (is_digits (c ∷ cs)) (c == 46 && i
 ]
 
 module _ (quote : ℕ) (other : (10 == quote) ≡ false) where
-  escaped : (c d : ℕ) (cs : List ℕ) (b : Bool) → (c == 92) ≡ b → (is_quoted_tail quote cs ≡ true → has 10 cs ≡ false) → (is_quoted_tail quote (d ∷ cs) ≡ true → has 10 (d ∷ cs) ≡ false) →
+  escaped : (c d : ℕ) (cs : List ℕ) (b : Bool) → (c == 92) ≡ b → (is_quoted_tail quote cs ≡ true → has 10 cs ≡ false)
+      → (is_quoted_tail quote (d ∷ cs) ≡ true → has 10 (d ∷ cs) ≡ false) →
       cond b (not (d == 10) && is_quoted_tail quote cs) (not (c == quote) && not (c == 10) && is_quoted_tail quote (d ∷ cs)) ≡ true → has 10 (c ∷ d ∷ cs) ≡ false
   escaped c d cs true slash short long is =
       let parts = both_hold (not (d == 10)) (is_quoted_tail quote cs) is in
@@ -82,14 +83,16 @@ module _ (quote : ℕ) (other : (10 == quote) ≡ false) where
   quoted_free (c ∷ cs) is =
       let parts = both_hold (c == quote) (is_quoted_tail quote cs) is in neither (c == 10) (has 10 cs) (no_feed (λ c. c == quote) c other parts.0) (quoted_tail_free cs parts.1)
 
-  prefix_free : (prefix bytes : List ℕ) → has 10 prefix ≡ false → bytes_eq prefix (take (length prefix) bytes) ≡ true → is_quoted quote (drop (length prefix) bytes) ≡ true → has 10 bytes ≡ false
+  prefix_free : (prefix bytes : List ℕ) → has 10 prefix ≡ false → bytes_eq prefix (take (length prefix) bytes) ≡ true
+      → is_quoted quote (drop (length prefix) bytes) ≡ true → has 10 bytes ≡ false
   prefix_free prefix bytes free same is =
       let front : prefix ≡ take (length prefix) bytes = (bytes_eq-Decides prefix (take (length prefix) bytes)).0 same in
       let whole : has 10 (take (length prefix) bytes ++ drop (length prefix) bytes) ≡ false =
       lacks_append 10 (take (length prefix) bytes) (drop (length prefix) bytes) (ap (has 10) (sym front) ∙ free) (quoted_free (drop (length prefix) bytes) is) in
       subst (λ (bs : List ℕ). has 10 bs ≡ false) (take-append-drop (length prefix) bytes) whole
 
-  prefixed_free : (prefixes : List (List ℕ)) (bytes : List ℕ) → list_all (λ prefix. not (has 10 prefix)) prefixes ≡ true → is_prefixed prefixes quote bytes ≡ true → has 10 bytes ≡ false
+  prefixed_free : (prefixes : List (List ℕ)) (bytes : List ℕ) → list_all (λ prefix. not (has 10 prefix)) prefixes ≡ true
+      → is_prefixed prefixes quote bytes ≡ true → has 10 bytes ≡ false
   prefixed_free [] bytes free is = absurd cc
   prefixed_free (p ∷ prefixes) bytes free is =
       let frees = both_hold (not (has 10 p)) (list_all (λ prefix. not (has 10 prefix)) prefixes) free in

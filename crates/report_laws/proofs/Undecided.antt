@@ -1,4 +1,5 @@
--- A program in which no bound is exceeded cannot fail to be accepted. What leads where need not be decided for that: there
+-- A program in which no bound is exceeded cannot fail to be accepted. What leads where need not be decided for that:
+-- there
 -- are finitely many variables and elements, so it cannot be that it is not decided.
 use Rattle.std.proofs.Common.{◌≡◌, ℕ, zero, suc, ◌+◌, ◌<◌, ◌≤◌, ◌⊎◌, inl, inr, ◌↔◌, max, Bool, true, false, List, [], ◌∷◌, length, slice_get, Option, Some, None, refl, subst, arith}
 use Rattle.lattice_core.specs.Order.{Order, size, IsLattice}
@@ -46,16 +47,19 @@ all_decided P b inside h =
     each_below (λ n. Decided (P n)) (λ n. stays_decided (P n)) b
     (λ below. h (λ n. elim (either_side n b) [ inl under ↦ below n under | inr over ↦ decided_not (P n) (λ p. let low = inside n p in omega (arith, low, over)) ]))
 
-pairs_decided : (P : ℕ → ℕ → Type 0) (a b : ℕ) → ((e v : ℕ) → P e v → (e < a) × (v < b)) → Stays ((e v : ℕ) → Decided (P e v))
+pairs_decided : (P : ℕ → ℕ → Type 0) (a b : ℕ) → ((e v : ℕ) → P e v → (e < a) × (v < b))
+    → Stays ((e v : ℕ) → Decided (P e v))
 pairs_decided P a b inside h =
     all_decided_each P a b inside (λ all. h (λ e v. all v e))
   where
-    all_decided_each : (P : ℕ → ℕ → Type 0) (a b : ℕ) → ((e v : ℕ) → P e v → (e < a) × (v < b)) → Stays ((v e : ℕ) → Decided (P e v))
+    all_decided_each : (P : ℕ → ℕ → Type 0) (a b : ℕ) → ((e v : ℕ) → P e v → (e < a) × (v < b))
+        → Stays ((v e : ℕ) → Decided (P e v))
     all_decided_each P a b inside h =
         each_below (λ v. (e : ℕ) → Decided (P e v)) (λ v. all_decided (λ e. P e v) a (λ e p. (inside e v p).0)) b
         (λ below. h (λ v e. elim (either_side v b) [ inl under ↦ below v under e | inr over ↦ decided_not (P e v) (λ p. let low = (inside e v p).1 in omega (arith, low, over)) ]))
 
-highest_above : (constraints : List Constraint) (n : ℕ) (c : Constraint) → slice_get constraints n ≡ Some c → vars_of_link c.link ≤ highest constraints
+highest_above : (constraints : List Constraint) (n : ℕ) (c : Constraint) → slice_get constraints n ≡ Some c
+    → vars_of_link c.link ≤ highest constraints
 highest_above [] n c is = absurd cc
 highest_above (x ∷ constraints) zero c is =
     let same : x ≡ c = cc in
@@ -98,7 +102,8 @@ module _ (sys : System) where
     match_within : (u v : ℕ) → Entering u v → (u < vars) × (v < vars)
     match_within u v m = (entered_inside lattice u m.0, part_inside lattice m.1.0 m.1.1 v m.1.3)
 
-    exact_of : ((e v : ℕ) → Decided (Returning sys lattice e v)) → ((e v : ℕ) → Decided (Lead sys lattice e v)) → ((u v : ℕ) → Decided (Entering u v)) →
+    exact_of : ((e v : ℕ) → Decided (Returning sys lattice e v)) → ((e v : ℕ) → Decided (Lead sys lattice e v))
+        → ((u v : ℕ) → Decided (Entering u v)) →
         (tests : PathTests) × AreExact sys lattice tests
     exact_of returned leads matched = (
       record { returned = λ e v. (returned e v).0; leads = λ e v. (leads e v).0; matched = λ u v. (matched u v).0 },
@@ -128,13 +133,15 @@ module _ (sys : System) where
     abbrev AcceptedAt : ℕ → Type 0
     AcceptedAt lattice = (order : Order) → slice_get orders lattice ≡ Some order → IsAcceptedIn sys lattice order
 
-    accepted_at : InEach orders (λ lattice order. ExceedsNone sys lattice order) → (lattice : ℕ) (found : Option Order) → slice_get orders lattice ≡ found → Stays (AcceptedAt lattice)
+    accepted_at : InEach orders (λ lattice order. ExceedsNone sys lattice order) → (lattice : ℕ) (found : Option Order)
+        → slice_get orders lattice ≡ found → Stays (AcceptedAt lattice)
     accepted_at none lattice None is h = h (λ order there. absurd cc)
     accepted_at none lattice (Some found) is h =
         lattice_accepted lattice found owned (lats lattice found is) (names lattice found is) (none lattice found is)
         (λ accepted. h (λ order there. let same : found ≡ order = cc in subst (λ (o : Order). IsAcceptedIn sys lattice o) same accepted))
 
-    pub rejected_exceeds : (IsAccepted sys orders → ⊥) → InEach orders (λ lattice order. ExceedsNone sys lattice order) → ⊥
+    pub rejected_exceeds : (IsAccepted sys orders → ⊥) → InEach orders (λ lattice order. ExceedsNone sys lattice order)
+        → ⊥
     rejected_exceeds rejected none =
         each_below AcceptedAt (λ lattice. accepted_at none lattice (slice_get orders lattice) refl) (length orders)
         (λ all. rejected (λ lattice order there. all lattice (within_of orders lattice order there) order there))

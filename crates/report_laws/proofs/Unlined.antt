@@ -47,11 +47,13 @@ first_map (s ∷ steps) = refl
 last_map : (steps : List PathStep) → last_of (all_plain steps) ≡ option_map plain (last_of steps)
 last_map steps = ap (λ (n : ℕ). slice_get (all_plain steps) (n - 1)) (map_length plain steps) ∙ map_get plain steps (length steps - 1)
 
-fails_alike : (why : Option Why) (l m : ℕ) (rest more : Option BadStep) → is_some rest ≡ is_some more → is_some (fault_or why l rest) ≡ is_some (fault_or why m more)
+fails_alike : (why : Option Why) (l m : ℕ) (rest more : Option BadStep) → is_some rest ≡ is_some more
+    → is_some (fault_or why l rest) ≡ is_some (fault_or why m more)
 fails_alike (Some why) l m rest more same = refl
 fails_alike None l m rest more same = same
 
-either_alike : (a b c d : Option BadStep) → is_some a ≡ is_some b → is_some c ≡ is_some d → is_some (or_else a c) ≡ is_some (or_else b d)
+either_alike : (a b c d : Option BadStep) → is_some a ≡ is_some b → is_some c ≡ is_some d
+    → is_some (or_else a c) ≡ is_some (or_else b d)
 either_alike (Some x) (Some y) c d one two = refl
 either_alike (Some x) None c d one two = absurd cc
 either_alike None (Some y) c d one two = absurd cc
@@ -85,13 +87,15 @@ module _ (sys : System) where
       (ap (λ (s : Option PathStep). of_step sys s begins) (first_map steps) ∙ of_plain (first_of steps) begins)
       (ap (λ (s : Option PathStep). of_step sys s ends) (last_map steps) ∙ of_plain (last_of steps) ends)
 
-  look_plain : (earlier : List (List PathStep)) (s : PathStep) → look sys (map all_plain earlier) (plain s) ≡ look sys earlier s
+  look_plain : (earlier : List (List PathStep)) (s : PathStep)
+      → look sys (map all_plain earlier) (plain s) ≡ look sys earlier s
   look_plain earlier (Take edge line) = refl
   look_plain earlier (Sub number line) =
       ap (λ (seen : Seen). cond (number == 0) NoSub seen)
       (ap (span_of sys) (map_get all_plain earlier (number - 1)) ∙ span_plain (slice_get earlier (number - 1)))
 
-  looks_plain : (earlier : List (List PathStep)) (steps : List PathStep) → map (look sys (map all_plain earlier)) (all_plain steps) ≡ map (look sys earlier) steps
+  looks_plain : (earlier : List (List PathStep)) (steps : List PathStep)
+      → map (look sys (map all_plain earlier)) (all_plain steps) ≡ map (look sys earlier) steps
   looks_plain earlier [] = refl
   looks_plain earlier (s ∷ steps) = ap₂ (λ (x : Seen) (xs : List Seen). x ∷ xs) (look_plain earlier s) (looks_plain earlier steps)
 
@@ -133,7 +137,8 @@ module _ (sys : System) where
   ends_alike true x y = refl
   ends_alike false x y = refl
 
-  end_plain : (main : List PathStep) (end last : ℕ) → is_some (end_fault sys (all_plain main) end) ≡ is_some (end_fault sys main last)
+  end_plain : (main : List PathStep) (end last : ℕ)
+      → is_some (end_fault sys (all_plain main) end) ≡ is_some (end_fault sys main last)
   end_plain main end last =
       let here : BadStep = record { line = end; why = B1 } in
       let there : BadStep = record { line = last; why = B1 } in
@@ -167,7 +172,8 @@ module _ (sys : System) where
       ∙ ap₂ (λ (ss : List (List PathStep)) (ms : List PathStep). is_some (first_fault sys orders ss ms 0)) (all_twice subs) (map_twice main)
 
   -- proofs that are alike but for their lines hold alike
-  holds_alike : (orders : List Order) (subs others : List (List PathStep)) (main other : List PathStep) (end last : ℕ) → map (map written) subs ≡ map (map written) others →
+  holds_alike : (orders : List Order) (subs others : List (List PathStep)) (main other : List PathStep) (end last : ℕ)
+      → map (map written) subs ≡ map (map written) others →
       map written main ≡ map written other → first_fault sys orders subs main end ≡ None → first_fault sys orders others other last ≡ None
   holds_alike orders subs others main other end last same alike none =
       is_none_of (first_fault sys orders others other last)

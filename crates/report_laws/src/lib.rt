@@ -1,4 +1,7 @@
 //! Laws of the texts of reports: what they read as.
+//!
+//! Entry: `rejected_reads_back`.
+//! It does not know how reports are made and read. Above: `answer_laws`.
 #![tactic(auto)]
 
 mod laws;

@@ -29,30 +29,36 @@ use Rattle.room_laws.specs.Rooms.{More, InnerMore}
 use Rattle.room_laws.proofs.More.{more_same, more_bind, more_fits, more_if, MoreTurn, more_guarded, more_run, more_repeated, more_listed}
 
 module _ (n : ℕ) (inner other : Inner) (m : InnerMore n inner other) (room wide : ℕ) (less : room < suc n) (wider : room ≤ wide) where
-  inside : (reach : Reach) (begun : Begun) → 1 ≤ room → (s : HeldScopes) (ts : List Lexeme) → More (inner.expr reach begun (room - 1) s ts) (other.expr reach begun (wide - 1) s ts)
+  inside : (reach : Reach) (begun : Begun) → 1 ≤ room → (s : HeldScopes) (ts : List Lexeme)
+      → More (inner.expr reach begun (room - 1) s ts) (other.expr reach begun (wide - 1) s ts)
   inside reach begun one s ts = m.exprs reach begun (room - 1) (wide - 1) (omega (arith, less, one)) (omega (arith, wider)) s ts
 
   -- behind a token that is the same for both
-  arguments_more : 1 ≤ room → (s : HeldScopes) (ts : List Lexeme) → More (arguments_with inner room s ts) (arguments_with other wide s ts)
+  arguments_more : 1 ≤ room → (s : HeldScopes) (ts : List Lexeme)
+      → More (arguments_with inner room s ts) (arguments_with other wide s ts)
   unfolding arguments_with next_argument
   arguments_more one s ts =
       more_if (is_close_paren (kind_at ts)) _ _ _ _ refl
       (more_bind _ _ _ _ (more_listed (inner.expr Assigned nothing (room - 1)) (other.expr Assigned nothing (wide - 1)) (next_argument inner room) (next_argument other wide) s ts (inside Assigned nothing one s ts)
       (λ x is token s ts. more_bind _ _ _ _ (inside Assigned nothing one s ts) (λ e. refl))) (λ es. refl))
 
-  index_more : (e : Expr) → 1 ≤ room → (s : HeldScopes) (ts : List Lexeme) → More (index_with inner e room s ts) (index_with other e wide s ts)
+  index_more : (e : Expr) → 1 ≤ room → (s : HeldScopes) (ts : List Lexeme)
+      → More (index_with inner e room s ts) (index_with other e wide s ts)
   unfolding index_with
   index_more e one s ts = more_bind _ _ _ _ (more_same (take_one s ts)) (λ opening. more_bind _ _ _ _ (inside Whole nothing one opening.scopes opening.rest) (λ e. more_same _))
 
-  call_more : (e : Expr) → 1 ≤ room → (s : HeldScopes) (ts : List Lexeme) → More (call_with inner e room s ts) (call_with other e wide s ts)
+  call_more : (e : Expr) → 1 ≤ room → (s : HeldScopes) (ts : List Lexeme)
+      → More (call_with inner e room s ts) (call_with other e wide s ts)
   unfolding call_with
   call_more e one s ts = more_bind _ _ _ _ (more_same (take_one s ts)) (λ opening. more_bind _ _ _ _ (arguments_more one opening.scopes opening.rest) (λ es. more_same _))
 
-  postfix_more : (e : Expr) (s : HeldScopes) (ts : List Lexeme) → MoreTurn (postfix_turn inner room e s ts) (postfix_turn other wide e s ts)
+  postfix_more : (e : Expr) (s : HeldScopes) (ts : List Lexeme)
+      → MoreTurn (postfix_turn inner room e s ts) (postfix_turn other wide e s ts)
   unfolding dot_with arrow_with post_with
   postfix_more e s ts = by_form (form_of (kind_at ts))
     where
-      by_form : (form : PostfixForm) → MoreTurn (lowered inner (expr_height e) room ts (postfix_by inner form room e s ts)) (lowered other (expr_height e) wide ts (postfix_by other form wide e s ts))
+      by_form : (form : PostfixForm)
+          → MoreTurn (lowered inner (expr_height e) room ts (postfix_by inner form room e s ts)) (lowered other (expr_height e) wide ts (postfix_by other form wide e s ts))
       by_form forms.Index = more_fits (suc (expr_height e)) room wide ts _ _ wider (λ fit. index_more e (omega (arith, fit)) s ts)
       by_form forms.Call = more_fits (suc (expr_height e)) room wide ts _ _ wider (λ fit. call_more e (omega (arith, fit)) s ts)
       by_form forms.Dot = more_fits (suc (expr_height e)) room wide ts _ _ wider (λ fit. more_same _)
@@ -60,11 +66,13 @@ module _ (n : ℕ) (inner other : Inner) (m : InnerMore n inner other) (room wid
       by_form (forms.Post p) = more_fits (suc (expr_height e)) room wide ts _ _ wider (λ fit. more_same _)
       by_form forms.Nothing = tt
 
-  postfixed_more : (e : Expr) (s : HeldScopes) (ts : List Lexeme) → More (postfixed inner room e s ts) (postfixed other wide e s ts)
+  postfixed_more : (e : Expr) (s : HeldScopes) (ts : List Lexeme)
+      → More (postfixed inner room e s ts) (postfixed other wide e s ts)
   unfolding postfixed
   postfixed_more e s ts = more_run (postfix_turn inner room) (postfix_turn other wide) postfix_more e s ts
 
-  primary_more : (make : ℕ → Expr) (s : HeldScopes) (ts : List Lexeme) → More (primary_with inner make room s ts) (primary_with other make wide s ts)
+  primary_more : (make : ℕ → Expr) (s : HeldScopes) (ts : List Lexeme)
+      → More (primary_with inner make room s ts) (primary_with other make wide s ts)
   primary_more make s ts = more_fits 1 room wide ts _ _ wider (λ fit. more_bind _ _ _ _ (more_same (take_one s ts)) (λ token. postfixed_more (make token.tree) token.scopes token.rest))
 
   text_more : (s : HeldScopes) (ts : List Lexeme) → More (text_with inner room s ts) (text_with other wide s ts)
@@ -72,19 +80,22 @@ module _ (n : ℕ) (inner other : Inner) (m : InnerMore n inner other) (room wid
   text_more s ts =
       more_fits 1 room wide ts _ _ wider (λ fit. more_bind _ _ _ _ (more_same (take_one s ts)) (λ token. more_bind _ _ _ _ (more_same (texts_at token.scopes token.rest)) (λ texts. postfixed_more _ texts.scopes texts.rest)))
 
-  compound_more : (opening : ℕ) (t : TypeName) (closing : ℕ) → 1 ≤ room → (s : HeldScopes) (ts : List Lexeme) → More (compound_with inner opening t closing room s ts) (compound_with other opening t closing wide s ts)
+  compound_more : (opening : ℕ) (t : TypeName) (closing : ℕ) → 1 ≤ room → (s : HeldScopes) (ts : List Lexeme)
+      → More (compound_with inner opening t closing room s ts) (compound_with other opening t closing wide s ts)
   unfolding compound_with
   compound_more opening t closing one s ts =
       more_bind _ _ _ _ (m.lists (room - 1) (wide - 1) (omega (arith, less, one)) (omega (arith, wider)) s ts) (λ list. postfixed_more _ list.scopes list.rest)
 
-  typed_more : (casts : Bool) (opening : ℕ) → 2 ≤ room → (s : HeldScopes) (ts : List Lexeme) → More (typed_with inner casts opening room s ts) (typed_with other casts opening wide s ts)
+  typed_more : (casts : Bool) (opening : ℕ) → 2 ≤ room → (s : HeldScopes) (ts : List Lexeme)
+      → More (typed_with inner casts opening room s ts) (typed_with other casts opening wide s ts)
   unfolding typed_with typed_behind cast_behind
   typed_more casts opening two s ts =
       more_bind _ _ _ _ (m.types (room - 1) (wide - 1) (omega (arith, less, two)) (omega (arith, two)) (omega (arith, wider)) s ts) (λ t. more_bind _ _ _ _ (more_same (token_at is_close_paren t.scopes t.rest))
       (λ closing. more_if (is_open_brace (kind_at closing.rest)) _ _ _ _ (compound_more opening t.tree closing.tree (omega (arith, two)) closing.scopes closing.rest)
       (more_if casts _ _ _ _ (more_bind _ _ _ _ (inside Castable nothing (omega (arith, two)) closing.scopes closing.rest) (λ e. refl)) (inr refl))))
 
-  opened_more : (casts : Bool) (s : HeldScopes) (ts : List Lexeme) → More (opened_with inner casts room s ts) (opened_with other casts wide s ts)
+  opened_more : (casts : Bool) (s : HeldScopes) (ts : List Lexeme)
+      → More (opened_with inner casts room s ts) (opened_with other casts wide s ts)
   unfolding opened_with opened_by statement_with paren_with
   opened_more casts s ts =
       more_fits 2 room wide ts _ _ wider (λ two. more_bind _ _ _ _ (more_same (take_one s ts))
@@ -95,17 +106,20 @@ module _ (n : ℕ) (inner other : Inner) (m : InnerMore n inner other) (room wid
       (more_bind _ _ _ _ (inside Whole nothing (omega (arith, two)) opening.scopes opening.rest)
       (λ e. more_bind _ _ _ _ (more_same (token_at is_close_paren e.scopes e.rest)) (λ closing. postfixed_more _ closing.scopes closing.rest))))))
 
-  prefix_more : (p : Punct) (reach : Reach) (s : HeldScopes) (ts : List Lexeme) → More (prefix_with inner p reach room s ts) (prefix_with other p reach wide s ts)
+  prefix_more : (p : Punct) (reach : Reach) (s : HeldScopes) (ts : List Lexeme)
+      → More (prefix_with inner p reach room s ts) (prefix_with other p reach wide s ts)
   unfolding prefix_with
   prefix_more p reach s ts =
       more_fits 2 room wide ts _ _ wider (λ two. more_bind _ _ _ _ (more_same (take_one s ts)) (λ token. more_bind _ _ _ _ (inside reach nothing (omega (arith, two)) token.scopes token.rest) (λ e. refl)))
 
-  extension_more : (s : HeldScopes) (ts : List Lexeme) → More (extension_with inner room s ts) (extension_with other wide s ts)
+  extension_more : (s : HeldScopes) (ts : List Lexeme)
+      → More (extension_with inner room s ts) (extension_with other wide s ts)
   unfolding extension_with
   extension_more s ts =
       more_fits 2 room wide ts _ _ wider (λ two. more_bind _ _ _ _ (more_same (take_one s ts)) (λ token. more_bind _ _ _ _ (inside Castable nothing (omega (arith, two)) token.scopes token.rest) (λ e. refl)))
 
-  value_more : (word : Word) → 1 ≤ room → (s : HeldScopes) (ts : List Lexeme) → More (sizeof_value_with inner word room s ts) (sizeof_value_with other word wide s ts)
+  value_more : (word : Word) → 1 ≤ room → (s : HeldScopes) (ts : List Lexeme)
+      → More (sizeof_value_with inner word room s ts) (sizeof_value_with other word wide s ts)
   unfolding sizeof_value_with
   value_more word one s ts = more_bind _ _ _ _ (inside Unary nothing one s ts) (λ e. refl)
 
@@ -117,7 +131,8 @@ module _ (n : ℕ) (inner other : Inner) (m : InnerMore n inner other) (room wid
       (λ separator. more_bind _ _ _ _ (m.types (room - 1) (wide - 1) (omega (arith, less, three)) (omega (arith, three)) (omega (arith, wider)) separator.scopes separator.rest)
       (λ t. more_bind _ _ _ _ (more_same (token_at is_close_paren t.scopes t.rest)) (λ closing. postfixed_more _ closing.scopes closing.rest)))))))
 
-  va_two_more : (make : ℕ → ℕ → Expr → ℕ → Expr → ℕ → Expr) (s : HeldScopes) (ts : List Lexeme) → More (va_two_with inner make room s ts) (va_two_with other make wide s ts)
+  va_two_more : (make : ℕ → ℕ → Expr → ℕ → Expr → ℕ → Expr) (s : HeldScopes) (ts : List Lexeme)
+      → More (va_two_with inner make room s ts) (va_two_with other make wide s ts)
   unfolding va_two_with
   va_two_more make s ts =
       more_fits 2 room wide ts _ _ wider (λ two. more_bind _ _ _ _ (more_same (take_one s ts)) (λ keyword. more_bind _ _ _ _ (more_same (token_at is_open_paren keyword.scopes keyword.rest))
@@ -125,7 +140,8 @@ module _ (n : ℕ) (inner other : Inner) (m : InnerMore n inner other) (room wid
       (λ separator. more_bind _ _ _ _ (inside Assigned nothing (omega (arith, two)) separator.scopes separator.rest)
       (λ e2. more_bind _ _ _ _ (more_same (token_at is_close_paren e2.scopes e2.rest)) (λ closing. postfixed_more _ closing.scopes closing.rest)))))))
 
-  step_more : 1 ≤ room → (s : HeldScopes) (ts : List Lexeme) → More (step_with inner room s ts) (step_with other wide s ts)
+  step_more : 1 ≤ room → (s : HeldScopes) (ts : List Lexeme)
+      → More (step_with inner room s ts) (step_with other wide s ts)
   unfolding step_with
   step_more one s ts =
       more_if (is_dot (kind_at ts)) _ _ _ _ (more_same _) (more_bind _ _ _ _ (more_same (take_one s ts)) (λ opening. more_bind _ _ _ _ (inside Whole nothing one opening.scopes opening.rest) (λ e. more_same _)))
@@ -145,7 +161,8 @@ module _ (n : ℕ) (inner other : Inner) (m : InnerMore n inner other) (room wid
       more_fits 2 room wide ts _ _ wider (λ two. more_bind _ _ _ _ (more_same (take_one s ts))
       (λ token. more_bind _ _ _ _ (inside Castable nothing (omega (arith, two)) token.scopes token.rest) (λ e. refl)))
 
-  label_use_more : (s : HeldScopes) (ts : List Lexeme) → More (label_use_with inner room s ts) (label_use_with other wide s ts)
+  label_use_more : (s : HeldScopes) (ts : List Lexeme)
+      → More (label_use_with inner room s ts) (label_use_with other wide s ts)
   unfolding label_use_with
   label_use_more s ts = more_if (is_wide s) _ _ _ _ (more_fits 1 room wide ts _ _ wider (λ one. more_same _)) (inr refl)
 
@@ -191,13 +208,15 @@ module _ (n : ℕ) (inner other : Inner) (m : InnerMore n inner other) (room wid
       (λ colon. more_bind _ _ _ _ (inside Assigned nothing (omega (arith, three)) colon.scopes colon.rest) (λ e. refl)))))
       (inr refl))
 
-  next_assoc_more : (token : ℕ) (s : HeldScopes) (ts : List Lexeme) → More (next_assoc inner room token s ts) (next_assoc other wide token s ts)
+  next_assoc_more : (token : ℕ) (s : HeldScopes) (ts : List Lexeme)
+      → More (next_assoc inner room token s ts) (next_assoc other wide token s ts)
   unfolding next_assoc
   next_assoc_more token s ts = more_bind _ _ _ _ (assoc_more s ts) (λ x. refl)
 
 module _ (n : ℕ) (inner other : Inner) (m : InnerMore n inner other) where
   module _ (room wide : ℕ) (less : room < suc n) (wider : room ≤ wide) where
-    generic_more : (s : HeldScopes) (ts : List Lexeme) → More (generic_with inner room s ts) (generic_with other wide s ts)
+    generic_more : (s : HeldScopes) (ts : List Lexeme)
+        → More (generic_with inner room s ts) (generic_with other wide s ts)
     unfolding generic_with
     generic_more s ts =
         more_fits 3 room wide ts _ _ wider (λ three. more_bind _ _ _ _ (more_same (take_one s ts))
@@ -212,7 +231,8 @@ module _ (n : ℕ) (inner other : Inner) (m : InnerMore n inner other) where
         (λ closing. postfixed_more n inner other m room wide less wider _ closing.scopes closing.rest)))))))
 
     -- behind a type's name in parentheses a compound literal stands one level lower
-    sizeof_typed_more : (word : Word) (opening : ℕ) (t : TypeName) (closing : ℕ) (s : HeldScopes) (ts : List Lexeme) → More (sizeof_typed inner word opening t closing room s ts) (sizeof_typed other word opening t closing wide s ts)
+    sizeof_typed_more : (word : Word) (opening : ℕ) (t : TypeName) (closing : ℕ) (s : HeldScopes) (ts : List Lexeme)
+        → More (sizeof_typed inner word opening t closing room s ts) (sizeof_typed other word opening t closing wide s ts)
     unfolding sizeof_typed
     sizeof_typed_more word opening t closing s ts =
         more_if (is_open_brace (kind_at ts)) _ _ _ _
@@ -222,7 +242,8 @@ module _ (n : ℕ) (inner other : Inner) (m : InnerMore n inner other) where
         type_high : (t : TypeName) → 1 ≤ type_name_height t
         type_high t = omega arith
 
-    sizeof_more : (keyword : Keyword) (s : HeldScopes) (ts : List Lexeme) → More (sizeof_with inner keyword room s ts) (sizeof_with other keyword wide s ts)
+    sizeof_more : (keyword : Keyword) (s : HeldScopes) (ts : List Lexeme)
+        → More (sizeof_with inner keyword room s ts) (sizeof_with other keyword wide s ts)
     unfolding sizeof_with sizeof_behind sizeof_type_with
     sizeof_more keyword s ts =
         more_fits 2 room wide ts _ _ wider (λ two. more_bind _ _ _ _ (more_same (take_one s ts))
@@ -233,7 +254,8 @@ module _ (n : ℕ) (inner other : Inner) (m : InnerMore n inner other) where
         (value_more n inner other m room wide less wider _ (omega (arith, two)) token.scopes token.rest)))
         (value_more n inner other m room wide less wider _ (omega (arith, two)) token.scopes token.rest)))
 
-    unary_by_more : (opening : Opening) (s : HeldScopes) (ts : List Lexeme) → More (unary_by inner opening room s ts) (unary_by other opening wide s ts)
+    unary_by_more : (opening : Opening) (s : HeldScopes) (ts : List Lexeme)
+        → More (unary_by inner opening room s ts) (unary_by other opening wide s ts)
     unfolding unary_by
     unary_by_more (openings.Prefix p reach) s ts = prefix_more n inner other m room wide less wider p reach s ts
     unary_by_more (openings.Sizeof keyword) s ts = sizeof_more keyword s ts
@@ -264,7 +286,8 @@ module _ (n : ℕ) (inner other : Inner) (m : InnerMore n inner other) where
 
   -- rows of operands and operators
 
-  operand_more : (begun : Begun) (room wide : ℕ) → room < suc n → room ≤ wide → (s : HeldScopes) (ts : List Lexeme) → More (operand_with inner begun room s ts) (operand_with other begun wide s ts)
+  operand_more : (begun : Begun) (room wide : ℕ) → room < suc n → room ≤ wide → (s : HeldScopes) (ts : List Lexeme)
+      → More (operand_with inner begun room s ts) (operand_with other begun wide s ts)
   unfolding operand_with
   operand_more nothing room wide less wider s ts = cast_more room wide less wider s ts
   operand_more (extensions tokens) room wide less wider s ts =
@@ -279,12 +302,14 @@ module _ (n : ℕ) (inner other : Inner) (m : InnerMore n inner other) where
   expr_high e = omega arith
 
   module _ (room wide : ℕ) (less : room < suc n) (wider : room ≤ wide) where
-    operation_more : (op : Operator) (left : Settled) (s : HeldScopes) (ts : List Lexeme) → More (operation_with inner op left room s ts) (operation_with other op left wide s ts)
+    operation_more : (op : Operator) (left : Settled) (s : HeldScopes) (ts : List Lexeme)
+        → More (operation_with inner op left room s ts) (operation_with other op left wide s ts)
     operation_more op left s ts =
         more_fits (depth_of left + expr_height left.last) room wide ts _ _ wider (λ fit. more_bind _ _ _ _ (more_same (take_one s ts))
         (λ token. more_bind _ _ _ _ (cast_more (room - depth_of left) (wide - depth_of left) (omega (arith, less)) (omega (arith, wider)) token.scopes token.rest) (λ e. refl)))
 
-    question_more : (left : Settled) (s : HeldScopes) (ts : List Lexeme) → More (question_with inner left room s ts) (question_with other left wide s ts)
+    question_more : (left : Settled) (s : HeldScopes) (ts : List Lexeme)
+        → More (question_with inner left room s ts) (question_with other left wide s ts)
     unfolding middle_with
     question_more left s ts =
         more_fits (depth_of left + expr_height left.last) room wide ts _ _ wider (λ fit. more_bind _ _ _ _ (more_same (take_one s ts))
@@ -296,15 +321,18 @@ module _ (n : ℕ) (inner other : Inner) (m : InnerMore n inner other) where
         lower : (left : Settled) → depth_of left + expr_height left.last ≤ room → room - depth_of left < n
         lower left fit = let high = expr_high left.last in omega (arith, fit, high, less)
 
-    operation_by_more : (reach : Reach) (infix_form : Infix) (row : Row) (s : HeldScopes) (ts : List Lexeme) → MoreTurn (operation_by inner reach room infix_form row s ts) (operation_by other reach wide infix_form row s ts)
+    operation_by_more : (reach : Reach) (infix_form : Infix) (row : Row) (s : HeldScopes) (ts : List Lexeme)
+        → MoreTurn (operation_by inner reach room infix_form row s ts) (operation_by other reach wide infix_form row s ts)
     operation_by_more reach infixes.Comma row s ts = more_guarded (takes_comma reach) _ _ (operation_more comma (settled row 0) s ts)
     operation_by_more reach (infixes.Assign p) row s ts = by_level (nat_le 14 (expr_level (settled row 1).last))
       where
-        by_reach : (c : Bool) → MoreTurn (if c then Some (operation_with inner (assign p) (settled row 1) room s ts) else None) (if c then Some (operation_with other (assign p) (settled row 1) wide s ts) else None)
+        by_reach : (c : Bool)
+            → MoreTurn (if c then Some (operation_with inner (assign p) (settled row 1) room s ts) else None) (if c then Some (operation_with other (assign p) (settled row 1) wide s ts) else None)
         by_reach true = operation_more (assign p) (settled row 1) s ts
         by_reach false = tt
 
-        by_level : (b : Bool) → MoreTurn (if b then (if takes_assign reach then Some (operation_with inner (assign p) (settled row 1) room s ts) else None) else Some (refuses BadTarget ts))
+        by_level : (b : Bool)
+            → MoreTurn (if b then (if takes_assign reach then Some (operation_with inner (assign p) (settled row 1) room s ts) else None) else Some (refuses BadTarget ts))
             (if b then (if takes_assign reach then Some (operation_with other (assign p) (settled row 1) wide s ts) else None) else Some (refuses BadTarget ts))
         by_level true = by_reach (takes_assign reach)
         by_level false = inr refl
@@ -312,13 +340,15 @@ module _ (n : ℕ) (inner other : Inner) (m : InnerMore n inner other) where
     operation_by_more reach (infixes.Binary p) row s ts = operation_more (binary p) (settled row (binary_level p + 2)) s ts
     operation_by_more reach infixes.Nothing row s ts = tt
 
-    row_more : (reach : Reach) (begun : Begun) (s : HeldScopes) (ts : List Lexeme) → More (row_with inner reach begun room s ts) (row_with other reach begun wide s ts)
+    row_more : (reach : Reach) (begun : Begun) (s : HeldScopes) (ts : List Lexeme)
+        → More (row_with inner reach begun room s ts) (row_with other reach begun wide s ts)
     unfolding row_with
     row_more reach begun s ts =
         more_bind _ _ _ _ (operand_more begun room wide less wider s ts) (λ e. more_bind _ _ _ _
         (more_run (operation_turn inner reach room) (operation_turn other reach wide) (λ row s ts. operation_by_more reach (infix_of (kind_at ts)) row s ts) _ e.scopes e.rest) (λ row. refl))
 
-    pub expr_more : (reach : Reach) (begun : Begun) (s : HeldScopes) (ts : List Lexeme) → More (expr_with inner reach begun room s ts) (expr_with other reach begun wide s ts)
+    pub expr_more : (reach : Reach) (begun : Begun) (s : HeldScopes) (ts : List Lexeme)
+        → More (expr_with inner reach begun room s ts) (expr_with other reach begun wide s ts)
     unfolding expr_with
     expr_more Whole begun s ts = row_more Whole begun s ts
     expr_more Assigned begun s ts = row_more Assigned begun s ts

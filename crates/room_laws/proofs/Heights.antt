@@ -1,5 +1,6 @@
--- A unit that is well formed but for its height is read with room for it, and what is read with any room is well formed but for it.
-use Rattle.std.proofs.Common.{◌≡◌, ℕ, zero, suc, ◌<◌, ◌≤◌, Bool, true, false, List, [], ◌∷◌, Some, refl, sym, ◌∙◌, ap, subst, arith}
+-- A unit that is well formed but for its height is read with room for it, and what is read with any room is well formed
+-- but for it.
+use Rattle.std.proofs.Common.{◌≡◌, ℕ, suc, ◌≤◌, Bool, true, false, List, [], ◌∷◌, Some, refl, sym, ◌∙◌, ap, subst, arith}
 use Rattle.std.specs.Prelude.{◌+◌, ◌-◌, max, not, All}
 use Rattle.std.proofs.lemmas.List.Elements.{All-nil, All-cons, All-head, All-tail}
 use Rattle.c_words.specs.declared.kinds.TokenKind.{TokenKind}
@@ -16,22 +17,17 @@ use Rattle.c_units.specs.Scoping.{spec_words_scopes}
 use Rattle.c_units.specs.Units.{items_scopes, item_scopes}
 use Rattle.c_reading.specs.Reading.{Found, kind_at, IsNumbered, repeated}
 use Rattle.c_reading.specs.Tokens.{is_end}
-use Rattle.c_reading.specs.Parts.{Inner, never}
 use Rattle.c_reading.specs.Specifying.{begins_specs}
 use Rattle.c_reading.specs.Items.{item_with, items_with}
-use Rattle.c_reading.specs.Knot.{tied, knot, alone}
+use Rattle.c_reading.specs.Knot.{knot, alone}
 use Rattle.c_reading.proofs.Binding.{found, done, ok_is, bind_ok, bind_is}
 use Rattle.c_reading.proofs.Forms.{Takes, took_token, Took, always, behind_ok, behind_same}
 use Rattle.c_reading.proofs.Rows.{AllFit, row_form, row_text, row_scopes, row_height, repeated_sound, repeated_complete}
 use Rattle.c_reading.proofs.KindFacts.{end_kind, not_false}
-use Rattle.c_reading.proofs.Aims.{item_form, TokenLaws, FirstLaws, Laws, declr_number}
+use Rattle.c_reading.proofs.Aims.{item_form, TokenLaws, FirstLaws, Laws}
+use Rattle.c_reading.proofs.Tied.{laws_of}
 use Rattle.c_reading.proofs.TokensShown.{token_laws}
 use Rattle.c_reading.proofs.Firsts.{first_laws}
-use Rattle.c_reading.proofs.ExprShown.{expr_laws}
-use Rattle.c_reading.proofs.SpecsShown.{specs_laws}
-use Rattle.c_reading.proofs.DeclrShown.{declr_laws, type_name_laws}
-use Rattle.c_reading.proofs.InitShown.{init_list_laws}
-use Rattle.c_reading.proofs.StmtShown.{block_laws, stmt_laws}
 use Rattle.c_reading.proofs.StmtComplete.{block_body_read}
 use Rattle.c_reading.proofs.ItemsFalls.{item_shrinks}
 use Rattle.c_reading.proofs.ItemsSound.{item_sound}
@@ -43,9 +39,6 @@ specs_no_end : (s : HeldScopes) (kind : TokenKind) → begins_specs s kind ≡ t
 specs_no_end s kinds.End e = absurd cc
 specs_no_end s kind e = refl
 
-lower : (room : ℕ) → room < 0 → ⊥
-lower room h = absurd (omega (arith, h))
-
 module _ (whole_are : WholeAreMixes) (goes : MixesGoOn) (all : List Lexeme) (numbered : IsNumbered all) where
   tokens : TokenLaws all
   tokens = token_laws all numbered
@@ -53,66 +46,8 @@ module _ (whole_are : WholeAreMixes) (goes : MixesGoOn) (all : List Lexeme) (num
   firsts : FirstLaws all
   firsts = first_laws goes all numbered
 
-  -- readers that are never called
-  never_laws : Laws all 0 never
-  never_laws = record {
-    exprs = record {
-      shrinks = λ reach begun room s ts x e. absurd cc;
-      sound = λ reach room s ts x tail e. absurd cc;
-      complete = λ reach room less. absurd (lower room less);
-      begun_sound = λ reach begun room row s ts x tail e. absurd cc;
-      begun_complete = λ reach begun room row less. absurd (lower room less);
-    };
-    types = record {
-      shrinks = λ room s ts x e. absurd cc;
-      sound = λ room s ts x tail e. absurd cc;
-      complete = λ room less. absurd (lower room less);
-    };
-    words = record {
-      falls = λ role words room s ts x e. absurd cc;
-      shrinks = λ role room s ts x e. absurd cc;
-      sound = λ role words room s ts x tail e. absurd cc;
-      complete = λ role words rest room less. absurd (lower room less);
-    };
-    declrs = record {
-      falls = λ mode wanted flag room s ts x e. absurd cc;
-      shrinks = λ wanted flag room s ts x e. absurd cc;
-      sound = λ mode wanted flag room s ts x tail e. absurd cc;
-      complete = λ mode wanted flag room less. absurd (lower (declr_number flag room) less);
-    };
-    lists = record {
-      shrinks = λ room s ts x e. absurd cc;
-      sound = λ room s ts x tail e. absurd cc;
-      complete = λ room less. absurd (lower room less);
-    };
-    blocks = record {
-      shrinks = λ room s ts x e. absurd cc;
-      sound = λ room s ts x tail e. absurd cc;
-      complete = λ room less. absurd (lower room less);
-    };
-    stmts = record {
-      shrinks = λ room s ts x e. absurd cc;
-      sound = λ room s ts x tail e. absurd cc;
-      ended = λ room s ts x e. absurd cc;
-      complete = λ room less. absurd (lower room less);
-    };
-  }
-
-  tied_laws : (n : ℕ) (inner : Inner) → Laws all n inner → Laws all (suc n) (tied inner)
-  tied_laws n inner laws = record {
-    exprs = expr_laws all numbered tokens firsts n inner laws;
-    types = type_name_laws all numbered tokens goes n inner laws;
-    words = specs_laws all numbered tokens firsts n inner laws whole_are goes;
-    declrs = declr_laws all numbered tokens goes n inner laws;
-    lists = init_list_laws all numbered tokens firsts n inner laws;
-    blocks = block_laws all numbered tokens firsts n inner laws whole_are goes;
-    stmts = stmt_laws all numbered tokens firsts n inner laws whole_are goes;
-  }
-
   knot_laws : (n : ℕ) → Laws all (suc n) (knot n)
-  unfolding knot
-  knot_laws zero = tied_laws 0 never never_laws
-  knot_laws (suc n) = tied_laws (suc n) (knot n) (knot_laws n)
+  knot_laws n = laws_of whole_are goes all numbered n
 
   -- Rows of items.
 
@@ -135,11 +70,14 @@ module _ (whole_are : WholeAreMixes) (goes : MixesGoOn) (all : List Lexeme) (num
   rows_high [] = refl
   rows_high (x ∷ xs) = one_up (item_height x) (row_height (item_form all) xs) (unit_height xs) (rows_high xs)
 
-  words_no_end : (exts : List ℕ) (ws : SpecWords) (s t : HeldScopes) (k : List Lexeme) → IsMix ws → AreSpecWords all ws → spec_words_scopes ws s ≡ Some t → not (is_end (kind_at (extensions_text exts (spec_words_text all ws k)))) ≡ true
+  words_no_end : (exts : List ℕ) (ws : SpecWords) (s t : HeldScopes) (k : List Lexeme) → IsMix ws → AreSpecWords all ws
+      → spec_words_scopes ws s ≡ Some t
+      → not (is_end (kind_at (extensions_text exts (spec_words_text all ws k)))) ≡ true
   words_no_end [] ws s t k mix fit named = not_false (specs_no_end s (kind_at (spec_words_text all ws k)) (firsts.words_begin ws s t k mix fit named))
   words_no_end (e ∷ exts) ws s t k mix fit named = refl
 
-  item_starts : (x : Item) (s t : HeldScopes) (k : List Lexeme) → IsItem all x → item_scopes x s ≡ Some t → not (is_end (kind_at (item_text all x k))) ≡ true
+  item_starts : (x : Item) (s t : HeldScopes) (k : List Lexeme) → IsItem all x → item_scopes x s ≡ Some t
+      → not (is_end (kind_at (item_text all x k))) ≡ true
   item_starts (semi_item semi) s t k fit named = refl
   item_starts (asm_item keyword group semi) s t k fit named = refl
   item_starts (decl_item (decl_assert it)) s t k fit named = refl
@@ -153,7 +91,8 @@ module _ (whole_are : WholeAreMixes) (goes : MixesGoOn) (all : List Lexeme) (num
       let b = behind_ok (spec_words_scopes ws s) _ t named in
       words_no_end exts ws s b.0 _ fit.0 fit.1 b.1
 
-  unit_read : (dialect : Bool) (room : ℕ) → 1 ≤ room → (items : List Item) → IsWellFormedAtAnyHeight dialect all items → unit_height items ≤ room → unit_of room dialect all ≡ done (found items (file_scope dialect) [])
+  unit_read : (dialect : Bool) (room : ℕ) → 1 ≤ room → (items : List Item) → IsWellFormedAtAnyHeight dialect all items
+      → unit_height items ≤ room → unit_of room dialect all ≡ done (found items (file_scope dialect) [])
   unfolding items_with
   unit_read dialect room one items w low =
       let end : List Lexeme = record { kind = kinds.End; at = w.tokens.last } ∷ [] in
@@ -169,7 +108,8 @@ module _ (whole_are : WholeAreMixes) (goes : MixesGoOn) (all : List Lexeme) (num
   rows_formed [] h = All-nil (IsItem all)
   rows_formed (x ∷ xs) h = All-cons (IsItem all) x xs h.0 (rows_formed xs h.1)
 
-  unit_sound : (dialect : Bool) (room : ℕ) → 1 ≤ room → (x : Found (List Item)) → unit_of room dialect all ≡ done x → IsWellFormedAtAnyHeight dialect all x.tree
+  unit_sound : (dialect : Bool) (room : ℕ) → 1 ≤ room → (x : Found (List Item)) → unit_of room dialect all ≡ done x
+      → IsWellFormedAtAnyHeight dialect all x.tree
   unfolding items_with
   unit_sound dialect room one x e =
       let a = bind_ok e in
@@ -178,7 +118,10 @@ module _ (whole_are : WholeAreMixes) (goes : MixesGoOn) (all : List Lexeme) (num
       let q = took_token all is_end kinds.End end_kind a.0.scopes a.0.rest b.0 i.left b.1 in
       at_last a.0 b.0 b.0.rest refl i q b.2
     where
-      at_last : (a : Found (List Item)) (b : Found ℕ) (rest : List Lexeme) → b.rest ≡ rest → Takes all (row_form (item_form all)) (room - 1) (file_scope dialect) all a → Took all kinds.End a.scopes a.rest b → alone dialect a.tree rest ≡ done x → IsWellFormedAtAnyHeight dialect all x.tree
+      at_last : (a : Found (List Item)) (b : Found ℕ) (rest : List Lexeme) → b.rest ≡ rest
+          → Takes all (row_form (item_form all)) (room - 1) (file_scope dialect) all a
+          → Took all kinds.End a.scopes a.rest b → alone dialect a.tree rest ≡ done x
+          → IsWellFormedAtAnyHeight dialect all x.tree
       at_last a b [] is i q e =
           subst (λ (x : Found (List Item)). IsWellFormedAtAnyHeight dialect all x.tree) (ok_is e) (record {
             tokens = record { last = b.tree; spelled = i.spelled ∙ rows_are a.tree a.rest ∙ ap (items_text all a.tree) (q.spelled ∙ ap (λ (k : List Lexeme). record { kind = kinds.End; at = b.tree } ∷ k) is) };

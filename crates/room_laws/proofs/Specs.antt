@@ -40,14 +40,16 @@ module _ (room wide : ℕ) (wider : room ≤ wide) where
   unfolding extensions_at
   exts_more s ts = more_repeated is_extension _ _ (λ s ts. more_fits 2 room wide ts _ _ wider (λ two. more_same (take_one s ts))) s ts
 
-  pub pointer_words_more : (s : HeldScopes) (ts : List Lexeme) → More (pointer_words_at room s ts) (pointer_words_at wide s ts)
+  pub pointer_words_more : (s : HeldScopes) (ts : List Lexeme)
+      → More (pointer_words_at room s ts) (pointer_words_at wide s ts)
   unfolding pointer_words_at pointer_word_at
   pointer_words_more s ts =
       more_repeated begins_pointer_word (pointer_word_at room) (pointer_word_at wide)
       (λ s ts. more_if (is_attribute (kind_at ts)) _ _ _ _ (more_fits 2 room wide ts _ _ wider (λ two. more_same _)) (more_same _)) s ts
 
 -- some attributes, for which there was room
-pub attrs_lead : (room : ℕ) (s : HeldScopes) (ts : List Lexeme) (x : Found (List Attr)) → attrs_at room s ts ≡ Ok x → (are_none x.tree ≡ true) ⊎ (1 ≤ room - 1)
+pub attrs_lead : (room : ℕ) (s : HeldScopes) (ts : List Lexeme) (x : Found (List Attr)) → attrs_at room s ts ≡ Ok x
+    → (are_none x.tree ≡ true) ⊎ (1 ≤ room - 1)
 unfolding attrs_at repeated
 attrs_lead room s ts x e = by_test (is_attribute (kind_at ts)) refl
   where
@@ -71,12 +73,14 @@ attrs_lead room s ts x e = by_test (is_attribute (kind_at ts)) refl
 
 module _ (n : ℕ) (inner other : Inner) (m : InnerMore n inner other) where
   module _ (room wide : ℕ) (less : room < suc n) (wider : room ≤ wide) where
-    pub specs_here_more : (role : Role) (s : HeldScopes) (ts : List Lexeme) → More (specs_here inner role room s ts) (specs_here other role wide s ts)
+    pub specs_here_more : (role : Role) (s : HeldScopes) (ts : List Lexeme)
+        → More (specs_here inner role room s ts) (specs_here other role wide s ts)
     unfolding specs_here
     specs_here_more role s ts =
         more_if (begins_role role s (kind_at ts)) _ _ _ _ (more_fits 2 room wide ts _ _ wider (λ two. m.words role no_words (room - 1) (wide - 1) (omega (arith, less, two)) (omega (arith, wider)) s ts)) (inr refl)
 
-    pub value_more : (test : TokenKind → Bool) (s : HeldScopes) (ts : List Lexeme) → More (value_with inner test room s ts) (value_with other test wide s ts)
+    pub value_more : (test : TokenKind → Bool) (s : HeldScopes) (ts : List Lexeme)
+        → More (value_with inner test room s ts) (value_with other test wide s ts)
     unfolding value_with
     value_more test s ts =
         more_if (test (kind_at ts)) _ _ _ _
@@ -90,19 +94,23 @@ module _ (n : ℕ) (inner other : Inner) (m : InnerMore n inner other) where
         (λ colon. more_bind _ _ _ _ (m.exprs Conditional nothing (room - 1) (wide - 1) (omega (arith, less, two)) (omega (arith, wider)) colon.scopes colon.rest)
         (λ e. more_bind _ _ _ _ (attrs_more room wide wider e.scopes e.rest) (λ attrs. refl))))
 
-  pub named_declr_more : (wanted : Option Kind) (room wide : ℕ) → room < n → room ≤ wide → (s : HeldScopes) (ts : List Lexeme) → More (named_declr inner wanted room s ts) (named_declr other wanted wide s ts)
+  pub named_declr_more : (wanted : Option Kind) (room wide : ℕ) → room < n → room ≤ wide
+      → (s : HeldScopes) (ts : List Lexeme)
+      → More (named_declr inner wanted room s ts) (named_declr other wanted wide s ts)
   unfolding named_declr
   named_declr_more wanted room wide less wider s ts = more_bind _ _ _ _ (m.declrs Named wanted false room wide less wider s ts) (λ d. more_same _)
 
   module _ (room wide : ℕ) (less : room < suc n) (one : 1 ≤ room) (wider : room ≤ wide) where
-    mem_declr_more : (s : HeldScopes) (ts : List Lexeme) → More (mem_declr_with inner room s ts) (mem_declr_with other wide s ts)
+    mem_declr_more : (s : HeldScopes) (ts : List Lexeme)
+        → More (mem_declr_with inner room s ts) (mem_declr_with other wide s ts)
     unfolding mem_declr_with field_with
     mem_declr_more s ts =
         more_if (is_colon (kind_at ts)) _ _ _ _ (width_more room wide less wider s ts)
         (more_bind _ _ _ _ (named_declr_more None (room - 1) (wide - 1) (omega (arith, less, one)) (omega (arith, wider)) s ts)
         (λ d. more_bind _ _ _ _ (value_more room wide less wider is_colon d.scopes d.rest) (λ width. more_bind _ _ _ _ (attrs_more room wide wider width.scopes width.rest) (λ attrs. refl))))
 
-    mem_declrs_more : (s : HeldScopes) (ts : List Lexeme) → More (mem_declrs_with inner room s ts) (mem_declrs_with other wide s ts)
+    mem_declrs_more : (s : HeldScopes) (ts : List Lexeme)
+        → More (mem_declrs_with inner room s ts) (mem_declrs_with other wide s ts)
     unfolding mem_declrs_with first_member next_member
     mem_declrs_more s ts =
         more_if (is_semicolon (kind_at ts)) _ _ _ _ refl
@@ -110,12 +118,14 @@ module _ (n : ℕ) (inner other : Inner) (m : InnerMore n inner other) where
         (λ x is comma s ts. more_bind _ _ _ _ (attrs_more room wide wider s ts) (λ attrs. more_bind _ _ _ _ (mem_declr_more attrs.scopes attrs.rest) (λ d. refl)))) (λ ds. refl))
 
   -- specifiers that were read had room for two levels
-  pub specs_two : (role : Role) (room : ℕ) (s : HeldScopes) (ts : List Lexeme) (x : Found SpecWords) → specs_here inner role room s ts ≡ Ok x → 2 ≤ room
+  pub specs_two : (role : Role) (room : ℕ) (s : HeldScopes) (ts : List Lexeme) (x : Found SpecWords)
+      → specs_here inner role room s ts ≡ Ok x → 2 ≤ room
   unfolding specs_here
   specs_two role room s ts x e = if_ok (begins_role role s (kind_at ts)) e (λ is e. (fits_ok 2 room ts e).0) (λ is e. absurd cc)
 
   module _ (room wide : ℕ) (less : room < suc n) (wider : room ≤ wide) where
-    struct_item_more : (s : HeldScopes) (ts : List Lexeme) → More (struct_item_with inner room s ts) (struct_item_with other wide s ts)
+    struct_item_more : (s : HeldScopes) (ts : List Lexeme)
+        → More (struct_item_with inner room s ts) (struct_item_with other wide s ts)
     unfolding struct_item_with member_with
     struct_item_more s ts =
         more_if (is_semicolon (kind_at ts)) _ _ _ _ (more_fits 1 room wide ts _ _ wider (λ fit. more_same _))
@@ -125,7 +135,8 @@ module _ (n : ℕ) (inner other : Inner) (m : InnerMore n inner other) where
         more_bind _ _ _ _ (mem_declrs_more (room - 1) (wide - 1) (omega (arith, less)) (omega (arith, two)) (omega (arith, wider)) words.scopes words.rest) (λ ds. more_same _)))))
 
   module _ (room wide : ℕ) (less : room < suc n) (wider : room ≤ wide) where
-    body_more : (tag : Option Identifier) → 1 ≤ room → (s : HeldScopes) (ts : List Lexeme) → More (body_with inner tag room s ts) (body_with other tag wide s ts)
+    body_more : (tag : Option Identifier) → 1 ≤ room → (s : HeldScopes) (ts : List Lexeme)
+        → More (body_with inner tag room s ts) (body_with other tag wide s ts)
     unfolding body_with members_with
     body_more tag one s ts =
         more_if (is_open_brace (kind_at ts)) _ _ _ _
@@ -133,13 +144,15 @@ module _ (n : ℕ) (inner other : Inner) (m : InnerMore n inner other) where
         (struct_item_more (room - 1) (wide - 1) (omega (arith, less)) (omega (arith, wider))) opening.scopes opening.rest) (λ items. more_same _)))
         (more_same _)
 
-    struct_more : (keyword : Keyword) → 1 ≤ room → (s : HeldScopes) (ts : List Lexeme) → More (struct_with inner keyword room s ts) (struct_with other keyword wide s ts)
+    struct_more : (keyword : Keyword) → 1 ≤ room → (s : HeldScopes) (ts : List Lexeme)
+        → More (struct_with inner keyword room s ts) (struct_with other keyword wide s ts)
     unfolding struct_with
     struct_more keyword one s ts =
         more_bind _ _ _ _ (more_same (take_one s ts)) (λ token. more_bind _ _ _ _ (attrs_more room wide wider token.scopes token.rest) (λ attrs. more_bind _ _ _ _ (more_same (tag_at attrs.scopes attrs.rest))
         (λ tag. more_bind _ _ _ _ (body_more tag.tree one tag.scopes tag.rest) (λ body. refl))))
 
-    enumerator_more : (s : HeldScopes) (ts : List Lexeme) → More (enumerator_with inner room s ts) (enumerator_with other wide s ts)
+    enumerator_more : (s : HeldScopes) (ts : List Lexeme)
+        → More (enumerator_with inner room s ts) (enumerator_with other wide s ts)
     unfolding enumerator_with enumerator_named enumerator_behind
     enumerator_more s ts =
         more_bind _ _ _ _ (more_same (name_at s ts)) (λ name. more_if (may_declare (innermost name.scopes) name.tree.name Constant) _ _ _ _
@@ -148,7 +161,8 @@ module _ (n : ℕ) (inner other : Inner) (m : InnerMore n inner other) where
         (inr refl))
 
   module _ (room wide : ℕ) (less : room < suc n) (wider : room ≤ wide) where
-    enum_body_more : (tag : Option Identifier) (s : HeldScopes) (ts : List Lexeme) → More (enum_body_with inner tag room s ts) (enum_body_with other tag wide s ts)
+    enum_body_more : (tag : Option Identifier) (s : HeldScopes) (ts : List Lexeme)
+        → More (enum_body_with inner tag room s ts) (enum_body_with other tag wide s ts)
     unfolding enum_body_with enumerators_with next_enumerator
     enum_body_more tag s ts =
         more_if (is_open_brace (kind_at ts)) _ _ _ _
@@ -174,21 +188,24 @@ module _ (n : ℕ) (inner other : Inner) (m : InnerMore n inner other) where
     typed_word_more keyword token opening two s ts =
         more_bind _ _ _ _ (m.types (room - 1) (wide - 1) (omega (arith, less, two)) (omega (arith, two)) (omega (arith, wider)) s ts) (λ t. more_same _)
 
-    typeof_more : 2 ≤ room → (s : HeldScopes) (ts : List Lexeme) → More (typeof_with inner room s ts) (typeof_with other wide s ts)
+    typeof_more : 2 ≤ room → (s : HeldScopes) (ts : List Lexeme)
+        → More (typeof_with inner room s ts) (typeof_with other wide s ts)
     unfolding typeof_with typeof_value_with
     typeof_more two s ts =
         more_bind _ _ _ _ (more_same (take_one s ts)) (λ keyword. more_bind _ _ _ _ (more_same (token_at is_open_paren keyword.scopes keyword.rest))
         (λ opening. more_if (begins_specs opening.scopes (kind_at opening.rest)) _ _ _ _ (typed_word_more _ keyword.tree opening.tree two opening.scopes opening.rest)
         (more_bind _ _ _ _ (m.exprs Whole nothing (room - 1) (wide - 1) (omega (arith, less, two)) (omega (arith, wider)) opening.scopes opening.rest) (λ e. more_same _))))
 
-    atomic_more : 2 ≤ room → (s : HeldScopes) (ts : List Lexeme) → More (atomic_with inner room s ts) (atomic_with other wide s ts)
+    atomic_more : 2 ≤ room → (s : HeldScopes) (ts : List Lexeme)
+        → More (atomic_with inner room s ts) (atomic_with other wide s ts)
     unfolding atomic_with
     atomic_more two s ts =
         more_bind _ _ _ _ (more_same (take_one s ts)) (λ keyword. more_bind _ _ _ _ (more_same (token_at is_open_paren keyword.scopes keyword.rest))
         (λ opening. typed_word_more _ keyword.tree opening.tree two opening.scopes opening.rest))
 
   module _ (room wide : ℕ) (less : room < suc n) (wider : room ≤ wide) where
-    word_by_more : (start : SpecStart) → least_of start ≤ room → (s : HeldScopes) (ts : List Lexeme) → More (word_by inner start room s ts) (word_by other start wide s ts)
+    word_by_more : (start : SpecStart) → least_of start ≤ room → (s : HeldScopes) (ts : List Lexeme)
+        → More (word_by inner start room s ts) (word_by other start wide s ts)
     unfolding word_by
     word_by_more (starts.Storage keyword) fit s ts = more_same _
     word_by_more starts.Thread fit s ts = more_same _
@@ -208,7 +225,8 @@ module _ (n : ℕ) (inner other : Inner) (m : InnerMore n inner other) where
     word_by_more starts.Auto fit s ts = more_same _
     word_by_more starts.Nothing fit s ts = inr refl
 
-    pub specs_more : (role : Role) (words : SpecWords) (s : HeldScopes) (ts : List Lexeme) → More (specs_with inner role words room s ts) (specs_with other role words wide s ts)
+    pub specs_more : (role : Role) (words : SpecWords) (s : HeldScopes) (ts : List Lexeme)
+        → More (specs_with inner role words room s ts) (specs_with other role words wide s ts)
     unfolding specs_with word_with
     specs_more role words s ts =
         more_bind _ _ _ _ (more_run (word_turn inner role room) (word_turn other role wide) (λ words s ts. more_unless (ends_before s words (start_at s (is_typed words) (kind_at ts))) _ _

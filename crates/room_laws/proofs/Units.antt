@@ -31,7 +31,8 @@ use Rattle.room_laws.proofs.Stmts.{init_list_more, some_init_more, declr_behind_
 
 module _ (n : ℕ) (inner other : Inner) (m : InnerMore n inner other) where
   -- each statement asks for a level at its first token
-  stmt_none : (wide : ℕ) (start : StmtStart) (s : HeldScopes) (ts : List Lexeme) → More (stmt_by inner start 0 s ts) (stmt_by other start wide s ts)
+  stmt_none : (wide : ℕ) (start : StmtStart) (s : HeldScopes) (ts : List Lexeme)
+      → More (stmt_by inner start 0 s ts) (stmt_by other start wide s ts)
   unfolding stmt_by block_with case_with default_with named_stmt goto_with jump_with return_with asm_with attr_stmt_with
   stmt_none wide starts.Block s ts = more_bind _ _ _ _ (more_if (is_open_brace (kind_at ts)) _ _ _ _ (more_fits 1 0 wide ts _ _ (omega arith) (λ fit. absurd (omega (arith, fit)))) (inr refl)) (λ b. refl)
   stmt_none wide starts.Semicolon s ts = more_fits 1 0 wide ts _ _ (omega arith) (λ fit. absurd (omega (arith, fit)))
@@ -51,7 +52,8 @@ module _ (n : ℕ) (inner other : Inner) (m : InnerMore n inner other) where
   stmt_none wide starts.Asm s ts = more_fits 1 0 wide ts _ _ (omega arith) (λ fit. absurd (omega (arith, fit)))
   stmt_none wide starts.Value s ts = more_if (begins_expr s (kind_at ts)) _ _ _ _ (more_fits 2 0 wide ts _ _ (omega arith) (λ fit. absurd (omega (arith, fit)))) (inr refl)
 
-  stmt_more : (room wide : ℕ) → room < suc n → room ≤ wide → (s : HeldScopes) (ts : List Lexeme) → More (stmt_with inner room s ts) (stmt_with other wide s ts)
+  stmt_more : (room wide : ℕ) → room < suc n → room ≤ wide → (s : HeldScopes) (ts : List Lexeme)
+      → More (stmt_with inner room s ts) (stmt_with other wide s ts)
   unfolding stmt_with
   stmt_more zero wide less wider s ts = stmt_none wide (stmt_start (kind_at ts)) s ts
   stmt_more (suc room) wide less wider s ts = stmt_by_more n inner other m (suc room) wide less (omega arith) wider (stmt_start (kind_at ts)) s ts
@@ -70,7 +72,8 @@ module _ (n : ℕ) (inner other : Inner) (m : InnerMore n inner other) where
   -- Items of a unit.
 
   module _ (room wide : ℕ) (less : room < suc n) (two : 2 ≤ room) (wider : room ≤ wide) where
-    attrs_behind_more : (d : Declr) (attrs : List Attr) (s : HeldScopes) (ts : List Lexeme) → More (attrs_behind inner d attrs (room - 1) s ts) (attrs_behind other d attrs (wide - 1) s ts)
+    attrs_behind_more : (d : Declr) (attrs : List Attr) (s : HeldScopes) (ts : List Lexeme)
+        → More (attrs_behind inner d attrs (room - 1) s ts) (attrs_behind other d attrs (wide - 1) s ts)
     unfolding attrs_behind
     attrs_behind_more d attrs s ts = more_bind _ _ _ _ (some_init_more n inner other m (room - 1) (wide - 1) (omega (arith, less)) (omega (arith, two)) (omega (arith, wider)) s ts) (λ init. refl)
 
@@ -83,7 +86,8 @@ module _ (n : ℕ) (inner other : Inner) (m : InnerMore n inner other) where
         (more_if (goes_on_declared (kind_at ts)) _ _ _ _
         (more_fits (2 + declr_height d) room wide ts _ _ wider (λ fit. more_bind _ _ _ _ (declrs_more n inner other m room wide less two wider exts words Value _ _ s ts (attrs_behind_more d attrs s ts)) (λ d. refl))) (inr refl))
 
-    declared_more : (exts : List ℕ) (words : SpecWords) (d : Declr) (s : HeldScopes) (ts : List Lexeme) → More (declr_behind inner [] d (room - 1) s ts) (declr_behind other [] d (wide - 1) s ts)
+    declared_more : (exts : List ℕ) (words : SpecWords) (d : Declr) (s : HeldScopes) (ts : List Lexeme)
+        → More (declr_behind inner [] d (room - 1) s ts) (declr_behind other [] d (wide - 1) s ts)
     declared_more exts words d s ts = declr_behind_more n inner other m (room - 1) (wide - 1) (omega (arith, less)) (omega (arith, two)) (omega (arith, wider)) [] d s ts
 
     behind_declr_more : (exts : List ℕ) (words : SpecWords) (d : Declr) (closed : Option HeldScope) (s : HeldScopes) (ts : List Lexeme) →
@@ -96,7 +100,8 @@ module _ (n : ℕ) (inner other : Inner) (m : InnerMore n inner other) where
         (more_bind _ _ _ _ (attrs_more room wide wider s ts) (λ attrs. function_or_not_more exts words d attrs.tree closed attrs.scopes attrs.rest))
 
     -- declarations behind a list of identifiers
-    old_declaration_more : (s : HeldScopes) (ts : List Lexeme) → More (old_declaration inner (room - 1) s ts) (old_declaration other (wide - 1) s ts)
+    old_declaration_more : (s : HeldScopes) (ts : List Lexeme)
+        → More (old_declaration inner (room - 1) s ts) (old_declaration other (wide - 1) s ts)
     unfolding old_declaration
     old_declaration_more s ts =
         more_bind _ _ _ _ (exts_more (room - 1) (wide - 1) (omega (arith, wider)) s ts)
@@ -104,7 +109,8 @@ module _ (n : ℕ) (inner other : Inner) (m : InnerMore n inner other) where
         (λ words is. declaration_behind_more n inner other m (room - 1) (wide - 1) (omega (arith, less)) (specs_two n inner other m Declaring (room - 1) exts.scopes exts.rest words is) (omega (arith, wider)) exts.tree words.tree
         words.scopes words.rest))
 
-    old_function_more : (exts : List ℕ) (words : SpecWords) (d : Declr) (s : HeldScopes) (ts : List Lexeme) → More (old_function_with inner exts words d room s ts) (old_function_with other exts words d wide s ts)
+    old_function_more : (exts : List ℕ) (words : SpecWords) (d : Declr) (s : HeldScopes) (ts : List Lexeme)
+        → More (old_function_with inner exts words d room s ts) (old_function_with other exts words d wide s ts)
     unfolding old_function_with
     old_function_more exts words d s ts =
         more_bind _ _ _ _ (attrs_more room wide wider s ts)
@@ -112,7 +118,8 @@ module _ (n : ℕ) (inner other : Inner) (m : InnerMore n inner other) where
         (λ ds. more_bind _ _ _ _ (block_body_more n inner other m (room - 1) (wide - 1) (omega (arith, less)) (omega (arith, two)) (omega (arith, wider)) (reopen (innermost ds.scopes) (release Value (leave ds.scopes))) ds.rest)
         (λ body. refl)))
 
-    first_declr_more : (exts : List ℕ) (words : SpecWords) (s : HeldScopes) (ts : List Lexeme) → More (first_declr inner exts words room s ts) (first_declr other exts words wide s ts)
+    first_declr_more : (exts : List ℕ) (words : SpecWords) (s : HeldScopes) (ts : List Lexeme)
+        → More (first_declr inner exts words room s ts) (first_declr other exts words wide s ts)
     unfolding first_declr
     first_declr_more exts words s ts =
         more_bind _ _ _ _ (m.declrs Named (Some Value) true (room - 2) (wide - 2) (omega (arith, less, two)) (omega (arith, wider)) s ts)
@@ -120,7 +127,8 @@ module _ (n : ℕ) (inner other : Inner) (m : InnerMore n inner other) where
         (behind_declr_more exts words known.tree d.tree.closed (release Value known.scopes) known.rest)))
 
   module _ (room wide : ℕ) (less : room < suc n) (wider : room ≤ wide) where
-    declared_item_more : (s : HeldScopes) (ts : List Lexeme) → More (declared_item inner room s ts) (declared_item other wide s ts)
+    declared_item_more : (s : HeldScopes) (ts : List Lexeme)
+        → More (declared_item inner room s ts) (declared_item other wide s ts)
     unfolding declared_item bare_declaration
     declared_item_more s ts =
         more_bind _ _ _ _ (exts_more room wide wider s ts) (λ exts. more_behind _ _ _ _ (specs_here_more n inner other m room wide less wider Declaring exts.scopes exts.rest)

@@ -1,4 +1,5 @@
--- What a reader does with more room: it answers the same, and refuses the same token with the same fault unless that is the
+-- What a reader does with more room: it answers the same, and refuses the same token with the same fault unless that is
+-- the
 -- height.
 use Rattle.std.specs.Prelude.{◌≡◌, ℕ, ◌<◌, ◌≤◌, ◌-◌, ◌⊎◌, Bool, true, false, suc, List, [], Option, Result, Ok, Err}
 use Rattle.c_tree.specs.declared.lexeme.Lexeme.{Lexeme}
@@ -17,6 +18,7 @@ use Rattle.c_reading.specs.Items.{items_with}
 use Rattle.c_reading.specs.Knot.{knot, alone}
 use Rattle.refusal_rules.specs.Allowed.{IsWellFormedAtAnyHeight}
 
+-- what is answered with more room beside what is answered with less: the same, unless that was refused for the height
 abbrev pub More : {A : Type 0} → Result A Refusal → Result A Refusal → Type 0
 More (Ok x) other = other ≡ Ok x
 More (Err e) other = (e.0 ≡ TooDeep) ⊎ (other ≡ Err e)
@@ -28,14 +30,21 @@ number_of false room = room
 
 -- of the readers of two numbers, with rooms below the first
 pub record InnerMore (n : ℕ) (inner other : Inner) : Type 0 where
-  pub exprs : (reach : Reach) (begun : Begun) (room wide : ℕ) → room < n → room ≤ wide → (s : HeldScopes) (ts : List Lexeme) → More (inner.expr reach begun room s ts) (other.expr reach begun wide s ts)
-  pub types : (room wide : ℕ) → room < n → 1 ≤ room → room ≤ wide → (s : HeldScopes) (ts : List Lexeme) → More (inner.type_name room s ts) (other.type_name wide s ts)
-  pub words : (role : Role) (words : SpecWords) (room wide : ℕ) → room < n → room ≤ wide → (s : HeldScopes) (ts : List Lexeme) → More (inner.specs role words room s ts) (other.specs role words wide s ts)
-  pub declrs : (mode : Mode) (wanted : Option Kind) (flag : Bool) (room wide : ℕ) → number_of flag room < n → room ≤ wide → (s : HeldScopes) (ts : List Lexeme) →
+  pub exprs : (reach : Reach) (begun : Begun) (room wide : ℕ) → room < n → room ≤ wide
+      → (s : HeldScopes) (ts : List Lexeme) → More (inner.expr reach begun room s ts) (other.expr reach begun wide s ts)
+  pub types : (room wide : ℕ) → room < n → 1 ≤ room → room ≤ wide → (s : HeldScopes) (ts : List Lexeme)
+      → More (inner.type_name room s ts) (other.type_name wide s ts)
+  pub words : (role : Role) (words : SpecWords) (room wide : ℕ) → room < n → room ≤ wide
+      → (s : HeldScopes) (ts : List Lexeme) → More (inner.specs role words room s ts) (other.specs role words wide s ts)
+  pub declrs : (mode : Mode) (wanted : Option Kind) (flag : Bool) (room wide : ℕ) → number_of flag room < n
+      → room ≤ wide → (s : HeldScopes) (ts : List Lexeme) →
       More (inner.declr mode wanted flag room s ts) (other.declr mode wanted flag wide s ts)
-  pub lists : (room wide : ℕ) → room < n → room ≤ wide → (s : HeldScopes) (ts : List Lexeme) → More (inner.init_list room s ts) (other.init_list wide s ts)
-  pub blocks : (room wide : ℕ) → room < n → room ≤ wide → (s : HeldScopes) (ts : List Lexeme) → More (inner.block room s ts) (other.block wide s ts)
-  pub stmts : (room wide : ℕ) → room < n → room ≤ wide → (s : HeldScopes) (ts : List Lexeme) → More (inner.stmt room s ts) (other.stmt wide s ts)
+  pub lists : (room wide : ℕ) → room < n → room ≤ wide → (s : HeldScopes) (ts : List Lexeme)
+      → More (inner.init_list room s ts) (other.init_list wide s ts)
+  pub blocks : (room wide : ℕ) → room < n → room ≤ wide → (s : HeldScopes) (ts : List Lexeme)
+      → More (inner.block room s ts) (other.block wide s ts)
+  pub stmts : (room wide : ℕ) → room < n → room ≤ wide → (s : HeldScopes) (ts : List Lexeme)
+      → More (inner.stmt room s ts) (other.stmt wide s ts)
 
 -- a unit of at most this height; that of 500 is the reader of units
 abbrev pub unit_of : ℕ → Bool → List Lexeme → Read (List Item)

@@ -35,7 +35,8 @@ module _ (n : ℕ) where
   not_here m xs i is lt other so = ap (λ b. b || has_number n (drop (i + 1) xs)) (sym (ne_eqb n m other))
       ∙ ap (has_number n) (sym (there m xs i is lt)) ∙ so
 
-  pub no_number : (xs : List ℕ) (i : ℕ) → length xs ≤ i → has_number n (drop i xs) ≡ has_number n xs → false ≡ has_number n xs
+  pub no_number : (xs : List ℕ) (i : ℕ) → length xs ≤ i → has_number n (drop i xs) ≡ has_number n xs
+      → false ≡ has_number n xs
   no_number xs i le so = ap (has_number n) (sym (past xs i le)) ∙ so
 
 module _ (ms : List ℕ) where
@@ -49,7 +50,8 @@ module _ (ms : List ℕ) where
   has_one n xs i is lt has so = ap (λ b. b && is_within (drop (i + 1) xs) ms) has
       ∙ ap (λ ys. is_within ys ms) (sym (there n xs i is lt)) ∙ so
 
-  pub has_all : (xs : List ℕ) (i : ℕ) → length xs ≤ i → is_within (drop i xs) ms ≡ is_within xs ms → true ≡ is_within xs ms
+  pub has_all : (xs : List ℕ) (i : ℕ) → length xs ≤ i → is_within (drop i xs) ms ≡ is_within xs ms
+      → true ≡ is_within xs ms
   has_all xs i le so = ap (λ ys. is_within ys ms) (sym (past xs i le)) ∙ so
 
 -- the lattices of values
@@ -101,9 +103,11 @@ module _ (w : World) (m : ℕ) (is : m ≡ value_lattices w) where
     row_is : all_below_in m (map indexed_of xs) (map indexed_of xs) ≡ below_all w ns ns
     row_is = ap (λ ys. all_below_in m ys ys) shown ∙ all_is ns ns
 
-    pub below_all_added : (a b : System) → b ≡ with a (all_below_in m (map indexed_of xs) (map indexed_of xs)) → b ≡ with a (below_all w ns ns)
+    pub below_all_added : (a b : System) → b ≡ with a (all_below_in m (map indexed_of xs) (map indexed_of xs))
+        → b ≡ with a (below_all w ns ns)
     below_all_added a b added = added ∙ ap (with a) row_is
 
-    pub below_all_stops : (a b : System) (f : GraphFault) → StopsEarly a b f (all_below_in m (map indexed_of xs) (map indexed_of xs))
+    pub below_all_stops : (a b : System) (f : GraphFault)
+        → StopsEarly a b f (all_below_in m (map indexed_of xs) (map indexed_of xs))
         → StopsEarly a b f (below_all w ns ns)
     below_all_stops a b f stop = subst (StopsEarly a b f) row_is stop

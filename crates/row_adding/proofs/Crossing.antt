@@ -18,7 +18,8 @@ module _ (w : World) (token : ℕ) (p here : Place) (s : Span) where
       ∙ ap (λ (x : Span). in_all w x (cross (site_number w (at w token)) (skeleton w p) (skeleton w (at w token)))) spanned
 
   pub crossed : here ≡ at w token → s ≡ span w token token → (old new : System)
-      → new ≡ with old (in_all w s (cross (site_number w here) (skeleton w p) (skeleton w here))) → new ≡ with old (instance_row w token p)
+      → new ≡ with old (in_all w s (cross (site_number w here) (skeleton w p) (skeleton w here)))
+      → new ≡ with old (instance_row w token p)
   crossed place spanned old new is = is ∙ ap (with old) (crossing place spanned)
 
   pub crossing_stops : here ≡ at w token → s ≡ span w token token → (old new : System) (f : GraphFault)

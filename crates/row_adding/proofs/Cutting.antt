@@ -41,7 +41,8 @@ module _ (w : World) (l : ℕ) where
   here p xs n is lt = ap (names_lattice w l) (there p xs n is lt) ∙ split p (drop (n + 1) xs)
 
   pub named_here : (p : Place) (xs : Words) (n : ℕ) → p ≡ slice_index_or xs n p → n < length xs
-      → true ≡ names_lattice w l (p ∷ []) → names_lattice w l (drop n xs) ≡ names_lattice w l xs → true ≡ names_lattice w l xs
+      → true ≡ names_lattice w l (p ∷ []) → names_lattice w l (drop n xs) ≡ names_lattice w l xs
+      → true ≡ names_lattice w l xs
   named_here p xs n is lt holds so = ap (λ b. b || names_lattice w l (drop (n + 1) xs)) holds ∙ sym (here p xs n is lt) ∙ so
 
   pub not_here : (p : Place) (xs : Words) (n : ℕ) → p ≡ slice_index_or xs n p → n < length xs
@@ -49,7 +50,8 @@ module _ (w : World) (l : ℕ) where
       → names_lattice w l (drop (n + 1) xs) ≡ names_lattice w l xs
   not_here p xs n is lt fails so = ap (λ b. b || names_lattice w l (drop (n + 1) xs)) fails ∙ sym (here p xs n is lt) ∙ so
 
-  pub none_named : (xs : Words) (n : ℕ) → length xs ≤ n → names_lattice w l (drop n xs) ≡ names_lattice w l xs → false ≡ names_lattice w l xs
+  pub none_named : (xs : Words) (n : ℕ) → length xs ≤ n → names_lattice w l (drop n xs) ≡ names_lattice w l xs
+      → false ≡ names_lattice w l xs
   none_named xs n le so = none xs n le ∙ so
     where
       none : (xs : Words) (n : ℕ) → length xs ≤ n → false ≡ names_lattice w l (drop n xs)

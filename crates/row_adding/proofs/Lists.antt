@@ -33,7 +33,8 @@ take_back n [] ys = let e : 0 + n ≡ n = omega arith in ap (λ k. take k ys) e
 take_back n (x ∷ xs) ys = let e : length (x ∷ xs) + n ≡ suc (length xs + n) = omega arith in rw e (ap (λ (l : List Constraint). x ∷ l) (take_back n xs ys))
 
 -- an adding that stops in the first list, and one that stops in the second
-pub stop_front : (a b : System) (f : GraphFault) (xs ys : List Constraint) → StopsEarly a b f xs → StopsEarly a b f (xs ++ ys)
+pub stop_front : (a b : System) (f : GraphFault) (xs ys : List Constraint) → StopsEarly a b f xs
+    → StopsEarly a b f (xs ++ ys)
 stop_front a b f xs ys h = record {
   added = h.added;
   within = let l = h.within in let m = length-append xs ys in omega (arith, l, m);
@@ -41,7 +42,8 @@ stop_front a b f xs ys h = record {
   full = λ is. let l = h.full is in let m = length-append xs ys in let le = l.0 in (omega (arith, le, m), l.1);
 }
 
-pub stop_back : (a b c : System) (f : GraphFault) (xs ys : List Constraint) → b ≡ with a xs → StopsEarly b c f ys → StopsEarly a c f (xs ++ ys)
+pub stop_back : (a b c : System) (f : GraphFault) (xs ys : List Constraint) → b ≡ with a xs → StopsEarly b c f ys
+    → StopsEarly a c f (xs ++ ys)
 stop_back a b c f xs ys e h = record {
   added = length xs + h.added;
   within = let l = h.within in let m = length-append xs ys in omega (arith, l, m);
@@ -75,14 +77,17 @@ marked_is m s [] = refl
 marked_is m s (link ∷ links) = ap (λ (l : List Constraint). constraint m s link ∷ l) (marked_is m s links)
 
 -- what is marked by links, as constraints
-pub with_marked : (a b : System) (m : ℕ) (s : Span) (links : List Link) → b ≡ with a (marked m s links) → b ≡ with a (constraints m s links)
+pub with_marked : (a b : System) (m : ℕ) (s : Span) (links : List Link) → b ≡ with a (marked m s links)
+    → b ≡ with a (constraints m s links)
 with_marked a b m s links is = is ∙ ap (with a) (marked_is m s links)
 
-pub stop_marked : (a b : System) (f : GraphFault) (m : ℕ) (s : Span) (links : List Link) → Stops a b f (marked m s links) → StopsEarly a b f (constraints m s links)
+pub stop_marked : (a b : System) (f : GraphFault) (m : ℕ) (s : Span) (links : List Link)
+    → Stops a b f (marked m s links) → StopsEarly a b f (constraints m s links)
 stop_marked a b f m s links h = subst (StopsEarly a b f) (marked_is m s links) (stop_is a b f (marked m s links) h)
 
 -- one constraint that was refused
-pub stop_one : (a b : System) (f : GraphFault) (c : Constraint) → b ≡ a → (f ≡ TooMany) ↔ (length a.constraints ≡ most_constraints) → StopsEarly a b f (c ∷ [])
+pub stop_one : (a b : System) (f : GraphFault) (c : Constraint) → b ≡ a
+    → (f ≡ TooMany) ↔ (length a.constraints ≡ most_constraints) → StopsEarly a b f (c ∷ [])
 stop_one a b f c same cause = record {
   added = 0;
   within = omega arith;
@@ -90,21 +95,27 @@ stop_one a b f c same cause = record {
   full = λ is. (omega arith, ap (λ (s : System). length s.constraints) same ∙ cause.0 is);
 }
 
-pub smashed : (a b : System) (m : ℕ) (s : Span) (x : Skel) (e : ℕ) → b ≡ with a (marked m s (smash x e)) → b ≡ with a (constraints m s (smash x e))
+pub smashed : (a b : System) (m : ℕ) (s : Span) (x : Skel) (e : ℕ) → b ≡ with a (marked m s (smash x e))
+    → b ≡ with a (constraints m s (smash x e))
 smashed a b m s x e is = with_marked a b m s (smash x e) is
 
-pub smash_stops : (a b : System) (f : GraphFault) (m : ℕ) (s : Span) (x : Skel) (e : ℕ) → Stops a b f (marked m s (smash x e)) → StopsEarly a b f (constraints m s (smash x e))
+pub smash_stops : (a b : System) (f : GraphFault) (m : ℕ) (s : Span) (x : Skel) (e : ℕ)
+    → Stops a b f (marked m s (smash x e)) → StopsEarly a b f (constraints m s (smash x e))
 smash_stops a b f m s x e stop = stop_marked a b f m s (smash x e) stop
 
-pub unsmashed : (a b : System) (m : ℕ) (s : Span) (x : Skel) (e : ℕ) → b ≡ with a (marked m s (unsmash e x)) → b ≡ with a (constraints m s (unsmash e x))
+pub unsmashed : (a b : System) (m : ℕ) (s : Span) (x : Skel) (e : ℕ) → b ≡ with a (marked m s (unsmash e x))
+    → b ≡ with a (constraints m s (unsmash e x))
 unsmashed a b m s x e is = with_marked a b m s (unsmash e x) is
 
-pub unsmash_stops : (a b : System) (f : GraphFault) (m : ℕ) (s : Span) (x : Skel) (e : ℕ) → Stops a b f (marked m s (unsmash e x)) → StopsEarly a b f (constraints m s (unsmash e x))
+pub unsmash_stops : (a b : System) (f : GraphFault) (m : ℕ) (s : Span) (x : Skel) (e : ℕ)
+    → Stops a b f (marked m s (unsmash e x)) → StopsEarly a b f (constraints m s (unsmash e x))
 unsmash_stops a b f m s x e stop = stop_marked a b f m s (unsmash e x) stop
 
 -- the same in lattices that are as many
-pub with_all : (a b : System) (m n : ℕ) (s : Span) (links : List Link) → m ≡ n → b ≡ with a (marked m s links) → b ≡ with a (constraints n s links)
+pub with_all : (a b : System) (m n : ℕ) (s : Span) (links : List Link) → m ≡ n → b ≡ with a (marked m s links)
+    → b ≡ with a (constraints n s links)
 with_all a b m n s links same is = with_marked a b m s links is ∙ ap (λ k. with a (constraints k s links)) same
 
-pub stop_all : (a b : System) (f : GraphFault) (m n : ℕ) (s : Span) (links : List Link) → m ≡ n → Stops a b f (marked m s links) → StopsEarly a b f (constraints n s links)
+pub stop_all : (a b : System) (f : GraphFault) (m n : ℕ) (s : Span) (links : List Link) → m ≡ n
+    → Stops a b f (marked m s links) → StopsEarly a b f (constraints n s links)
 stop_all a b f m n s links same stop = subst (λ k. StopsEarly a b f (constraints k s links)) same (stop_marked a b f m s links stop)

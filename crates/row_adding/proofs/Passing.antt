@@ -65,14 +65,17 @@ module _ (ways : Ways) (skeletons : List Numbered) (s : Span) (v : ℕ) where
   pub none_passes : (own : List Own) (a : System) → ways.field ≡ 0 → a ≡ with a (into_members ways skeletons s v own)
   none_passes own a none = with_none a ∙ ap (with a) (sym (no_fields ways skeletons s v own none))
 
-  pub no_body_passes : (all : List Aggregate) (n : ℕ) (a : System) → None ≡ body_of all n → a ≡ with a (into_members ways skeletons s v (own_of all n))
+  pub no_body_passes : (all : List Aggregate) (n : ℕ) (a : System) → None ≡ body_of all n
+      → a ≡ with a (into_members ways skeletons s v (own_of all n))
   no_body_passes all n a none = with_none a ∙ ap (λ own. with a (into_members ways skeletons s v own)) (sym (no_own all n (sym none)))
 
-  pub members_added : (all : List Aggregate) (n : ℕ) (body : Body) (a b : System) → Some body ≡ body_of all n → b ≡ with a (into_members ways skeletons s v body.own)
+  pub members_added : (all : List Aggregate) (n : ℕ) (body : Body) (a b : System) → Some body ≡ body_of all n
+      → b ≡ with a (into_members ways skeletons s v body.own)
       → b ≡ with a (into_members ways skeletons s v (own_of all n))
   members_added all n body a b is added = added ∙ ap (λ own. with a (into_members ways skeletons s v own)) (sym (own_are all n body (sym is)))
 
-  pub members_stop : (all : List Aggregate) (n : ℕ) (body : Body) (a b : System) (f : GraphFault) → Some body ≡ body_of all n → StopsEarly a b f (into_members ways skeletons s v body.own)
+  pub members_stop : (all : List Aggregate) (n : ℕ) (body : Body) (a b : System) (f : GraphFault)
+      → Some body ≡ body_of all n → StopsEarly a b f (into_members ways skeletons s v body.own)
       → StopsEarly a b f (into_members ways skeletons s v (own_of all n))
   members_stop all n body a b f is stop = subst (λ own. StopsEarly a b f (into_members ways skeletons s v own)) (sym (own_are all n body (sym is))) stop
 
@@ -94,13 +97,15 @@ module _ (ways : Ways) (skeletons : List Numbered) (all : List Aggregate) (s : S
     none_in_params no_skels = refl
     none_in_params (more_skels t ts) = ap (λ (rows : List Constraint). rows ++ all_formed_in ways skeletons all s ts) (none_inside t) ∙ none_in_params ts
 
-none_by : (ways : Ways) (skeletons : List Numbered) (all : List Aggregate) (s : Span) (t : Skel) (a b d : Bool) → nat_eq ways.up 0 ≡ a → nat_eq ways.down 0 ≡ b → nat_eq ways.field 0 ≡ d → (a && b && d) ≡ true
+none_by : (ways : Ways) (skeletons : List Numbered) (all : List Aggregate) (s : Span) (t : Skel) (a b d : Bool)
+    → nat_eq ways.up 0 ≡ a → nat_eq ways.down 0 ≡ b → nat_eq ways.field 0 ≡ d → (a && b && d) ≡ true
     → formed_in ways skeletons all s t ≡ []
 none_by ways skeletons all s t true true true e f g h = none_inside ways skeletons all s (eqb-true ways.up 0 e) (eqb-true ways.down 0 f) (eqb-true ways.field 0 g) t
 none_by ways skeletons all s t true true false e f g h = absurd cc
 none_by ways skeletons all s t true false d e f g h = absurd cc
 none_by ways skeletons all s t false b d e f g h = absurd cc
 
-pub none_formed : (ways : Ways) (skeletons : List Numbered) (all : List Aggregate) (s : Span) (t : Skel) (a : System) → passes_none ways ≡ true → a ≡ with a (formed_in ways skeletons all s t)
+pub none_formed : (ways : Ways) (skeletons : List Numbered) (all : List Aggregate) (s : Span) (t : Skel) (a : System)
+    → passes_none ways ≡ true → a ≡ with a (formed_in ways skeletons all s t)
 none_formed ways skeletons all s t a h =
     with_none a ∙ ap (with a) (sym (none_by ways skeletons all s t (nat_eq ways.up 0) (nat_eq ways.down 0) (nat_eq ways.field 0) refl refl refl h))

@@ -14,7 +14,8 @@ append_nil (x ∷ xs) = ap (λ (l : List Constraint). x ∷ l) (append_nil xs)
 -- the rows of each of some items, where those of more are the first one's and then the others'
 module _ {X : Type 0} (row : X → List Constraint) (rows : List X → List Constraint) (none : rows [] ≡ [])
     (more : (x : X) (xs : List X) → rows (x ∷ xs) ≡ row x ++ rows xs) where
-  up_to : (xs : List X) (i : ℕ) (x : X) → x ≡ slice_index_or xs i x → i < length xs → rows (take (i + 1) xs) ≡ rows (take i xs) ++ row x
+  up_to : (xs : List X) (i : ℕ) (x : X) → x ≡ slice_index_or xs i x → i < length xs
+      → rows (take (i + 1) xs) ≡ rows (take i xs) ++ row x
   up_to [] i x is lt = absurd (omega arith)
   up_to (y ∷ ys) zero x is lt = more y [] ∙ ap (λ (l : List Constraint). row y ++ l) none ∙ append_nil (row y) ∙ ap row (sym is)
       ∙ ap (λ (l : List Constraint). l ++ row x) (sym none)
@@ -47,10 +48,12 @@ module _ {X : Type 0} (row : X → List Constraint) (rows : List X → List Cons
   one_added a b c xs i x is lt before here = here ∙ ap (λ g. with g (row x)) before
       ∙ sym (with_append a (rows (take i xs)) (row x)) ∙ ap (with a) (sym (up_to xs i x is lt))
 
-  pub all_added : (a b : System) (xs : List X) (i : ℕ) → length xs ≤ i → b ≡ with a (rows (take i xs)) → b ≡ with a (rows xs)
+  pub all_added : (a b : System) (xs : List X) (i : ℕ) → length xs ≤ i → b ≡ with a (rows (take i xs))
+      → b ≡ with a (rows xs)
   all_added a b xs i le before = before ∙ ap (λ (l : List X). with a (rows l)) (all_of xs i le)
 
-  pub stops_at_one : (a b c : System) (f : GraphFault) (xs : List X) (i : ℕ) (x : X) → x ≡ slice_index_or xs i x → i < length xs
+  pub stops_at_one : (a b c : System) (f : GraphFault) (xs : List X) (i : ℕ) (x : X) → x ≡ slice_index_or xs i x
+      → i < length xs
       → b ≡ with a (rows (take i xs)) → StopsEarly b c f (row x) → StopsEarly a c f (rows xs)
   stops_at_one a b c f xs i x is lt before stop =
       subst (StopsEarly a c f) (whole xs i x is lt)

@@ -17,7 +17,8 @@ append_nil [] = refl
 append_nil (x ∷ xs) = ap (λ (l : List Constraint). x ∷ l) (append_nil xs)
 
 module _ (w : World) where
-  pub annotations_append : (xs ys : List Annotation) → annotation_constraints w (xs ++ ys) ≡ annotation_constraints w xs ++ annotation_constraints w ys
+  pub annotations_append : (xs ys : List Annotation)
+      → annotation_constraints w (xs ++ ys) ≡ annotation_constraints w xs ++ annotation_constraints w ys
   annotations_append [] ys = refl
   annotations_append (x ∷ xs) ys =
       ap (λ (l : List Constraint). marked w (w.mark x.word) x ++ l) (annotations_append xs ys)
@@ -52,15 +53,19 @@ module _ (w : World) where
     none_behind a (x ∷ xs) = with_none a
 
     pub word_behind : (a b c : System) (xs : Words) (i : ℕ) (x : Place) → x ≡ slice_index_or xs i x → i < length xs
-        → b ≡ with a (words_row w v (take i xs)) → c ≡ with b (word_row w v x) → c ≡ with a (words_row w v (take (i + 1) xs))
+        → b ≡ with a (words_row w v (take i xs)) → c ≡ with b (word_row w v x)
+        → c ≡ with a (words_row w v (take (i + 1) xs))
     word_behind a b c xs i x is lt before here = here ∙ ap (λ g. with g (word_row w v x)) before
         ∙ sym (with_append a (words_row w v (take i xs)) (word_row w v x)) ∙ ap (with a) (sym (up_to xs i x is lt))
 
-    pub all_added : (a b : System) (xs : Words) (i : ℕ) → length xs ≤ i → b ≡ with a (words_row w v (take i xs)) → b ≡ with a (words_row w v xs)
+    pub all_added : (a b : System) (xs : Words) (i : ℕ) → length xs ≤ i → b ≡ with a (words_row w v (take i xs))
+        → b ≡ with a (words_row w v xs)
     all_added a b xs i le before = before ∙ ap (λ (l : Words). with a (words_row w v l)) (all_of xs i le)
 
-    pub stops_at_word : (a b c : System) (f : GraphFault) (xs : Words) (i : ℕ) (x : Place) → x ≡ slice_index_or xs i x → i < length xs
-        → b ≡ with a (words_row w v (take i xs)) → StopsEarly b c f (word_row w v x) → StopsEarly a c f (words_row w v xs)
+    pub stops_at_word : (a b c : System) (f : GraphFault) (xs : Words) (i : ℕ) (x : Place) → x ≡ slice_index_or xs i x
+        → i < length xs
+        → b ≡ with a (words_row w v (take i xs)) → StopsEarly b c f (word_row w v x)
+        → StopsEarly a c f (words_row w v xs)
     stops_at_word a b c f xs i x is lt before stop =
         subst (StopsEarly a c f) (whole xs i x is lt)
         (stop_front a c f (words_row w v (take i xs) ++ word_row w v x) (words_row w v (drop (i + 1) xs))

@@ -23,9 +23,11 @@ use Rattle.row_adding.specs.declared.bounds.Attribute.TheVariants as attributes
 abbrev pub moved : World → Punct → Bool → Skel → Skel → Span → List Constraint
 moved w p is_zero t b where_ = if is_plus_or_minus p && is_ref t then [] else flowing is_zero b t (all_lattices w) where_
 
+-- whether a binary operator lets nothing of its operands into its value: it compares, or moves a pointer
 abbrev pub computes_none : Punct → Skel → Skel → Bool
 computes_none p a b = is_logical p || (is_additive p && (is_ref a || is_ref b))
 
+-- whether an element bounds what is written to, what is followed and only addressed, or what is followed and accessed
 abbrev pub has : Attribute → Entry → Bool
 has attributes.Write = λ entry. entry.write
 has attributes.Deref = λ entry. derefs_where true entry.deref
@@ -43,7 +45,7 @@ instance_row w token p = in_all w (span w token token) (cross (site_number w (at
 abbrev pub chosen_row : World → Skel → Skel → Skel → Span → List Constraint
 chosen_row w a b t where_ = formed w where_ t ++ branched w a b t where_
 
--- with what passes inside the instance before it
+-- the row of a function's name: what passes inside of the instance, and then that it is crossed
 abbrev pub function_instance : World → ℕ → Place → List Constraint
 function_instance w token p = formed_here w token ++ instance_row w token p
 

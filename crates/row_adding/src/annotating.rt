@@ -19,7 +19,7 @@ ghost use Rattle.row_adding.specs.Nodes.{both_row, function_row, params_row};
 use crate::marks::add_words;
 use crate::words::{outer_words, sort_words, words_at};
 use flow_graph::{FlowGraph, GraphFault};
-use name_scopes::Place;
+use name_tables::name_scopes::Place;
 use qual_base::{NoMemory, SkelId, TypeId, VarId};
 use qual_types::{Look, VarTable};
 use row_world::{Known, further, outcome};

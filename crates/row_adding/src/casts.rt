@@ -16,7 +16,7 @@ use crate::bounds::alone;
 use crate::flows::flowing;
 use crate::forming::form;
 use flow_graph::{FlowGraph, GraphFault};
-use name_scopes::Place;
+use name_tables::name_scopes::Place;
 use qual_base::{LatticeNo, SkelId, Span, TypeId};
 use row_world::Known;
 use std::alloc::Global;

@@ -6,7 +6,7 @@ ghost use Rattle.qual_types.specs.Table.{IsVar};
 ghost use Rattle.row_rules.specs.Indexing as rules;
 ghost use Rattle.row_adding.specs.Indexing.{indexed_of, AreVars};
 
-use name_scopes::Place;
+use name_tables::name_scopes::Place;
 use qual_base::{NoMemory, Numbered, VarId};
 use std::alloc::Global;
 use std::marker::Model;

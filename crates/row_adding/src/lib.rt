@@ -1,7 +1,11 @@
-//! The constraints that one form of a program gives by itself, added to a graph (Foster et al. 2006; Rehof and Fähndrich 2001).
+//! The constraints that one form of a program gives by itself, added to a graph (Foster et al. 2006; Rehof and
+//! Fähndrich 2001).
 //!
-//! Each call adds exactly its row, in order. Where it stops early, those before the one that was refused stand in the graph. Time is
-//! linear in the row and in the skeletons that it is read from, but for what is said.
+//! Each call adds exactly its row, in order. Where it stops early, those before the one that was refused stand in the
+//! graph. Time is linear in the row and in the skeletons that it is read from, but for what is said.
+//!
+//! Entry: the functions of `adding`, `operators`, `forms`. Invariant: a call adds exactly its row, in order.
+//! It does not know tapes, and which forms there are in a unit. Above: `unit_system`.
 #![tactic(auto)]
 
 mod annotating;

@@ -14,7 +14,7 @@ use crate::bounds::alone;
 use crate::flows::add;
 use flow_graph::{FlowGraph, GraphFault, Link};
 use lattice_core::Sign;
-use name_scopes::Place;
+use name_tables::name_scopes::Place;
 use qual_base::{Elem, LatticeNo, Span, VarId};
 use row_world::Known;
 

@@ -3,7 +3,7 @@
 
 ghost use Rattle.std.specs.Prelude.{◌≡◌, IfErr, OnOk, Some, option_map};
 ghost use Rattle.name_rules.specs.Scopes as scopes;
-ghost use Rattle.unit_names.specs.Shown.{role_of, declared_of};
+ghost use Rattle.name_state.specs.UnitNames.Shown.{role_of, declared_of};
 ghost use Rattle.qual_types.specs.Skel.{param_at};
 ghost use Rattle.row_rules.specs.Annotations as rules;
 ghost use Rattle.row_rules.specs.Rows as rows;
@@ -19,8 +19,8 @@ use crate::forming::form;
 use crate::indexing::index_place;
 use crate::marks::word_span;
 use flow_graph::{FlowGraph, GraphFault};
-use name_records::{Declared, Role};
-use name_scopes::Place;
+use name_tables::name_records::{Declared, Role};
+use name_tables::name_scopes::Place;
 use qual_base::{Numbered, SkelId, Span, TokenId};
 use row_world::{Known, contents, is_nothing, parameter};
 use std::alloc::Global;

@@ -2,7 +2,7 @@
 #![tactic(auto, using(crate::proofs::Lists::with_none, crate::proofs::Lists::with_append, crate::proofs::Lists::stop_front, crate::proofs::Lists::stop_back, crate::proofs::Lists::stop_first))]
 
 ghost use Rattle.std.specs.Prelude.{◌≡◌, ◌<◌, IfErr, MatchOption, OnOk, length, option_map};
-ghost use Rattle.unit_names.specs.Shown.{use_of, role_of, declared_of};
+ghost use Rattle.name_state.specs.UnitNames.Shown.{use_of, role_of, declared_of};
 ghost use Rattle.row_rules.specs.Rows as rows;
 ghost use Rattle.row_rules.specs.Worlds.{World, in_all, site_number, skeleton};
 ghost use Rattle.row_world.specs.Shown.{Shows, type};
@@ -13,8 +13,8 @@ ghost use Rattle.row_adding.specs.Parts.{function_instance, instance_row};
 use crate::flows::cross_in_all;
 use crate::forming::form_here;
 use flow_graph::{FlowGraph, GraphFault};
-use name_records::{Declared, Role, Use};
-use name_scopes::Place;
+use name_tables::name_records::{Declared, Role, Use};
+use name_tables::name_scopes::Place;
 use qual_base::{Numbered, SiteId, Span, TokenId};
 use row_world::Known;
 

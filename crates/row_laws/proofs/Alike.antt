@@ -25,21 +25,21 @@ use Rattle.qual_types.specs.Skel.{Skel, flat, ref, fun, Skels, no_skels, more_sk
 use Rattle.name_rules.specs.Spellings.{Place}
 use Rattle.name_rules.specs.Scopes.{Role, typedef_role, object_role, function_role, parameter_role, field_role, enumerator_role, Declared, declared_at, Use, means, called, missing, Known, Own}
 use Rattle.name_rules.specs.Uses.{use_at}
-use Rattle.shape_steps.specs.State.{declared_last, changed}
+use Rattle.name_rules.specs.ShapeSteps.State.{declared_last, changed}
 use Rattle.row_rules.specs.Worlds.{World, all_lattices, at, span, skeleton}
 use Rattle.row_rules.specs.Annotations.{Annotation, is_reference_mark, is_reference_word, words_of_level, sorted, annotations_at, some_annotations_at, inner, parameters, outcome, further, annotated, annotated_params, marked, annotation_constraints, annotating, names_lattice, all_words, uncut_from, uncut}
 use Rattle.row_rules.specs.Vals.{Val, Candidate, is_carrying, left_of, pick_of, value, a_place, contents, member_of, known_skeleton, member_skel, prefix_of, used_by_role, used_some, used, own}
 use Rattle.row_rules.specs.Forming.{formed}
 use Rattle.row_rules.specs.Rows.{picking, picked, carried, identified_by, flowing, formed_here, formed_name, prefixed, passed, instance, some_instance, use_demand, annotating_some, cast_demand, annotating_name, name_row, declared_row, some_declared_row, into_param, param_row, RowKind, no_row, row_of_name, row_of_param, row_at, returned, started, own_skel, behind_known, annotating_place, by_role, by_first, initialised_at, taken, tied_to_first}
 use Rattle.row_rules.specs.Indexing.{indexing}
-use Rattle.row_steps.specs.Rounds.{Naming, a_name, own_param, other_param, identified_param, naming, is_quiet}
-use Rattle.row_steps.specs.State.{Operand, Braces, whole, untargeted, listed, State, put, val_at, value_at, is_zero_at, type_at, first_operand, type_of_operand, operands_below, first_braces}
+use Rattle.row_rules.specs.RowSteps.Rounds.{Naming, a_name, own_param, other_param, identified_param, naming, is_quiet}
+use Rattle.row_rules.specs.RowSteps.State.{Operand, Braces, whole, untargeted, listed, State, put, val_at, value_at, is_zero_at, type_at, first_operand, type_of_operand, operands_below, first_braces}
 use Rattle.name_rules.specs.Checks.{is_star}
-use Rattle.shape_steps.specs.Steps.{twice}
-use Rattle.row_steps.specs.Steps as steps
-use Rattle.row_steps.specs.Steps.{carrying, selected, candidate_at, item_target, target_in, list_of, with_member, initialised_by, gone_through, expr_step, form_step, init_step, declr_step, stack_step, with_round_step, step, run}
-use Rattle.row_steps.specs.OpRows.{function_skeleton, some_param_row, naming_row, into_target, expr_row, form_row, init_row, spec_row, declr_row, stmt_row, loud_row, op_row}
-use Rattle.row_steps.specs.Found.{rows_found}
+use Rattle.name_rules.specs.ShapeSteps.Steps.{twice}
+use Rattle.row_rules.specs.RowSteps.Steps as steps
+use Rattle.row_rules.specs.RowSteps.Steps.{carrying, selected, candidate_at, item_target, target_in, list_of, with_member, initialised_by, gone_through, expr_step, form_step, init_step, declr_step, stack_step, with_round_step, step, run}
+use Rattle.row_rules.specs.RowSteps.OpRows.{function_skeleton, some_param_row, naming_row, into_target, expr_row, form_row, init_row, spec_row, declr_row, stmt_row, loud_row, op_row}
+use Rattle.row_rules.specs.RowSteps.Found.{rows_found}
 use Rattle.row_laws.proofs.Indexing.{indexing_alike}
 
 -- a world with another function around
@@ -66,7 +66,8 @@ module _ (w : World) (o : Option Skel) where
       known_alike (member_of (inside o w) (struct_of s) name)
       ∙ ap (known_skeleton w) (member_of_alike (struct_of s) name)
 
-  prefix_alike : (p : Punct) (token : ℕ) (e : Val) (aims : Bool) → prefix_of (inside o w) token p e aims ≡ prefix_of w token p e aims
+  prefix_alike : (p : Punct) (token : ℕ) (e : Val) (aims : Bool)
+      → prefix_of (inside o w) token p e aims ≡ prefix_of w token p e aims
   prefix_alike p token e aims = refl
 
   carrying_alike : (p : Punct) (aims : Bool) → is_carrying (inside o w) p aims ≡ is_carrying w p aims
@@ -177,12 +178,14 @@ module _ (w : World) (o : Option Skel) where
       prefixed (inside o w) p is_zero e t aims where_ ≡ prefixed w p is_zero e t aims where_
   prefixed_alike p is_zero e t aims where_ = refl
 
-  picking_alike : (all : List Candidate) (t : Skel) (where_ : Span) → picking (inside o w) all t where_ ≡ picking w all t where_
+  picking_alike : (all : List Candidate) (t : Skel) (where_ : Span)
+      → picking (inside o w) all t where_ ≡ picking w all t where_
   picking_alike [] t where_ = refl
   picking_alike (it ∷ others) t where_ =
       ap (λ (rows : List Constraint). flowing it.is_zero (value it.val) t (all_lattices w) where_ ++ rows) (picking_alike others t where_)
 
-  picked_alike : (all : List Candidate) (t : Skel) (where_ : Span) → picked (inside o w) all t where_ ≡ picked w all t where_
+  picked_alike : (all : List Candidate) (t : Skel) (where_ : Span)
+      → picked (inside o w) all t where_ ≡ picked w all t where_
   picked_alike [] t where_ = refl
   picked_alike (it ∷ []) t where_ = refl
   picked_alike (it ∷ other ∷ others) t where_ =

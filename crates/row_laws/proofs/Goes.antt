@@ -5,13 +5,13 @@ use Rattle.std.proofs.lemmas.List.{append-nil}
 use Rattle.flow_graph.specs.declared.constraint.Constraint.{Constraint}
 use Rattle.tape_ops.specs.declared.op.Op.{Op}
 use Rattle.qual_types.specs.Skel.{Skel, no_skeleton}
-use Rattle.shape_steps.specs.State.{OpenDeclaration}
+use Rattle.name_rules.specs.ShapeSteps.State.{OpenDeclaration}
 use Rattle.row_rules.specs.Worlds.{World}
-use Rattle.row_steps.specs.Rounds.{Rounds, is_quiet, silenced}
-use Rattle.row_steps.specs.State.{Operand, Braces, State}
-use Rattle.row_steps.specs.Steps.{step, run}
-use Rattle.row_steps.specs.OpRows.{op_row}
-use Rattle.row_steps.specs.Found.{rows_found}
+use Rattle.row_rules.specs.RowSteps.Rounds.{Rounds, is_quiet, silenced}
+use Rattle.row_rules.specs.RowSteps.State.{Operand, Braces, State}
+use Rattle.row_rules.specs.RowSteps.Steps.{step, run}
+use Rattle.row_rules.specs.RowSteps.OpRows.{op_row}
+use Rattle.row_rules.specs.RowSteps.Found.{rows_found}
 
 -- what a tape is gone through with, and whether it is asked which constraints it gives
 pub record Over : Type 0 where
@@ -58,7 +58,8 @@ stacks_of st =
       declarations = st.declarations;
     }
 
--- what is of no use behind what it is for: the skeleton of the compound literal that was gone through last, and the pointer by which the
+-- what is of no use behind what it is for: the skeleton of the compound literal that was gone through last, and the
+-- pointer by which the
 -- last place was come to that is only addressed
 pub record Registers : Type 0 where
   pub literal : Skel
@@ -88,7 +89,8 @@ state r c s =
 abbrev pub as_is : Stacks → Stacks
 as_is c = c
 
--- From each state of a family to one of another, giving these constraints where it is not quiet. The registers may change.
+-- From each state of a family to one of another, giving these constraints where it is not quiet. The registers may
+-- change.
 pub record Runs (k : Over) (quiet : Bool) (A : Type 0) (tape : List Op) (f g : A → Registers → State)
     (rows : List Constraint) : Type 0 where
   pub behind : A → Registers → Registers
@@ -155,7 +157,8 @@ ending h p e =
 
 -- and with other registers
 pub ending_at : {k : Over} {quiet : Bool} {A : Type 0} {tape : List Op} {f g : A → Registers → State}
-    {rows : List Constraint} (h : A → Registers → State) (n : A → Registers → Registers) → Runs k quiet A tape f g rows →
+    {rows : List Constraint} (h : A → Registers → State) (n : A → Registers → Registers)
+        → Runs k quiet A tape f g rows →
     ((a : A) (s : Registers) → g a s ≡ h a (n a s)) → Runs k quiet A tape f h rows
 ending_at h n p e =
     record {
@@ -183,11 +186,14 @@ one {k} {r} {op} {f} rows e d = record { runs = ending _ (op_runs rows e) d }
 pub one_at : {k : Over} {r : Rounds} {op : Op} {f : Stacks → Stacks} (g : Stacks → Stacks) (n : Stacks → Registers → Registers)
     (rows : List Constraint) →
     (k.asked ≡ true → (c : Stacks) (s : Registers) → op_row k.world (state r (f c) s) op ≡ unless (is_quiet r) rows)
-    → ((c : Stacks) (s : Registers) → step k.world (state r (f c) s) op ≡ state r (g c) (n c s)) → Goes k r (op ∷ []) f g rows
+    → ((c : Stacks) (s : Registers) → step k.world (state r (f c) s) op ≡ state r (g c) (n c s))
+    → Goes k r (op ∷ []) f g rows
 one_at {r = r} g n rows e d = record { runs = ending_at (λ c s. state r (g c) s) n (op_runs rows e) d }
 
--- One op behind a tape that leaves this pointer as the one by which its place was come to: what the op gives may use it.
-pub carried_on : {k : Over} {r : Rounds} {xs : List Op} {f g h : Stacks → Stacks} {fs : List Constraint} (op : Op) (by : Skel) (rows : List Constraint) → Goes k r xs f g fs →
+-- One op behind a tape that leaves this pointer as the one by which its place was come to: what the op gives may use
+-- it.
+pub carried_on : {k : Over} {r : Rounds} {xs : List Op} {f g h : Stacks → Stacks} {fs : List Constraint} (op : Op) (by : Skel) (rows : List Constraint)
+    → Goes k r xs f g fs →
     ((c : Stacks) (s : Registers) → (run k.world (state r (f c) s) xs).carried ≡ by) →
     (k.asked ≡ true → (c : Stacks) (s : Registers) → s.carried ≡ by →
     op_row k.world (state r (g c) s) op ≡ unless (is_quiet r) rows) →

@@ -18,7 +18,7 @@ use Rattle.flow_graph.specs.declared.constraint.Constraint.{Constraint}
 use Rattle.type_rules.specs.Tokens as rule_tokens
 use Rattle.qual_types.specs.Skel.{Skel}
 use Rattle.row_rules.specs.Worlds.{World}
-use Rattle.row_steps.specs.Rounds.{Rounds}
+use Rattle.row_rules.specs.RowSteps.Rounds.{Rounds}
 use Rattle.constraint_rules.specs.Demands.{words_demand, word_demand, params_demand}
 use Rattle.row_laws.proofs.Goes.{Over, Stacks, Goes, as_is, nowhere, one, join}
 

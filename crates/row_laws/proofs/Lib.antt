@@ -7,3 +7,5 @@ mod Rules
 mod Stacks
 mod Trees
 mod Units
+pub mod StartLaws
+pub mod KeyLaws

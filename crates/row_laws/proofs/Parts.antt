@@ -26,7 +26,7 @@ use Rattle.type_table.specs.Types.{CType}
 use Rattle.name_rules.specs.Spellings.{Named}
 use Rattle.name_rules.specs.Uses.{type_named_at}
 use Rattle.qual_types.specs.Skel.{Skel, param_at}
-use Rattle.shape_steps.specs.State.{OpenDeclaration}
+use Rattle.name_rules.specs.ShapeSteps.State.{OpenDeclaration}
 use Rattle.row_rules.specs.Worlds.{World, at, span}
 use Rattle.row_rules.specs.Annotations.{has_access, parameters, further}
 use Rattle.row_rules.specs.Rows.{carried, index_demand, dereferenced, picked, prefixed, param_kind, literal_row, own_skeleton, assigned, chosen, computed}
@@ -35,11 +35,11 @@ use Rattle.row_rules.specs.Vals.{Candidate, prefix_of, is_ref, left_of, pick_of,
 use Rattle.constraint_rules.specs.Values.{val, pointer_to, candidates_of}
 use Rattle.constraint_rules.specs.Demands.{demand_in, prefix_demand, zero_at, where_is, list_rule, demand, some_expr_demand}
 use Rattle.constraint_rules.specs.Demands as demands
-use Rattle.row_steps.specs.Rounds.{Naming, a_name, own_param, other_param, Rounds, is_quiet, naming, with_round, entered, silenced, next_naming, params_naming}
-use Rattle.row_steps.specs.State.{Operand, expression, put, State, first_operand, val_of_operand, is_zero_operand, type_of_operand, whole}
-use Rattle.shape_steps.specs.Steps.{twice}
-use Rattle.row_steps.specs.Steps.{run, initialised_by, selected, carrying, with_round_step}
-use Rattle.row_steps.specs.OpRows.{op_row, naming_row, function_skeleton}
+use Rattle.row_rules.specs.RowSteps.Rounds.{Naming, a_name, own_param, other_param, Rounds, is_quiet, naming, with_round, entered, silenced, next_naming, params_naming}
+use Rattle.row_rules.specs.RowSteps.State.{Operand, expression, put, State, first_operand, val_of_operand, is_zero_operand, type_of_operand, whole}
+use Rattle.name_rules.specs.ShapeSteps.Steps.{twice}
+use Rattle.row_rules.specs.RowSteps.Steps.{run, initialised_by, selected, carrying, with_round_step}
+use Rattle.row_rules.specs.RowSteps.OpRows.{op_row, naming_row, function_skeleton}
 use Rattle.row_laws.proofs.Goes.{Registers, one_at, carried_on, Over, unless, unless_none, Stacks, state, Runs, stay, op_runs, chain, started_from, giving, ending, ending_at, Goes, as_is, one, join, from, next, same, reaching, without, silent_runs, group_two, group_three}
 use Rattle.row_laws.proofs.Stacks.{assocs_on, with_assocs, assocs_kept, under_assocs, drop_above, drop_one_more, with_operand, with_val, top_value, block_put, operand_of, with_expr, with_middle, arguments_on, with_arguments, under_more, under_arguments, with_value, type_at_words, leaves_in, taken_in, taken_above, with_leaves, declaring, token_of}
 use Rattle.row_laws.proofs.Idle.{same_first}
@@ -80,7 +80,8 @@ own_skel_of w true it = own_skeleton w it
 own_skel_of w false it = None
 
 pub param_rows : (w : World) (own bare : Bool) (it : Option Named) (i : ℕ) →
-    (token : ℕ) → naming_row w (nth_naming (own && bare) (token_of it) i) token ≡ param_kind (own_skel_of w own it) bare i
+    (token : ℕ)
+    → naming_row w (nth_naming (own && bare) (token_of it) i) token ≡ param_kind (own_skel_of w own it) bare i
 param_rows w false bare it i token = refl
 param_rows w true false None i token = refl
 param_rows w true false (Some it) i token = refl

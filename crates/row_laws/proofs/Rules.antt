@@ -11,10 +11,10 @@ use Rattle.qual_types.specs.Skel.{Skel, flat, ref, fun}
 use Rattle.row_rules.specs.Worlds.{span}
 use Rattle.constraint_rules.specs.Demands.{desig_skel, desigs_skel, item_skel, next_behind, items_rule}
 use Rattle.constraint_rules.specs.Demands as demands
-use Rattle.row_steps.specs.Rounds.{Rounds, is_quiet}
-use Rattle.row_steps.specs.State.{Operand, Braces, untargeted, listed, State}
-use Rattle.row_steps.specs.OpRows.{into_target}
-use Rattle.row_steps.specs.Steps.{target_in, list_of, with_item}
+use Rattle.row_rules.specs.RowSteps.Rounds.{Rounds, is_quiet}
+use Rattle.row_rules.specs.RowSteps.State.{Operand, Braces, untargeted, listed, State}
+use Rattle.row_rules.specs.RowSteps.OpRows.{into_target}
+use Rattle.row_rules.specs.RowSteps.Steps.{target_in, list_of, with_item}
 use Rattle.row_laws.proofs.Goes.{Registers, Over, unless, Stacks, state, Runs, stay, op_runs, chain, started_from, giving, ending}
 use Rattle.row_laws.proofs.Stacks.{operand_of, taken, taken_in, taken_of}
 

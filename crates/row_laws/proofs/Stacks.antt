@@ -15,9 +15,9 @@ use Rattle.row_rules.specs.Worlds.{World, at}
 use Rattle.row_rules.specs.Vals.{Val, Candidate, a_value, value, own}
 use Rattle.row_rules.specs.Rows.{initialised}
 use Rattle.constraint_rules.specs.Values.{val, candidate_in, candidates_of, items_value}
-use Rattle.row_steps.specs.State.{State, Operand, expression, named_type, first_operand, val_of_operand}
-use Rattle.shape_steps.specs.Steps.{twice}
-use Rattle.row_steps.specs.Steps.{initialised_by, selected, candidate_at}
+use Rattle.row_rules.specs.RowSteps.State.{State, Operand, expression, named_type, first_operand, val_of_operand}
+use Rattle.name_rules.specs.ShapeSteps.Steps.{twice}
+use Rattle.row_rules.specs.RowSteps.Steps.{initialised_by, selected, candidate_at}
 use Rattle.row_laws.proofs.Goes.{Over, Stacks}
 
 -- lists
@@ -142,12 +142,14 @@ module _ (k : Over) where
       ∙ drop_one_more (suc (twice n)) all _ operands (drop_one_more (twice n) all _ _ h)
 
   -- the control lies under the associations
-  pub under_assocs : (xs : Assocs) (operands : List Operand) → drop (twice (assoc_count xs)) (assocs_on xs operands) ≡ operands
+  pub under_assocs : (xs : Assocs) (operands : List Operand)
+      → drop (twice (assoc_count xs)) (assocs_on xs operands) ≡ operands
   under_assocs no_assocs operands = refl
   under_assocs (more_assocs x xs) operands =
       under_assoc x (assoc_count xs) (assocs_on xs (assoc_on x operands)) operands (under_assocs xs (assoc_on x operands))
 
-  assoc_kept : (x : Assoc) (n : ℕ) (operands : List Operand) (st : State) → drop (twice n) st.operands ≡ assoc_on x operands →
+  assoc_kept : (x : Assoc) (n : ℕ) (operands : List Operand) (st : State)
+      → drop (twice n) st.operands ≡ assoc_on x operands →
       candidate_at (twice n) st ≡ candidate_in k.world x
   assoc_kept (typed_assoc ws d colon e) n operands st h = rw h refl
   assoc_kept (default_assoc keyword colon e) n operands st h = rw h refl
@@ -158,7 +160,8 @@ module _ (k : Over) where
   candidate_more false it all = refl
 
   -- the candidates of a selection, as they lie on the stack
-  pub assocs_kept : (xs : Assocs) (token i : ℕ) (operands : List Operand) (st : State) → st.operands ≡ assocs_on xs operands →
+  pub assocs_kept : (xs : Assocs) (token i : ℕ) (operands : List Operand) (st : State)
+      → st.operands ≡ assocs_on xs operands →
       selected k.world token i (assoc_count xs) st ≡ candidates_of k.world token i xs
   assocs_kept no_assocs token i operands st is = refl
   assocs_kept (more_assocs x xs) token i operands st is =

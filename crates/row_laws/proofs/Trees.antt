@@ -34,10 +34,10 @@ use Rattle.row_rules.specs.Rows.{index_demand, picked, identified_kind, own_skel
 use Rattle.constraint_rules.specs.Values.{val, pointer_to, candidate_of}
 use Rattle.constraint_rules.specs.Demands.{demand_in, assocs_demand, assoc_demand, old_declrs_demand, old_declaration_demand, old_declarations_demand, old_declr_demand, type_of_name, zero_at, where_is, list_rule, demand, some_expr_demand, exprs_demand, words_demand, word_demand, some_body_demand, struct_items_demand, struct_item_demand, unnamed_word_demand, unnamed_demand, members_demand, mem_declrs_demand, mem_declr_demand, declr_demand, some_declr_demand, params_demand, init_demand, init_list_demand, init_items_demand, init_declrs_demand, some_init_demand, declaration_demand, decl_demand, block_items_demand, block_item_demand, stmt_demand, some_else_demand, for_start_demand}
 use Rattle.constraint_rules.specs.Demands as demands
-use Rattle.row_steps.specs.Rounds.{own_param, identified_param, Naming, Rounds, is_quiet, naming, with_round, entered, silenced}
-use Rattle.row_steps.specs.State.{State, Operand, named_type}
-use Rattle.row_steps.specs.Steps.{run, initialised_by}
-use Rattle.row_steps.specs.OpRows.{naming_row}
+use Rattle.row_rules.specs.RowSteps.Rounds.{own_param, identified_param, Naming, Rounds, is_quiet, naming, with_round, entered, silenced}
+use Rattle.row_rules.specs.RowSteps.State.{State, Operand, named_type}
+use Rattle.row_rules.specs.RowSteps.Steps.{run, initialised_by}
+use Rattle.row_rules.specs.RowSteps.OpRows.{naming_row}
 use Rattle.row_laws.proofs.Goes.{Registers, run_append, started_from, Over, unless, Stacks, state, Runs, stay, op_runs, chain, giving, ending, Goes, as_is, nowhere, one, join, from, next, same, reaching, without, group_two, group_three}
 use Rattle.row_laws.proofs.Stacks.{with_assoc, with_assocs, operand_of, with_expr, with_some_expr, with_middle, with_arguments, type_at_words, leaves, leaves_in, leaves_of, with_leaves, with_stmt, with_block_item, with_items, no_stmt_kept, none_kept, value_kept, declaring, token_in, token_in_some, token_of, declared_in, target_named}
 use Rattle.row_laws.proofs.Idle.{either, pieces_idle, tag_idle, same_name, none_said}
@@ -60,7 +60,8 @@ abbrev steps_rows : World → Desigs → List Constraint
 steps_rows w no_desigs = []
 steps_rows w (more_desigs d ds) = step_rows w d ++ steps_rows w ds
 
-auto_is : (ws : SpecWords) (ds : InitDeclrs) → are_auto ws ds ≡ true → IsAutoWhere (has_auto ws) ws ds → IsAutoDeclr ws ds
+auto_is : (ws : SpecWords) (ds : InitDeclrs) → are_auto ws ds ≡ true → IsAutoWhere (has_auto ws) ws ds
+    → IsAutoDeclr ws ds
 auto_is ws ds is where_auto =
     let has : IsAutoWhere true ws ds =
     subst (λ (b : Bool). IsAutoWhere b ws ds) (first_of (has_auto ws) _ is) where_auto in has
@@ -81,7 +82,8 @@ plain_rows w no_init_declrs = refl
 plain_rows w (more_init_declrs attrs d asm_label attrs2 init ds) =
     ap (λ (rows : List Constraint). declr_demand w row_of_name None d ++ (some_init_demand w (declared_name d) init ++ rows)) (plain_rows w ds)
 
-old_rows : (w : World) (f : Option Skel) (ds : InitDeclrs) → declrs_rows w (identified_kind w f) ds ≡ old_declrs_demand w f ds
+old_rows : (w : World) (f : Option Skel) (ds : InitDeclrs)
+    → declrs_rows w (identified_kind w f) ds ≡ old_declrs_demand w f ds
 old_rows w f no_init_declrs = refl
 old_rows w f (more_init_declrs attrs d asm_label attrs2 init ds) =
     ap (λ (rows : List Constraint). declr_demand w (identified_kind w f (declared_name d)) None d
@@ -96,7 +98,8 @@ module _ (k : Over) where
   abbrev pub IsRow : Rounds → RowKind → Option Named → Type 0
   IsRow r row it = k.asked ≡ true → RowIs r row it
 
-  row_of_all : (r : Rounds) (row : RowKind) (it : Option Named) → ((token : ℕ) → naming_row k.world (naming r) token ≡ row) → RowIs r row it
+  row_of_all : (r : Rounds) (row : RowKind) (it : Option Named)
+      → ((token : ℕ) → naming_row k.world (naming r) token ≡ row) → RowIs r row it
   row_of_all r row None is = tt
   row_of_all r row (Some it) is = is it.token
 
@@ -124,7 +127,8 @@ module _ (k : Over) where
 
   -- parameters
 
-  own_rows : (own : Bool) (d : Declr) (i token : ℕ) → naming_row k.world (nth_naming (own && is_name d) (token_in d) i) token ≡
+  own_rows : (own : Bool) (d : Declr) (i token : ℕ)
+      → naming_row k.world (nth_naming (own && is_name d) (token_in d) i) token ≡
       param_kind (own_skel_of k.world own (declared_name d)) (rule_tokens.is_bare d) i
   own_rows own d i token =
       param_rows k.world own (is_name d) (declared_name d) i token
@@ -165,7 +169,8 @@ module _ (k : Over) where
 
   -- what passes inside a member without a declarator
 
-  unnamed_word_goes : (word : SpecWord) → (r : Rounds) → Goes k r (unnamed_word_tape word) as_is as_is (unnamed_word_demand k.world word)
+  unnamed_word_goes : (word : SpecWord) → (r : Rounds)
+      → Goes k r (unnamed_word_tape word) as_is as_is (unnamed_word_demand k.world word)
   unnamed_word_goes (storage word) r = nowhere
   unnamed_word_goes (thread token) r = nowhere
   unnamed_word_goes (inline_word token) r = nowhere
@@ -321,7 +326,8 @@ module _ (k : Over) (all : List Lexeme) where
         (generic_goes k r keyword opening e xs closing)
 
     -- behind an expression only addressed that led to its place by a pointer, that is the one that was noted
-    carried_is : (e : Expr) → IsExpr all e → (within : Bool) → comes_by_pointer within e ≡ true → (r : Rounds) → IsOwn k r →
+    carried_is : (e : Expr) → IsExpr all e → (within : Bool) → comes_by_pointer within e ≡ true → (r : Rounds)
+        → IsOwn k r →
         (c : Stacks) (s : Registers) → (run k.world (state r c s) (tape_in false true e)).carried ≡ pointer_to k.world e
     carried_is (prefix token signs.Star e) h within is r o c s =
         noted_by k (ops.Expr (exprs.Prefix signs.Star token (last_token e) true)) c s (value (val k.world e))
@@ -405,26 +411,30 @@ module _ (k : Over) (all : List Lexeme) where
     type_words_go no_words h r o = nowhere
     type_words_go (more_words word ws) h r o = next (word_goes word h.0 r o false) (type_words_go ws h.2 r o)
 
-    abstract_goes : (d : SomeDeclr) → IsSomeAbstract all d → (r : Rounds) → IsOwn k r → (row : RowKind) (declared : Option ℕ) →
+    abstract_goes : (d : SomeDeclr) → IsSomeAbstract all d → (r : Rounds) → IsOwn k r
+        → (row : RowKind) (declared : Option ℕ) →
         Goes k r (some_declr_tape d) (declaring None declared) (declaring (token_in_some d) declared)
         (some_declr_demand k.world row d)
     abstract_goes no_declr h r o row declared = nowhere
     abstract_goes (some_declr d) h r o row declared =
         without (bare_goes d h.0 h.1 r o row false declared) (from _ (pieces_idle k r d))
 
-    some_bare_goes : (d : SomeDeclr) → IsSomeAbstract all d → (r : Rounds) → IsOwn k r → (row : RowKind) (declared : Option ℕ) →
+    some_bare_goes : (d : SomeDeclr) → IsSomeAbstract all d → (r : Rounds) → IsOwn k r
+        → (row : RowKind) (declared : Option ℕ) →
         Goes k r (some_contents d) (declaring None declared) (declaring (token_in_some d) declared)
         (some_declr_demand k.world row d)
     some_bare_goes no_declr h r o row declared = nowhere
     some_bare_goes (some_declr d) h r o row declared = bare_goes d h.0 h.1 r o row false declared
 
-    direct_bare_goes : (d : SomeDeclr) → IsSomeDirect all d → (r : Rounds) → IsOwn k r → (row : RowKind) (declared : Option ℕ) →
+    direct_bare_goes : (d : SomeDeclr) → IsSomeDirect all d → (r : Rounds) → IsOwn k r
+        → (row : RowKind) (declared : Option ℕ) →
         Goes k r (some_contents d) (declaring None declared) (declaring (token_in_some d) declared)
         (some_declr_demand k.world row d)
     direct_bare_goes no_declr h r o row declared = nowhere
     direct_bare_goes (some_declr d) h r o row declared = bare_goes d h.0 h.1 r o row false declared
 
-    bare_goes : (d : Declr) → IsDeclr all d → is_named d ≡ false → (r : Rounds) → IsOwn k r → (row : RowKind) (own : Bool)
+    bare_goes : (d : Declr) → IsDeclr all d → is_named d ≡ false → (r : Rounds) → IsOwn k r
+        → (row : RowKind) (own : Bool)
         (declared : Option ℕ) →
         Goes k r (contents own d) (declaring None declared) (declaring (token_in d) declared)
         (declr_demand k.world row (own_skel_of k.world own (declared_name d)) d)
@@ -468,7 +478,8 @@ module _ (k : Over) (all : List Lexeme) where
     word_goes (align attr) h r o alone = nowhere
     word_goes (auto_word token) h r o alone = nowhere
 
-    struct_goes : (body : SomeBody) → IsBody all body → (r : Rounds) → IsOwn k r → (alone : Bool) (kind : TagKind) (keyword : ℕ)
+    struct_goes : (body : SomeBody) → IsBody all body → (r : Rounds) → IsOwn k r
+        → (alone : Bool) (kind : TagKind) (keyword : ℕ)
         (tag : Option Identifier) →
         Goes k r (struct_tape alone kind keyword tag body) as_is as_is (some_body_demand k.world body)
     struct_goes no_body h r o alone kind keyword tag = tag_idle k r alone kind tag
@@ -508,7 +519,8 @@ module _ (k : Over) (all : List Lexeme) where
     mem_declr_goes (unnamed colon e attrs) h r o n =
         from (declaring None None) (quietly_goes k r e (expr_goes e h.0 (silenced r) o false false))
 
-    some_value_goes : (it : SomeValue) → IsSomeValue all it → (r : Rounds) → IsOwn k r → Goes k r (some_value_tape it) as_is as_is []
+    some_value_goes : (it : SomeValue) → IsSomeValue all it → (r : Rounds) → IsOwn k r
+        → Goes k r (some_value_tape it) as_is as_is []
     some_value_goes no_value h r o = nowhere
     some_value_goes (some_value token e) h r o = quietly_goes k r e (expr_goes e h.0 (silenced r) o false false)
 
@@ -517,14 +529,16 @@ module _ (k : Over) (all : List Lexeme) where
     enum_goes (enum_of keyword attrs tag (some_enum_body opening es last closing)) h r o =
         body_goes k r tags.Enum keyword tag (enumerators_go es h.2.1 (entered r) o)
 
-    enumerators_go : (es : Enumerators) → AreEnumerators all es → (r : Rounds) → IsOwn k r → Goes k r (enumerators_tape es) as_is as_is []
+    enumerators_go : (es : Enumerators) → AreEnumerators all es → (r : Rounds) → IsOwn k r
+        → Goes k r (enumerators_tape es) as_is as_is []
     enumerators_go no_enumerators h r o = nowhere
     enumerators_go (more_enumerators name attrs value es) h r o =
         next (without (some_value_goes value h.1 r o) (one [] (λ y c s. refl) (λ c s. refl))) (enumerators_go es h.2 r o)
 
     -- declarators
 
-    pub contents_go : (d : Declr) → IsDeclr all d → (r : Rounds) → IsOwn k r → (row : RowKind) → IsRow k r row (declared_name d) →
+    pub contents_go : (d : Declr) → IsDeclr all d → (r : Rounds) → IsOwn k r → (row : RowKind)
+        → IsRow k r row (declared_name d) →
         (own : Bool) (declared : Option ℕ) →
         Goes k r (contents own d) (declaring None declared) (declaring (token_in d) declared)
         (declr_demand k.world row (own_skel_of k.world own (declared_name d)) d)
@@ -563,15 +577,18 @@ module _ (k : Over) (all : List Lexeme) where
     some_declr_goes (some_declr d) h r o row is declared =
         without (contents_go d h r o row is false declared) (from _ (pieces_idle k r d))
 
-    pub some_size_goes : (size : SomeSize) → IsSize all size → (r : Rounds) → IsOwn k r → Goes k r (some_size_tape size) as_is as_is []
+    pub some_size_goes : (size : SomeSize) → IsSize all size → (r : Rounds) → IsOwn k r
+        → Goes k r (some_size_tape size) as_is as_is []
     some_size_goes no_size h r o = nowhere
     some_size_goes (some_size size) h r o = size_goes size h r o
 
-    size_goes : (size : ArraySize) → IsArraySize all size → (r : Rounds) → IsOwn k r → Goes k r (size_tape size) as_is as_is []
+    size_goes : (size : ArraySize) → IsArraySize all size → (r : Rounds) → IsOwn k r
+        → Goes k r (size_tape size) as_is as_is []
     size_goes (size_value e) h r o = quietly_goes k r e (expr_goes e h.0 (silenced r) o false false)
     size_goes (size_star token) h r o = nowhere
 
-    pub params_go : (ps : Params) → AreParams all ps → (r : Rounds) → IsOwn k r → (b : Bool) (name : Option ℕ) (own : Option Skel)
+    pub params_go : (ps : Params) → AreParams all ps → (r : Rounds) → IsOwn k r
+        → (b : Bool) (name : Option ℕ) (own : Option Skel)
         (bare : Bool) (i : ℕ) → ((j token : ℕ) → naming_row k.world (nth_naming b name j) token ≡ param_kind own bare j)
         → Runs k (is_quiet r) Stacks (params_tape ps) (λ c s. state (param_round k r b name i) c s)
         (λ c s. state (param_round k r b name (number_behind k r ps i)) c s) (params_demand k.world own bare i ps)
@@ -635,7 +652,8 @@ module _ (k : Over) (all : List Lexeme) where
 
     -- declarations
 
-    init_declrs_go : (ds : InitDeclrs) → AreInitDeclrs all ds → (r : Rounds) → IsOwn k r → IsNamed k r → (declared : Option ℕ) →
+    init_declrs_go : (ds : InitDeclrs) → AreInitDeclrs all ds → (r : Rounds) → IsOwn k r → IsNamed k r
+        → (declared : Option ℕ) →
         Goes k r (init_declrs_tape ds) (declaring None declared) (declaring None (declared_in ds declared))
         (init_declrs_demand k.world ds)
     init_declrs_go no_init_declrs h r o n declared = nowhere
@@ -647,7 +665,8 @@ module _ (k : Over) (all : List Lexeme) where
         (init_declrs_demand k.world ds))
 
     -- the name that has the type of its initialiser, with its row
-    auto_goes : (semi : ℕ) (ws : SpecWords) (ds : InitDeclrs) → IsAutoDeclr ws ds → AreInitDeclrs all ds → (r : Rounds) → IsOwn k r →
+    auto_goes : (semi : ℕ) (ws : SpecWords) (ds : InitDeclrs) → IsAutoDeclr ws ds → AreInitDeclrs all ds → (r : Rounds)
+        → IsOwn k r →
         (row : Option Named → RowKind) → ((it : Option Named) → IsRow k r (row it) it) → (declared : Option ℕ) →
         Goes k r (auto_declrs_tape semi ds) (declaring None declared) (declaring None (declared_in ds declared))
         (declrs_rows k.world row ds)
@@ -681,13 +700,15 @@ module _ (k : Over) (all : List Lexeme) where
 
     -- statements
 
-    pub block_items_go : (items : BlockItems) → AreBlockItems all items → (r : Rounds) → IsOwn k r → IsNamed k r → (kept : Bool) →
+    pub block_items_go : (items : BlockItems) → AreBlockItems all items → (r : Rounds) → IsOwn k r → IsNamed k r
+        → (kept : Bool) →
         Goes k r (block_items_tape kept items) as_is (with_items k kept items) (block_items_demand k.world items)
     block_items_go no_block_items h r o n kept = nowhere
     block_items_go (more_block_items item items) h r o n kept =
         next (block_item_goes item h.0 r o n (kept && is_end items)) (block_items_go items h.1 r o n kept)
 
-    block_item_goes : (item : BlockItem) → IsBlockItem all item → (r : Rounds) → IsOwn k r → IsNamed k r → (kept : Bool) →
+    block_item_goes : (item : BlockItem) → IsBlockItem all item → (r : Rounds) → IsOwn k r → IsNamed k r
+        → (kept : Bool) →
         Goes k r (block_item_tape kept item) as_is (with_block_item k kept item) (block_item_demand k.world item)
     block_item_goes (block_decl d) h r o n kept = decl_goes d h r o n
     block_item_goes (block_stmt s) h r o n kept = stmt_goes s h r o n kept
@@ -774,7 +795,8 @@ module _ (k : Over) (all : List Lexeme) where
       (λ auto. same (auto_goes semi ws ds (auto_is ws ds auto h.4) h.3 r o (identified_kind k.world f) is None) (old_rows k.world f ds))
       (λ auto. old_declrs_go ds h.3 r o f is None))) (one [] (λ y c s. refl) (λ c s. refl))
 
-  old_declarations_go : (ds : List Declaration) → All (IsDeclaration all) ds → (r : Rounds) → IsOwn k r → (f : Option Skel) →
+  old_declarations_go : (ds : List Declaration) → All (IsDeclaration all) ds → (r : Rounds) → IsOwn k r
+      → (f : Option Skel) →
       ((it : Option Named) → IsRow k r (identified_kind k.world f it) it) →
       Goes k r (old_declarations_tape ds) as_is as_is (old_declarations_demand k.world f ds)
   old_declarations_go [] h r o f is = nowhere

@@ -20,10 +20,10 @@ use Rattle.row_rules.specs.Rows.{row_of_name, own_skeleton}
 use Rattle.type_rules.specs.Program.{Source}
 use Rattle.constraint_rules.specs.Systems.{Program, world_of, demands_among}
 use Rattle.constraint_rules.specs.Demands.{demand, words_demand, declr_demand, old_declr_demand, block_items_demand, item_demand, items_demand}
-use Rattle.row_steps.specs.Rounds.{Rounds, file}
-use Rattle.row_steps.specs.State.{Operand, State, nothing, operand_put}
-use Rattle.row_steps.specs.Steps.{run}
-use Rattle.row_steps.specs.OpRows.{function_skeleton}
+use Rattle.row_rules.specs.RowSteps.Rounds.{Rounds, file}
+use Rattle.row_rules.specs.RowSteps.State.{Operand, State, nothing, operand_put}
+use Rattle.row_rules.specs.RowSteps.Steps.{run}
+use Rattle.row_rules.specs.RowSteps.OpRows.{function_skeleton}
 use Rattle.row_laws.specs.Laws.{with_registers, IsSound, ValuesAreLeft, RowsAreFound, UnitsLeaveNothing, rows_among, ConstraintsAreFound}
 use Rattle.row_laws.proofs.Goes.{Registers, no_registers, registers_of, Over, stacks_of, state, Runs, op_runs, chain, giving, Goes, as_is, nowhere, one, join, from, next, reaching, without, group_two}
 use Rattle.row_laws.proofs.Stacks.{operand_of, with_expr, none_kept, declaring, token_of, token_in}
@@ -82,7 +82,8 @@ module _ (w : World) (asked : Bool) (at_file : IsOwn (over w asked) (file false)
       (λ y. body_own w it) (λ y. refl) false) (none_kept (over (inside (own_skeleton w it) w) asked) items)
 
   -- a function, by its head
-  function_goes : (ws : SpecWords) (d : Declr) (items : BlockItems) → AreBlockItems all items → {head : List Op} (rows : List Constraint) →
+  function_goes : (ws : SpecWords) (d : Declr) (items : BlockItems) → AreBlockItems all items
+      → {head : List Op} (rows : List Constraint) →
       Goes (over w asked) (file false) head as_is (declaring None (token_in d)) (words_demand w ws ++ rows) →
       Goes (over w asked) (file false) (head ++ stmt stmts.FunctionBody ++ block_items_tape false items ++ stmt stmts.FunctionEnd
       ++ declr declrs.DeclarationEnd) as_is as_is
@@ -96,7 +97,8 @@ module _ (w : World) (asked : Bool) (at_file : IsOwn (over w asked) (file false)
             (block_items_demand (inside (own_skeleton w (declared_name d)) w) items));
       }
 
-  item_goes : (item : Item) → IsItem all item → Goes (over w asked) (file false) (item_tape item) as_is as_is (item_demand w item)
+  item_goes : (item : Item) → IsItem all item
+      → Goes (over w asked) (file false) (item_tape item) as_is as_is (item_demand w item)
   item_goes (function_item exts ws d attrs opening items closing) h =
       function_goes ws d items h.7 (declr_demand w row_of_name (own_skeleton w (declared_name d)) d)
       (head_goes ws h.1 d (contents_go (over w asked) all d h.4 (file false) at_file row_of_name
@@ -135,7 +137,8 @@ units_leave_nothing w all items unit =
 
 -- programs
 
-found_among : (p : Program) (sources : List Source) → All IsSound sources → rows_among p sources ≡ demands_among p sources
+found_among : (p : Program) (sources : List Source) → All IsSound sources
+    → rows_among p sources ≡ demands_among p sources
 found_among p [] h = refl
 found_among p (it ∷ sources) h =
     let sound : IsSound it = All-head IsSound it sources h in

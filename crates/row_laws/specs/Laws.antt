@@ -10,18 +10,20 @@ use Rattle.c_tape.specs.Tape.{expr_tape, tape_of}
 use Rattle.type_rules.specs.Shapes.{is_zero}
 use Rattle.type_rules.specs.Program.{Source}
 use Rattle.row_rules.specs.Worlds.{World}
-use Rattle.row_steps.specs.State.{expression, State, nothing, operand_put}
-use Rattle.row_steps.specs.Steps.{run}
-use Rattle.row_steps.specs.Found.{unit_rows}
+use Rattle.row_rules.specs.RowSteps.State.{expression, State, nothing, operand_put}
+use Rattle.row_rules.specs.RowSteps.Steps.{run}
+use Rattle.row_rules.specs.RowSteps.Found.{unit_rows}
 use Rattle.constraint_rules.specs.Values.{val}
 use Rattle.constraint_rules.specs.Demands.{items_demand}
 use Rattle.constraint_rules.specs.Systems.{Program, world_of, system_of}
 
--- the skeleton of the compound literal that was gone through last and the pointer that was noted last are of no use behind what they are for
+-- the skeleton of the compound literal that was gone through last and the pointer that was noted last are of no use
+-- behind what they are for
 abbrev pub with_registers : State → State → State
 with_registers it st = record st { literal = it.literal; carried = it.carried }
 
--- Where no argument and no item of an initialiser is being taken, the tape of a well-formed expression leaves one operand
+-- Where no argument and no item of an initialiser is being taken, the tape of a well-formed expression leaves one
+-- operand
 -- more: its skeleton, and whether it is a zero.
 abbrev pub ValuesAreLeft : Type 0
 ValuesAreLeft =
@@ -47,7 +49,7 @@ abbrev pub rows_among : Program → List Source → List Constraint
 rows_among p [] = []
 rows_among p (it ∷ sources) = unit_rows (world_of p it) (tape_of it.items) ++ rows_among p sources
 
--- its items are those of some tokens, well formed but for scopes
+-- the items of a unit are those of some tokens, well formed but for scopes
 abbrev pub IsSound : Source → Type 0
 IsSound it = (all : List Lexeme) × IsUnit all it.items
 

@@ -6,3 +6,4 @@ pub mod Sites
 pub mod Starting
 pub mod Vals
 pub mod Worlds
+pub mod RowSteps

@@ -28,6 +28,7 @@ flowing is_zero a t lattices where_ = if is_zero || (is_empty a || is_empty t) t
 abbrev pub dereferenced : World → Skel → Bool → Span → List Constraint
 dereferenced w s aims where_ = if is_fun (contents s) then [] else deref_bounds w (root s) aims where_
 
+-- whether an assignment operator is `+=` or `-=`
 abbrev pub is_plus_or_minus : Punct → Bool
 is_plus_or_minus signs.PlusEqual = true
 is_plus_or_minus signs.MinusEqual = true
@@ -38,6 +39,7 @@ abbrev pub assigned : World → Punct → Bool → Skel → Skel → Span → Li
 assigned w p is_zero a b where_ = write_bounds w (root a) where_
     ++ (if is_plus_or_minus p && is_ref (contents a) then [] else flowing is_zero b (contents a) (all_lattices w) where_)
 
+-- whether an operator gives a truth value: `||`, `&&` and comparisons
 abbrev pub is_logical : Punct → Bool
 is_logical signs.BarBar = true
 is_logical signs.AmpersandAmpersand = true
@@ -59,7 +61,7 @@ computed w p first_is_zero last_is_zero a b t where_ =
 abbrev pub branched : World → Skel → Skel → Skel → Span → List Constraint
 branched w a b t where_ = flowing false a t (all_lattices w) where_ ++ flowing false b t (all_lattices w) where_
 
--- so, where there is one
+-- the row of a condition: where none of its branches is a zero, its value is fresh
 abbrev pub chosen : World → Bool → Bool → Skel → Skel → Skel → Span → List Constraint
 chosen w first_is_zero last_is_zero a b t where_ =
     if first_is_zero || last_is_zero then [] else formed w where_ t ++ branched w a b t where_
@@ -69,7 +71,7 @@ abbrev pub picking : World → List Candidate → Skel → Span → List Constra
 picking w [] t where_ = []
 picking w (it ∷ others) t where_ = flowing it.is_zero (value it.val) t (all_lattices w) where_ ++ picking w others t where_
 
--- so, where there is one: where several are left
+-- the row of a pick: where several candidates are left, its value is fresh
 abbrev pub picked : World → List Candidate → Skel → Span → List Constraint
 picked w [] t where_ = []
 picked w (it ∷ []) t where_ = []
@@ -80,17 +82,20 @@ abbrev pub index_demand : World → Skel → Skel → Bool → Span → List Con
 index_demand w a b aims where_ =
     if is_vector_index w.spelling.wide a b then [] else dereferenced w (if is_ref a then a else b) aims where_
 
--- A pointer that `&` makes to a place that was come to by a pointer: it points at the place, and is at least that pointer in the
+-- A pointer that `&` makes to a place that was come to by a pointer: it points at the place, and is at least that
+-- pointer in the
 -- lattices that bound accesses.
 abbrev pub carrying : World → Skel → Skel → Span → List Constraint
 carrying w by t where_ =
     if is_nothing by || is_nothing t then []
     else constraint (access_lattices w.lattices) where_ (Le (root by) (root t)) ∷ []
 
+-- the row of `&` before a place that was come to by a pointer, where some lattice bounds accesses
 abbrev pub carried : World → Skel → Skel → Skel → Span → List Constraint
 carried w place by t where_ =
     formed w where_ t ++ (flowing false place t (all_lattices w) where_ ++ carrying w by t where_)
 
+-- the row of a prefix operator; `aims`: the place of its value is only addressed
 abbrev pub prefixed : World → Punct → Bool → Val → Skel → Bool → Span → List Constraint
 prefixed w signs.PlusPlus is_zero e t aims where_ = write_bounds w (root e.skel) where_
 prefixed w signs.MinusMinus is_zero e t aims where_ = write_bounds w (root e.skel) where_
@@ -114,6 +119,7 @@ formed_here w token = formed w (span w token token) (own w token)
 abbrev pub crossed : World → ℕ → Place → List Constraint
 crossed w token p = in_all w (span w token token) (cross (site_number w (at w token)) (skeleton w p) (skeleton w (at w token)))
 
+-- the row of a use of a declared name: only that of a function gives something
 abbrev pub instance : World → ℕ → Place → Role → List Constraint
 instance w token p function_role = formed_here w token ++ crossed w token p
 instance w token p typedef_role = []
@@ -122,10 +128,12 @@ instance w token p (parameter_role i) = []
 instance w token p (field_role n i) = []
 instance w token p enumerator_role = []
 
+-- the row of a use of a name, where its declaration is there
 abbrev pub some_instance : World → ℕ → Option Declared → List Constraint
 some_instance w token None = []
 some_instance w token (Some d) = instance w token d.at d.role
 
+-- the row of a name in an expression, by what it stands for
 abbrev pub use_demand : World → ℕ → Use → List Constraint
 use_demand w token (means p) = some_instance w token (declared_at w.names.declared p)
 use_demand w token called = formed_here w token
@@ -133,6 +141,7 @@ use_demand w token missing = []
 
 -- names
 
+-- what the annotation words on a type give, where it is known
 abbrev pub annotating_some : World → Option CType → Skel → List Constraint
 annotating_some w None s = []
 annotating_some w (Some t) s = annotating w t s
@@ -141,6 +150,7 @@ annotating_some w (Some t) s = annotating w t s
 abbrev pub casting : World → CType → Bool → Skel → Skel → Span → List Constraint
 casting w type is_zero a t where_ = annotating w type t ++ (if nat_eq (uncut w type) 0 then [] else flowing is_zero a t (uncut w type) where_)
 
+-- the row of a cast, where the type that it names is known
 abbrev pub cast_demand : World → Option CType → Bool → Skel → Skel → Span → List Constraint
 cast_demand w None is_zero a t where_ = []
 cast_demand w (Some type) is_zero a t where_ = formed w where_ t ++ casting w type is_zero a t where_
@@ -149,10 +159,12 @@ cast_demand w (Some type) is_zero a t where_ = formed w where_ t ++ casting w ty
 abbrev pub annotating_name : World → Declared → List Constraint
 annotating_name w d = annotating w (pointer [] d.type) (skeleton w d.at)
 
--- where what a declaration is as was declared: first in its unit or in the prelude, or where this is that itself, first in all units
+-- where what a declaration is as was declared: first in its unit or in the prelude, or where this is that itself, first
+-- in all units
 abbrev pub equal_to : World → Declared → Place
 equal_to w d = if is_place d.first d.at then link_of w.names d.at else d.first
 
+-- a declaration is as that at a place, where that is another one and both have skeletons
 abbrev pub tied_to : World → Declared → Place → List Constraint
 tied_to w d first =
     if is_place first d.at || (is_nothing (skeleton w first) || is_nothing (skeleton w d.at)) then []
@@ -170,9 +182,11 @@ formed_name w d = formed w (word_span d.at) (skeleton w d.at)
 abbrev pub plain_name_row : World → Declared → List Constraint
 plain_name_row w d = annotating_name w d ++ (indexing w (pointer [] d.type) (skeleton w d.at) ++ tied_to_first w d)
 
+-- the row of a declared name
 abbrev pub name_row : World → Declared → List Constraint
 name_row w d = formed_name w d ++ plain_name_row w d
 
+-- the row of a declared name by its role; a typedef and an enumerator have none
 abbrev pub declared_row : World → Declared → Role → List Constraint
 declared_row w d typedef_role = []
 declared_row w d object_role = name_row w d
@@ -181,41 +195,47 @@ declared_row w d (parameter_role i) = name_row w d
 declared_row w d (field_role n i) = name_row w d
 declared_row w d enumerator_role = []
 
+-- the row of a declared name, where there is a declaration
 abbrev pub some_declared_row : World → Option Declared → List Constraint
 some_declared_row w None = []
 some_declared_row w (Some d) = declared_row w d d.role
 
--- A parameter of a function: its annotations, and what the function is given flows into it. What was first declared as a function
--- is none.
+-- What a function is given flows into its parameter. What was first declared as a function is no parameter.
 abbrev pub into_param : World → Option Skel → Declared → List Constraint
 into_param w None d = []
 into_param w (Some s) d =
     if is_some_function (declared_at w.names.declared d.first) || is_nothing (contents (skeleton w d.at)) then [] else in_all w (word_span d.at) (flow Flow true s (contents (skeleton w d.at)))
 
+-- a parameter's annotations, and what its function is given flows into it
 abbrev pub plain_param_row : World → Skel → ℕ → Declared → List Constraint
 plain_param_row w own i d = annotating_name w d ++ into_param w (param_at (parameters own) i) d
 
+-- the row of the parameter of a number, of the function of this skeleton
 abbrev pub param_row : World → Skel → ℕ → Option Declared → List Constraint
 param_row w own i None = []
 param_row w own i (Some d) = formed_name w d ++ plain_param_row w own i d
 
--- which row the name of a declarator has: none in a type's name and in a prototype, that of a name, or that of a parameter of the
+-- which row the name of a declarator has: none in a type's name and in a prototype, that of a name, or that of a
+-- parameter of the
 -- function of this skeleton
 pub data RowKind : Type 0 where
   no_row : RowKind
   row_of_name : RowKind
   row_of_param : Skel → ℕ → RowKind
 
+-- the row of the name of a declarator at a token
 abbrev pub row_at : World → RowKind → ℕ → List Constraint
 row_at w no_row token = []
 row_at w row_of_name token = some_declared_row w (declared_at w.names.declared (at w token))
 row_at w (row_of_param own i) token = param_row w own i (declared_at w.names.declared (at w token))
 
+-- the row of a parameter of the function of this skeleton; `bare`: the parameters stand directly around its name
 abbrev pub param_kind : Option Skel → Bool → ℕ → RowKind
 param_kind None bare i = no_row
 param_kind (Some own) true i = row_of_param own i
 param_kind (Some own) false i = no_row
 
+-- the row of a parameter of the function of this skeleton, where there is one
 abbrev pub some_param_kind : Option Skel → ℕ → RowKind
 some_param_kind None i = no_row
 some_param_kind (Some own) i = row_of_param own i
@@ -229,10 +249,12 @@ numbered_row own (parameter_role i) = some_param_kind own i
 numbered_row own (field_role n i) = no_row
 numbered_row own enumerator_role = no_row
 
+-- the row of a parameter that is declared behind a list of identifiers, by its declaration
 abbrev pub identified_by : Option Skel → Option Declared → RowKind
 identified_by own None = no_row
 identified_by own (Some d) = numbered_row own d.role
 
+-- the row of the name of a declarator behind a list of identifiers
 abbrev pub identified_kind : World → Option Skel → Option Named → RowKind
 identified_kind w own None = no_row
 identified_kind w own (Some it) = identified_by own (declared_at w.names.declared (at w it.token))
@@ -246,6 +268,7 @@ returned w (Some own) is_zero a where_ = flowing is_zero a (result own) (all_lat
 abbrev pub taken : World → Skel → Skel → Span → List Constraint
 taken w list t where_ = if is_nothing list || is_nothing t then [] else in_all w where_ (unsmash (root list) t)
 
+-- the row of `va_start`: the further arguments of the function around it flow into the list (7.15.1.4)
 abbrev pub started : World → Option Skel → Skel → Span → List Constraint
 started w None list where_ = []
 started w (Some own) list where_ = begun w (further own) list where_ where
@@ -255,17 +278,21 @@ started w (Some own) list where_ = begun w (further own) list where_ where
 
 -- initialisers: what an item initialises
 
+-- the skeleton of what is in an own member, where there is one
 abbrev pub own_skel : World → Option Own → Option Skel
 own_skel w None = None
 own_skel w (Some it) = Some (contents (skeleton w it.at))
 
+-- what an item without designators initialises of a struct, where the next member has this number
 abbrev pub next_of_struct : World → ℕ → ℕ → Option Skel
 next_of_struct w n next = own_skel w (slice_get (own_of w.names.aggregates n) (own_number w.names.aggregates n next))
 
+-- what an item initialises of something without parts: all of it, and only the first item does
 abbrev pub first_alone : Bool → Skel → Option Skel
 first_alone true s = Some s
 first_alone false s = None
 
+-- the number of the own member behind a designated one
 abbrev pub behind_known : Option Known → ℕ → ℕ
 behind_known None next = next
 behind_known (Some it) next = suc it.own
@@ -274,6 +301,7 @@ behind_known (Some it) next = suc it.own
 abbrev pub taken_of_type : World → ℕ → Option CType → Skel → Span → List Constraint
 taken_of_type w token type list where_ = annotating_some w type (own w token) ++ taken w list (own w token) where_
 
+-- the row of `va_arg` (7.15.1.1)
 abbrev pub taken_fresh : World → ℕ → Option CType → Skel → Span → List Constraint
 taken_fresh w token type list where_ = formed w where_ (own w token) ++ taken_of_type w token type list where_
 
@@ -282,9 +310,11 @@ abbrev pub annotating_place : World → Option CType → Skel → List Constrain
 annotating_place w None s = []
 annotating_place w (Some t) s = annotating w (pointer [] t) s
 
+-- the row of a compound literal (6.5.2.5)
 abbrev pub literal_row : World → ℕ → Option CType → List Constraint
 literal_row w token type = formed_here w token ++ annotating_place w type (own w token)
 
+-- what is in the place of a declaration, where something of this role can be initialised
 abbrev pub by_role : World → Declared → Role → Option Skel
 by_role w d typedef_role = None
 by_role w d function_role = None
@@ -293,10 +323,12 @@ by_role w d (parameter_role i) = Some (contents (skeleton w d.at))
 by_role w d (field_role n i) = Some (contents (skeleton w d.at))
 by_role w d enumerator_role = None
 
+-- what is in the place of a declaration, by the first declaration of its thing
 abbrev pub by_first : World → Declared → Option Declared → Option Skel
 by_first w d None = None
 by_first w d (Some first) = by_role w d first.role
 
+-- what the initialiser of a declared name initialises, where its declaration is there
 abbrev pub initialised_at : World → Option Declared → Option Skel
 initialised_at w None = None
 initialised_at w (Some d) = by_first w d (declared_at w.names.declared d.first)

@@ -1,3 +1,4 @@
 mod Accessing
 mod Past
 mod Showing
+pub mod TapeRounds

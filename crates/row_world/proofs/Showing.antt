@@ -4,9 +4,9 @@ use Rattle.type_table.specs.Types.{CType}
 use Rattle.name_rules.specs.Spellings.{Place}
 use Rattle.name_rules.specs.Scopes as rules
 use Rattle.name_rules.specs.Uses.{use_at, type_named_at}
-use Rattle.name_records.specs.declared.declarations.Declared.{Declared}
-use Rattle.name_records.specs.declared.records.Use.{Use}
-use Rattle.unit_names.specs.Shown.{names_of, use_of, declared_of}
+use Rattle.name_tables.specs.declared.name_records.declarations.Declared.{Declared}
+use Rattle.name_tables.specs.declared.name_records.records.Use.{Use}
+use Rattle.name_state.specs.UnitNames.Shown.{names_of, use_of, declared_of}
 use Rattle.row_rules.specs.Worlds.{World, at, skeleton}
 use Rattle.row_rules.specs.Vals.{own}
 use Rattle.row_world.specs.declared.known.Known.{Known}

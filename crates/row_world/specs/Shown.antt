@@ -8,16 +8,16 @@ use Rattle.qual_types.specs.declared.row.Row.{Row}
 use Rattle.qual_types.specs.Skel.{Skel}
 use Rattle.qual_types.specs.Rows.{skel_of}
 use Rattle.name_rules.specs.Spellings.{Place}
-use Rattle.unit_spelling.specs.Spelled.{spelling_of}
-use Rattle.unit_names.specs.Shown.{names_of}
-use Rattle.place_map.specs.Values.{number_at, value_at}
+use Rattle.name_tables.specs.UnitSpelling.Spelled.{spelling_of}
+use Rattle.name_state.specs.UnitNames.Shown.{names_of}
+use Rattle.name_tables.specs.PlaceMap.Values.{number_at, value_at}
 use Rattle.index_words.specs.Marks.{index_in}
 use Rattle.row_rules.specs.Worlds.{World, skeleton, site_number}
 use Rattle.row_rules.specs.Vals.{Val}
 use Rattle.row_rules.specs.Annotations.{entry_of_view, access_lattices}
 use Rattle.row_world.specs.declared.known.Known.{Known}
 use Rattle.row_world.specs.declared.operand.Operand.{Operand}
-use Rattle.place_flags.specs.Flags.{flag_at}
+use Rattle.name_tables.specs.PlaceFlags.Flags.{flag_at}
 
 -- a number past every table, which stands for no skeleton
 abbrev pub or_nowhere : Option ℕ → ℕ
@@ -36,11 +36,14 @@ type known n = type_of known.types.now n
 abbrev pub val_in : List Row → Operand → Val
 val_in rows it = record { is_place = it.is_place; skel = skel_of rows it.skel }
 
+-- an operand with its skeleton in place of that one's number, by what is known
 abbrev pub val : Known → Operand → Val
 val known it = val_in known.vars.now it
 
--- What is known shows a world: names with the types of a table in place of their numbers, the skeleton at each place by its
--- number, the number of each call site that there is, what annotation words name, and the numbers of index words. Whose body this
+-- What is known shows a world: names with the types of a table in place of their numbers, the skeleton at each place by
+-- its
+-- number, the number of each call site that there is, what annotation words name, and the numbers of index words. Whose
+-- body this
 -- is in is left open.
 pub record Shows (known : Known) (w : World) : Type 0 where
   pub spelling : w.spelling ≡ spelling_of known.spelling.now

@@ -5,7 +5,7 @@ ghost use Rattle.row_rules.specs.Worlds.{World};
 ghost use Rattle.row_world.specs.Shown.{Shows};
 
 use crate::known::Known;
-use name_scopes::Place;
+use name_tables::name_scopes::Place;
 use qual_base::Numbered;
 
 impl<'a> Known<'a> {

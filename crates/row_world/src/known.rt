@@ -7,16 +7,16 @@ ghost use Rattle.row_rules.specs.Vals.{own};
 ghost use Rattle.row_world.specs.Shown.{Shows, skel};
 ghost use Rattle.row_rules.specs.Annotations.{access_lattices, has_access};
 
-use found_names::FoundNames;
 use index_words::Prelude;
 use lattice_core::Lattices;
-use name_scopes::Place;
-use place_flags::PlaceFlags;
-use place_map::{PlaceIndex, PlaceMap};
+use name_state::found_names::FoundNames;
+use name_tables::name_scopes::Place;
+use name_tables::place_flags::PlaceFlags;
+use name_tables::place_map::{PlaceIndex, PlaceMap};
+use name_tables::unit_spelling::Spelling;
 use qual_base::{Elem, LatticeNo, Numbered, SiteId, SkelId, Span, TokenId};
 use qual_types::VarTable;
 use type_table::TypeTable;
-use unit_spelling::Spelling;
 
 /// What does not change while the constraints of a unit are made.
 ///

@@ -7,7 +7,7 @@ ghost use Rattle.row_world.specs.Shown.{Shows, entry_of, IsMark};
 
 use crate::known::Known;
 use lattice_core::{Deref, Entry, Lattice, Lattices};
-use name_scopes::Place;
+use name_tables::name_scopes::Place;
 use qual_base::{Elem, LatticeNo, Numbered};
 
 impl<'a> Known<'a> {

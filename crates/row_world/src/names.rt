@@ -5,7 +5,7 @@ ghost use Rattle.type_table.specs.Types.{CType};
 ghost use Rattle.name_rules.specs.Scopes.{declared_at};
 ghost use Rattle.name_rules.specs.Linking.{link_of};
 ghost use Rattle.name_rules.specs.Uses as uses;
-ghost use Rattle.unit_names.specs.Shown.{use_of, role_of, declared_of};
+ghost use Rattle.name_state.specs.UnitNames.Shown.{use_of, role_of, declared_of};
 ghost use Rattle.row_rules.specs.Starting as starting;
 ghost use Rattle.row_rules.specs.Worlds.{World, at};
 ghost use Rattle.row_rules.specs.Vals as vals;
@@ -14,8 +14,8 @@ ghost use Rattle.row_world.specs.Shown.{Shows, type, val};
 use crate::known::Known;
 use crate::operand::Operand;
 use crate::skels::nowhere;
-use name_records::{Declared, Role, Use};
-use name_scopes::Place;
+use name_tables::name_records::{Declared, Role, Use};
+use name_tables::name_scopes::Place;
 use qual_base::{TokenId, TypeId};
 
 /// Whether a function is declared.

@@ -3,7 +3,7 @@
 ghost use Rattle.std.specs.Prelude.{◌≡◌, ℕ, IfOk, option_map};
 ghost use Rattle.type_table.specs.Types.{CType};
 ghost use Rattle.name_rules.specs.Scopes.{declared_at};
-ghost use Rattle.unit_names.specs.Shown as shown;
+ghost use Rattle.name_state.specs.UnitNames.Shown as shown;
 ghost use Rattle.qual_types.specs.Skel.{struct_of};
 ghost use Rattle.row_rules.specs.Worlds.{World, at};
 ghost use Rattle.row_rules.specs.Vals as vals;
@@ -13,7 +13,7 @@ ghost use Rattle.row_world.specs.Shown.{Shows, skel, type};
 use crate::known::Known;
 use crate::skels::{contents, nowhere};
 use name_records as records;
-use name_records::{Declared, Own, Role};
+use name_tables::name_records::{Declared, Own, Role};
 use qual_base::{NameId, NoMemory, SkelId, StructId, TokenId};
 
 impl<'a> Known<'a> {

@@ -15,12 +15,14 @@ module _ (sys : System) (lattice : ℕ) (p : Program) (w : World) where
   depth_of st (marks old _ i r n e run stands is) = max (length (w.frame i).sites) (depth_of old run)
   depth_of st (marks_cell old _ i r o k n e t run reaches stands is) = max (length (w.frame i).sites) (depth_of old run)
 
-pub copy_of : (sys : System) (owner : Owner) (sites : List ℕ) (depth : ℕ) → IsSomeCopy sys owner sites → length sites ≤ depth → IsCopy sys depth owner sites
+pub copy_of : (sys : System) (owner : Owner) (sites : List ℕ) (depth : ℕ) → IsSomeCopy sys owner sites
+    → length sites ≤ depth → IsCopy sys depth owner sites
 copy_of sys Nobody sites depth h fits = h
 copy_of sys (Function f) sites depth h fits = (h, fits)
 
 module _ (sys : System) (lattice : ℕ) (p : Program) (w : World) (world : IsWorld sys w) (depth : ℕ) where
-  pub all_fit : (st : State) (run : Run sys lattice p w st) → depth_of sys lattice p w st run ≤ depth → AllFit sys lattice depth p w st run
+  pub all_fit : (st : State) (run : Run sys lattice p w st) → depth_of sys lattice p w st run ≤ depth
+      → AllFit sys lattice depth p w st run
   all_fit st (begins _ blank) h = tt
   all_fit st (steps old _ i instr run among does) h =
       let j = other p w old st i instr does in (

@@ -36,7 +36,8 @@ module _ (order : Order) (ordered : IsOrder order) (by : Arrow) (is : Link → T
   same false u v h = ordered.apart (ea u) (eb v) (one true u v (back is (pair by false u v) (pair by true u v) h)) (one false u v (front is (pair by false u v) (pair by true u v) h))
 
   mutual
-    equal_reads : (forward : Bool) (a b : Skel) → IsEven loose a b → AllAre is (equal by forward a b) → read ea a ≡ read eb b
+    equal_reads : (forward : Bool) (a b : Skel) → IsEven loose a b → AllAre is (equal by forward a b)
+        → read ea a ≡ read eb b
     equal_reads forward (flat u k) (flat v l) even h = ap (λ q. leaf q) (same forward u v h)
     equal_reads forward (flat u k) (ref v b) even h = absurd even
     equal_reads forward (flat u k) (fun v qs s f) even h = absurd even
@@ -48,7 +49,8 @@ module _ (order : Order) (ordered : IsOrder order) (by : Arrow) (is : Link → T
     equal_reads forward (ref u a) (fun v qs s f) even h = absurd even
     equal_reads forward (fun u ps r e) b even h = absurd even
 
-    equal_kept : (forward : Bool) (a b : Skel) → IsAlike loose a b → AllAre is (equal by forward a b) → kept ea a ≡ kept eb b
+    equal_kept : (forward : Bool) (a b : Skel) → IsAlike loose a b → AllAre is (equal by forward a b)
+        → kept ea a ≡ kept eb b
     equal_kept forward (flat u k) (flat v l) even h = ap (λ q. leaf q) (same forward u v h)
     equal_kept forward (flat u k) (ref v b) even h = odd_right forward u v k b even h
     equal_kept forward (flat u k) (fun v qs s f) even h = absurd even
@@ -74,7 +76,8 @@ module _ (order : Order) (ordered : IsOrder order) (by : Arrow) (is : Link → T
         let last : read ea r ≡ read eb s = equal_reads forward r s even.1 (front is l4 l5 t3) in
         ap (λ q. arrow q (reads ea ps) (read ea r)) first ∙ (ap (λ ts. arrow (eb v) ts (read ea r)) middle ∙ ap (λ t. arrow (eb v) (reads eb qs) t) last)
 
-    equals_read : (forward : Bool) (ps qs : Skels) → AreEven loose ps qs → AllAre is (equals by forward ps qs) → reads ea ps ≡ reads eb qs
+    equals_read : (forward : Bool) (ps qs : Skels) → AreEven loose ps qs → AllAre is (equals by forward ps qs)
+        → reads ea ps ≡ reads eb qs
     equals_read forward no_skels no_skels even h = refl
     equals_read forward no_skels (more_skels q qs) even h = absurd even
     equals_read forward (more_skels p ps) no_skels even h = absurd even
@@ -83,7 +86,8 @@ module _ (order : Order) (ordered : IsOrder order) (by : Arrow) (is : Link → T
         let rest : reads ea ps ≡ reads eb qs = equals_read forward ps qs even.1 (back is (equal by forward p q) (equals by forward ps qs) h) in
         ap (λ t. more_trees t (reads ea ps)) first ∙ ap (λ ts. more_trees (read eb q) ts) rest
 
-  pub flow_subs : (forward : Bool) (a b : Skel) → IsEven loose a b → AllAre is (flow by forward a b) → Subs order forward (read ea a) (read eb b)
+  pub flow_subs : (forward : Bool) (a b : Skel) → IsEven loose a b → AllAre is (flow by forward a b)
+      → Subs order forward (read ea a) (read eb b)
   flow_subs forward (flat u k) (flat v l) even h = one forward u v h
   flow_subs forward (flat u k) (ref v b) even h = absurd even
   flow_subs forward (flat u k) (fun v qs s f) even h = absurd even
@@ -93,7 +97,8 @@ module _ (order : Order) (ordered : IsOrder order) (by : Arrow) (is : Link → T
   flow_subs forward (ref u a) (fun v qs s f) even h = absurd even
   flow_subs forward (fun u ps r e) b even h = absurd even
 
-  flows_subs : (forward : Bool) (ps qs : Skels) → AreEven loose ps qs → AllAre is (flows by forward ps qs) → AllSubs order forward (reads ea ps) (reads eb qs)
+  flows_subs : (forward : Bool) (ps qs : Skels) → AreEven loose ps qs → AllAre is (flows by forward ps qs)
+      → AllSubs order forward (reads ea ps) (reads eb qs)
   flows_subs forward no_skels no_skels even h = tt
   flows_subs forward no_skels (more_skels q qs) even h = absurd even
   flows_subs forward (more_skels p ps) no_skels even h = absurd even
@@ -101,7 +106,8 @@ module _ (order : Order) (ordered : IsOrder order) (by : Arrow) (is : Link → T
       (flow_subs forward p q even.0 (front is (flow by forward p q) (flows by forward ps qs) h), flows_subs forward ps qs even.1 (back is (flow by forward p q) (flows by forward ps qs) h))
 
   -- of a function into another
-  pub fun_subs : (forward : Bool) (u v : ℕ) (ps qs : Skels) (r s : Skel) (e f : Option ℕ) → AreEven loose ps qs × IsEven loose r s →
+  pub fun_subs : (forward : Bool) (u v : ℕ) (ps qs : Skels) (r s : Skel) (e f : Option ℕ)
+      → AreEven loose ps qs × IsEven loose r s →
       AllAre is (flow by forward (fun u ps r e) (fun v qs s f)) → Subs order forward (kept ea (fun u ps r e)) (kept eb (fun v qs s f))
   fun_subs forward u v ps qs r s e f even h =
       let l1 = pair by forward u v in
@@ -124,7 +130,8 @@ module _ (order : Order) (ordered : IsOrder order) (is : Link → Type 0) (el : 
       ap (λ t. join (el u) t) (all_tied s v none h.1.1) ∙ (ap (λ q. join q (leaf (el v))) first ∙ join_same (el v))
   all_tied (fun u ps r e) v none h = absurd none
 
-  pub odd : (u v : ℕ) (s : Skel) → HasNoFun s → el u ≡ el v → AllAre is (tied (nodes s) v) → join (el u) (kept el s) ≡ leaf (el v)
+  pub odd : (u v : ℕ) (s : Skel) → HasNoFun s → el u ≡ el v → AllAre is (tied (nodes s) v)
+      → join (el u) (kept el s) ≡ leaf (el v)
   odd u v s none same h = ap (λ t. join (el u) t) (all_tied s v none h) ∙ (ap (λ q. join q (leaf (el v))) same ∙ join_same (el v))
 
 -- the parameters of two functions that are below each other, the one's into the other's
@@ -133,7 +140,8 @@ pub record IsParam (order : Order) (el : ℕ → ℕ) (ps : Skels) (k : ℕ) (t 
   pub there : param_at ps k ≡ Some skel
   pub below : Subs order true t (read el skel)
 
-pub params_sub : (order : Order) (ea eb : ℕ → ℕ) (ps qs : Skels) (k : ℕ) (s : Skel) → AllSubs order false (reads ea ps) (reads eb qs) → param_at qs k ≡ Some s →
+pub params_sub : (order : Order) (ea eb : ℕ → ℕ) (ps qs : Skels) (k : ℕ) (s : Skel)
+    → AllSubs order false (reads ea ps) (reads eb qs) → param_at qs k ≡ Some s →
     IsParam order ea ps k (read eb s)
 params_sub order ea eb no_skels no_skels k s h is = absurd (none-some s is)
 params_sub order ea eb no_skels (more_skels q qs) k s h is = absurd h
@@ -153,19 +161,22 @@ nobodys own v (inr h) = h
 
 -- Under two readings that agree on what belongs to nobody, a skeleton of nobody's variables is the same.
 mutual
-  pub nobodys_read : (own : ℕ → Owner) (ea eb : ℕ → ℕ) (s : Skel) → ((v : ℕ) → own v ≡ Nobody → ea v ≡ eb v) → Belongs own Nobody s → read ea s ≡ read eb s
+  pub nobodys_read : (own : ℕ → Owner) (ea eb : ℕ → ℕ) (s : Skel) → ((v : ℕ) → own v ≡ Nobody → ea v ≡ eb v)
+      → Belongs own Nobody s → read ea s ≡ read eb s
   nobodys_read own ea eb (flat v k) agree h = ap (λ q. leaf q) (agree v (nobodys own v h))
   nobodys_read own ea eb (ref v s) agree h = ap (λ q. cell q (kept ea s)) (agree v (nobodys own v h.0)) ∙ ap (λ t. cell (eb v) t) (nobodys_kept own ea eb s agree h.1)
   nobodys_read own ea eb (fun v ps r e) agree h = ap (λ q. arrow q (reads ea ps) (read ea r)) (agree v (nobodys own v h.0))
       ∙ (ap (λ ts. arrow (eb v) ts (read ea r)) (all_nobodys_read own ea eb ps agree h.1) ∙ ap (λ t. arrow (eb v) (reads eb ps) t) (nobodys_read own ea eb r agree h.2))
 
-  pub nobodys_kept : (own : ℕ → Owner) (ea eb : ℕ → ℕ) (s : Skel) → ((v : ℕ) → own v ≡ Nobody → ea v ≡ eb v) → Belongs own Nobody s → kept ea s ≡ kept eb s
+  pub nobodys_kept : (own : ℕ → Owner) (ea eb : ℕ → ℕ) (s : Skel) → ((v : ℕ) → own v ≡ Nobody → ea v ≡ eb v)
+      → Belongs own Nobody s → kept ea s ≡ kept eb s
   nobodys_kept own ea eb (flat v k) agree h = ap (λ q. leaf q) (agree v (nobodys own v h))
   nobodys_kept own ea eb (ref v s) agree h = ap (λ q. join q (kept ea s)) (agree v (nobodys own v h.0)) ∙ ap (λ t. join (eb v) t) (nobodys_kept own ea eb s agree h.1)
   nobodys_kept own ea eb (fun v ps r e) agree h = ap (λ q. arrow q (reads ea ps) (read ea r)) (agree v (nobodys own v h.0))
       ∙ (ap (λ ts. arrow (eb v) ts (read ea r)) (all_nobodys_read own ea eb ps agree h.1) ∙ ap (λ t. arrow (eb v) (reads eb ps) t) (nobodys_read own ea eb r agree h.2))
 
-  all_nobodys_read : (own : ℕ → Owner) (ea eb : ℕ → ℕ) (ps : Skels) → ((v : ℕ) → own v ≡ Nobody → ea v ≡ eb v) → AllBelong own Nobody ps → reads ea ps ≡ reads eb ps
+  all_nobodys_read : (own : ℕ → Owner) (ea eb : ℕ → ℕ) (ps : Skels) → ((v : ℕ) → own v ≡ Nobody → ea v ≡ eb v)
+      → AllBelong own Nobody ps → reads ea ps ≡ reads eb ps
   all_nobodys_read own ea eb no_skels agree h = refl
   all_nobodys_read own ea eb (more_skels s ss) agree h = ap (λ t. more_trees t (reads ea ss)) (nobodys_read own ea eb s agree h.0)
       ∙ ap (λ ts. more_trees (read eb s) ts) (all_nobodys_read own ea eb ss agree h.1)

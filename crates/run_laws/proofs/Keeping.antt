@@ -35,7 +35,8 @@ both_true : (a b : Bool) → (a && b) ≡ true → (a ≡ true) × (b ≡ true)
 both_true true b h = (refl, h)
 both_true false b h = absurd (false_not h)
 
-put_keeps : (P : ℕ → ℕ → Value → Type 0) (held : ℕ → ℕ → Value) (i k : ℕ) (x : Value) → ((j l : ℕ) → P j l (held j l)) → P i k x → (j l : ℕ) → P j l (put held i k x j l)
+put_keeps : (P : ℕ → ℕ → Value → Type 0) (held : ℕ → ℕ → Value) (i k : ℕ) (x : Value) → ((j l : ℕ) → P j l (held j l))
+    → P i k x → (j l : ℕ) → P j l (put held i k x j l)
 put_keeps P held i k x all new j l = chosen (P j l) (nat_eq i j && nat_eq k l) x (held j l)
     (λ h. let two = both_true (nat_eq i j) (nat_eq k l) h in
     subst (λ m. P j m x) (eqb-true k l two.1) (subst (λ m. P m k x) (eqb-true i j two.0) new)) (all j l)
@@ -96,7 +97,8 @@ abbrev pub FitsIn : System → ℕ → World → ℕ → Type 0
 FitsIn sys depth w i = IsCopy sys depth (w.frame i).owner (w.frame i).sites
 
 -- for those of all frames of a run
-abbrev pub AllFit : (sys : System) (lattice depth : ℕ) (p : Program) (w : World) (st : State) → Run sys lattice p w st → Type 0
+abbrev pub AllFit : (sys : System) (lattice depth : ℕ) (p : Program) (w : World) (st : State) → Run sys lattice p w st
+    → Type 0
 AllFit sys lattice depth p w st (begins _ blank) = Unit {0}
 AllFit sys lattice depth p w st (steps old _ i instr run among does) = FitsIn sys depth w i × FitsIn sys depth w (other p w old st i instr does) × AllFit sys lattice depth p w old run
 AllFit sys lattice depth p w st (marks old _ i r n e run stands is) = FitsIn sys depth w i × AllFit sys lattice depth p w old run
@@ -170,23 +172,27 @@ module _ (sys : System) (lattice : ℕ) (order : Order) (depth : ℕ) (map : Ass
     pub copy : IsCopy sys depth (owner_of sys v) there
     pub same : el there v ≡ el sites v
 
-  pub met_in : (owner : Owner) (sites : List ℕ) (v : ℕ) → IsCopy sys depth owner sites → IsIn (owner_of sys) owner v → IsMetIn v sites
+  pub met_in : (owner : Owner) (sites : List ℕ) (v : ℕ) → IsCopy sys depth owner sites → IsIn (owner_of sys) owner v
+      → IsMetIn v sites
   met_in owner sites v copy (inl h) = record { there = sites; copy = subst (λ o. IsCopy sys depth o sites) (sym h) copy; same = refl }
   met_in owner sites v copy (inr h) = record { there = []; copy = subst (λ o. IsCopy sys depth o []) (sym h) refl; same = sym (nobody_at v sites h) }
 
-  both_nobody : (sites : List ℕ) (n u v : ℕ) → Stands sys lattice n (Le u v) → owner_of sys u ≡ Nobody → owner_of sys v ≡ Nobody →
+  both_nobody : (sites : List ℕ) (n u v : ℕ) → Stands sys lattice n (Le u v) → owner_of sys u ≡ Nobody
+      → owner_of sys v ≡ Nobody →
       leq order (el sites u) (el sites v) ≡ true
   both_nobody sites n u v st hu hv =
       let low : leq order (el [] u) (el [] v) ≡ true = rises.le n u v [] st
       (subst (λ o. IsCopy sys depth (either o (owner_of sys v)) []) (sym hu) (subst (λ o. IsCopy sys depth o []) (sym hv) refl)) in
       subst (λ x. leq order x (el sites v) ≡ true) (sym (nobody_at u sites hu)) (subst (λ x. leq order (el [] u) x ≡ true) (sym (nobody_at v sites hv)) low)
 
-  le_holds_nobody : (sites : List ℕ) (n u v : ℕ) → Stands sys lattice n (Le u v) → owner_of sys u ≡ Nobody → IsIn (owner_of sys) Nobody v →
+  le_holds_nobody : (sites : List ℕ) (n u v : ℕ) → Stands sys lattice n (Le u v) → owner_of sys u ≡ Nobody
+      → IsIn (owner_of sys) Nobody v →
       leq order (el sites u) (el sites v) ≡ true
   le_holds_nobody sites n u v st hu (inl hv) = both_nobody sites n u v st hu hv
   le_holds_nobody sites n u v st hu (inr hv) = both_nobody sites n u v st hu hv
 
-  le_holds : (owner : Owner) (sites : List ℕ) (n u v : ℕ) → IsCopy sys depth owner sites → Stands sys lattice n (Le u v) →
+  le_holds : (owner : Owner) (sites : List ℕ) (n u v : ℕ) → IsCopy sys depth owner sites
+      → Stands sys lattice n (Le u v) →
       IsIn (owner_of sys) owner u → IsIn (owner_of sys) owner v → leq order (el sites u) (el sites v) ≡ true
   le_holds Nobody sites n u v copy st (inl hu) hv = le_holds_nobody sites n u v st hu hv
   le_holds Nobody sites n u v copy st (inr hu) hv = le_holds_nobody sites n u v st hu hv
@@ -204,35 +210,44 @@ module _ (sys : System) (lattice : ℕ) (order : Order) (depth : ℕ) (map : Ass
   abbrev Fits : ℕ → Type 0
   Fits i = FitsIn sys depth w i
 
-  flow_one : (i : ℕ) → Fits i → (forward : Bool) (u v : ℕ) → AllAre (IsFlow sys lattice (owner_at i)) (pair Flow forward u v) → types.Goes order forward (el (sites_at i) u) (el (sites_at i) v)
+  flow_one : (i : ℕ) → Fits i → (forward : Bool) (u v : ℕ)
+      → AllAre (IsFlow sys lattice (owner_at i)) (pair Flow forward u v)
+      → types.Goes order forward (el (sites_at i) u) (el (sites_at i) v)
   flow_one i deep true u v h = le_holds (owner_at i) (sites_at i) h.0.0.0 u v deep h.0.0.1 h.0.1.0 h.0.1.1
   flow_one i deep false u v h = le_holds (owner_at i) (sites_at i) h.0.0.0 v u deep h.0.0.1 h.0.1.0 h.0.1.1
 
   -- what a `void` is beside references, in one copy
-  all_flow : (i : ℕ) → Fits i → (u v : ℕ) → IsFlow sys lattice (owner_at i) (Le u v) → leq order (el (sites_at i) u) (el (sites_at i) v) ≡ true
+  all_flow : (i : ℕ) → Fits i → (u v : ℕ) → IsFlow sys lattice (owner_at i) (Le u v)
+      → leq order (el (sites_at i) u) (el (sites_at i) v) ≡ true
   all_flow i deep u v h = flow_one i deep true u v (h, tt)
 
-  level : (i : ℕ) → Fits i → (u v : ℕ) → IsFlow sys lattice (owner_at i) (Le u v) → IsFlow sys lattice (owner_at i) (Le v u) → el (sites_at i) u ≡ el (sites_at i) v
+  level : (i : ℕ) → Fits i → (u v : ℕ) → IsFlow sys lattice (owner_at i) (Le u v)
+      → IsFlow sys lattice (owner_at i) (Le v u) → el (sites_at i) u ≡ el (sites_at i) v
   level i deep u v h k = ordered.apart (el (sites_at i) u) (el (sites_at i) v) (all_flow i deep u v h) (all_flow i deep v u k)
 
-  is_odd : (i : ℕ) → Fits i → (u v : ℕ) (s : Skel) → HasNoFun s → el (sites_at i) u ≡ el (sites_at i) v → AllAre (IsFlow sys lattice (owner_at i)) (tied (nodes s) v) →
+  is_odd : (i : ℕ) → Fits i → (u v : ℕ) (s : Skel) → HasNoFun s → el (sites_at i) u ≡ el (sites_at i) v
+      → AllAre (IsFlow sys lattice (owner_at i)) (tied (nodes s) v) →
       join (el (sites_at i) u) (kept (el (sites_at i)) s) ≡ leaf (el (sites_at i) v)
   is_odd i deep u v s none same h = odd order ordered (IsFlow sys lattice (owner_at i)) (el (sites_at i)) (all_flow i deep) u v s none same h
 
-  odd_right : (i : ℕ) → Fits i → (forward : Bool) (u v : ℕ) (k : Kind) (b : Skel) → MayDiffer true b → AllAre (IsFlow sys lattice (owner_at i)) (equal_uneven Flow forward (flat u k) (ref v b)) →
+  odd_right : (i : ℕ) → Fits i → (forward : Bool) (u v : ℕ) (k : Kind) (b : Skel) → MayDiffer true b
+      → AllAre (IsFlow sys lattice (owner_at i)) (equal_uneven Flow forward (flat u k) (ref v b)) →
       leaf (el (sites_at i) u) ≡ join (el (sites_at i) v) (kept (el (sites_at i)) b)
   odd_right i deep true u v k b none h = ap (λ q. leaf q) (level i deep u v h.0 h.1.0) ∙ sym (is_odd i deep v v b none refl h.1.1)
   odd_right i deep false u v k b none h = sym (is_odd i deep v u b none (level i deep v u h.0 h.1.0) (front (IsFlow sys lattice (owner_at i)) (tied (nodes b) u) [] h.1.1))
 
-  odd_left : (i : ℕ) → Fits i → (forward : Bool) (u v : ℕ) (l : Kind) (a : Skel) → MayDiffer true a → AllAre (IsFlow sys lattice (owner_at i)) (equal_uneven Flow forward (ref u a) (flat v l)) →
+  odd_left : (i : ℕ) → Fits i → (forward : Bool) (u v : ℕ) (l : Kind) (a : Skel) → MayDiffer true a
+      → AllAre (IsFlow sys lattice (owner_at i)) (equal_uneven Flow forward (ref u a) (flat v l)) →
       join (el (sites_at i) u) (kept (el (sites_at i)) a) ≡ leaf (el (sites_at i) v)
   odd_left i deep true u v l a none h = is_odd i deep u v a none (level i deep u v h.0 h.1.0) (front (IsFlow sys lattice (owner_at i)) (tied (nodes a) v) [] h.1.1)
   odd_left i deep false u v l a none h = is_odd i deep u u a none refl h.1.1 ∙ ap (λ q. leaf q) (level i deep u v h.1.0 h.0)
 
-  flow_up : (i : ℕ) (a b : Skel) → Fits i → AllAre (IsFlow sys lattice (owner_at i)) (flow Flow true a b) → IsEven true a b → Subs order true (read (el (sites_at i)) a) (read (el (sites_at i)) b)
+  flow_up : (i : ℕ) (a b : Skel) → Fits i → AllAre (IsFlow sys lattice (owner_at i)) (flow Flow true a b)
+      → IsEven true a b → Subs order true (read (el (sites_at i)) a) (read (el (sites_at i)) b)
   flow_up i a b deep there even = flow_subs order ordered Flow (IsFlow sys lattice (owner_at i)) (el (sites_at i)) (el (sites_at i)) true (flow_one i deep) (odd_right i deep) (odd_left i deep) true a b even there
 
-  labels_go : (i : ℕ) (a b : Skel) (ls : List ℕ) → Fits i → LabelsGo sys lattice (owner_at i) (root a) (root b) → AllBelow order ls (top (read (el (sites_at i)) a)) →
+  labels_go : (i : ℕ) (a b : Skel) (ls : List ℕ) → Fits i → LabelsGo sys lattice (owner_at i) (root a) (root b)
+      → AllBelow order ls (top (read (el (sites_at i)) a)) →
       AllBelow order ls (top (read (el (sites_at i)) b))
   labels_go i a b ls deep (inl same) below = subst (λ q. AllBelow order ls q) (top_read (el (sites_at i)) a ∙ (ap (el (sites_at i)) same ∙ sym (top_read (el (sites_at i)) b))) below
   labels_go i a b ls deep (inr flow) below = subst (λ q. AllBelow order ls q) (sym (top_read (el (sites_at i)) b))
@@ -249,7 +264,9 @@ module _ (sys : System) (lattice : ℕ) (order : Order) (depth : ℕ) (map : Ass
   same_moved el (ref v b) old raw m has = subst (λ x. Points x (kept el b)) (sym m) has
   same_moved el (fun v ps r e) old raw m has = subst (λ x. IsNum x) (sym m) has
 
-  has_moved : (i : ℕ) (a b : Skel) (old raw : Raw) → Fits i → AllAre (IsFlow sys lattice (owner_at i)) (flow Flow true a b) → IsEven true a b ⊎ IsTurned a b → IsMoved b old raw →
+  has_moved : (i : ℕ) (a b : Skel) (old raw : Raw) → Fits i
+      → AllAre (IsFlow sys lattice (owner_at i)) (flow Flow true a b) → IsEven true a b ⊎ IsTurned a b
+      → IsMoved b old raw →
       Has (read (el (sites_at i)) a) old → Has (read (el (sites_at i)) b) raw
   has_moved i (flat u k) (flat v l) old raw deep there even m has = subst (λ x. IsNum x) (sym m.1) tt
   has_moved i (ref u a) (flat v l) old raw deep there even m has = subst (λ x. IsNum x) (sym m.1) tt
@@ -268,7 +285,8 @@ module _ (sys : System) (lattice : ℕ) (order : Order) (depth : ℕ) (map : Ass
   has_moved i (fun u ps r e) (fun v qs s f) old raw deep there (inl even) m has = absurd even
   has_moved i (fun u ps r e) (fun v qs s f) old raw deep there (inr turned) m has = absurd turned
 
-  typed_goes : (i : ℕ) (a b : Skel) (x : Value) (raw : Raw) → Fits i → Goes sys lattice (owner_at i) a b → IsMoved b x.raw raw → Typed x (read (el (sites_at i)) a) →
+  typed_goes : (i : ℕ) (a b : Skel) (x : Value) (raw : Raw) → Fits i → Goes sys lattice (owner_at i) a b
+      → IsMoved b x.raw raw → Typed x (read (el (sites_at i)) a) →
       Typed (record { labels = x.labels; raw = raw }) (read (el (sites_at i)) b)
   typed_goes i a b x raw deep (inl same) m typed =
       let there : Typed x (read (el (sites_at i)) b) = subst (λ s. Typed x (read (el (sites_at i)) s)) same typed in
@@ -276,13 +294,16 @@ module _ (sys : System) (lattice : ℕ) (order : Order) (depth : ℕ) (map : Ass
   typed_goes i a b x raw deep (inr flows) m typed =
       (labels_go i a b x.labels deep (inr (root_pair (IsFlow sys lattice (owner_at i)) a b flows.there)) typed.0, has_moved i a b x.raw raw deep flows.there flows.even m typed.1)
 
-  cross_one : (i s : ℕ) (site : Site) → Fits i → slice_get sys.sites s ≡ Some site → site.owner ≡ owner_at i → length (s ∷ sites_at i) ≤ depth →
-      (forward : Bool) (u v : ℕ) → AllAre (IsThere sys lattice) (pair (Cross s) forward u v) → types.Goes order forward (el (s ∷ sites_at i) u) (el (sites_at i) v)
+  cross_one : (i s : ℕ) (site : Site) → Fits i → slice_get sys.sites s ≡ Some site → site.owner ≡ owner_at i
+      → length (s ∷ sites_at i) ≤ depth →
+      (forward : Bool) (u v : ℕ) → AllAre (IsThere sys lattice) (pair (Cross s) forward u v)
+      → types.Goes order forward (el (s ∷ sites_at i) u) (el (sites_at i) v)
   cross_one i s site deep there own fits true u v h = rises.leave h.0.0 s u v site (sites_at i) h.0.1 there (subst (λ o. IsCopy sys depth o (sites_at i)) (sym own) deep) fits
   cross_one i s site deep there own fits false u v h = rises.enter h.0.0 s v u site (sites_at i) h.0.1 there (subst (λ o. IsCopy sys depth o (sites_at i)) (sym own) deep) fits
 
   -- a function by its name, at the instance of a site
-  named : (i s g : ℕ) (site : Site) (b : Skel) (d : AtFun (p.signature g)) (a : AtFun b) → Fits i → slice_get sys.sites s ≡ Some site → site.owner ≡ owner_at i →
+  named : (i s g : ℕ) (site : Site) (b : Skel) (d : AtFun (p.signature g)) (a : AtFun b) → Fits i
+      → slice_get sys.sites s ≡ Some site → site.owner ≡ owner_at i →
       AllAre (IsThere sys lattice) (cross s (p.signature g) b) → IsAlike false (p.signature g) b → Has (read (el (sites_at i)) b) (code g (s ∷ sites_at i))
   named i s g site b d a deep there own h even =
       let sig : Skel = fun d.node d.params d.result d.ellipsis in
@@ -298,7 +319,8 @@ module _ (sys : System) (lattice : ℕ) (order : Order) (depth : ℕ) (map : Ass
       (back (IsThere sys lattice) (pair (Cross s) true d.var a.var) (flow (Cross s) true sig inst) h1)))
 
   -- what the address of a cell tells of it
-  points : (el : ℕ → ℕ) (s : Skel) (v : ℕ) (t : Skel) (raw : Raw) (o k : ℕ) → s ≡ ref v t → Has (read el s) raw → raw ≡ ptr o k → held o ≡ kept el t
+  points : (el : ℕ → ℕ) (s : Skel) (v : ℕ) (t : Skel) (raw : Raw) (o k : ℕ) → s ≡ ref v t → Has (read el s) raw
+      → raw ≡ ptr o k → held o ≡ kept el t
   points el s v t raw o k is has at_cell = subst (λ y. Has (read el (ref v t)) y) at_cell (subst (λ x. Has (read el x) raw) is has)
 
   -- what a register holds may be put into a cell, and back
@@ -329,7 +351,8 @@ module _ (sys : System) (lattice : ℕ) (order : Order) (depth : ℕ) (map : Ass
   shifted (cell q t) (code g sites) new beside h = subst (λ x. Points x t) (sym beside) h
   shifted (arrow q ps t) old new beside h = shifted_num old new beside h
 
-  called : (i f j g : ℕ) → Fits j → (sites : List ℕ) (callee : AtFun (skel_at p w i f)) (st : State) → Good st → (st.regs i f).raw ≡ code g sites →
+  called : (i f j g : ℕ) → Fits j → (sites : List ℕ) (callee : AtFun (skel_at p w i f)) (st : State) → Good st
+      → (st.regs i f).raw ≡ code g sites →
       w.frame j ≡ record { owner = Function g; sites = sites } → (d : AtFun (p.signature g)) →
       Subs order true (kept (el sites) (fun d.node d.params d.result d.ellipsis)) (kept (el (sites_at i)) (fun callee.node callee.params callee.result callee.ellipsis))
   called i f j g deep sites callee st good is_code frame d =
@@ -339,7 +362,8 @@ module _ (sys : System) (lattice : ℕ) (order : Order) (depth : ℕ) (map : Ass
       let at_code : Has (read (el (sites_at i)) (ref callee.var inner)) (code g sites) = subst (λ x. Has (read (el (sites_at i)) (ref callee.var inner)) x) is_code has in
       subst (λ x. Subs order true (kept (el sites) (inner_skel x)) (kept (el (sites_at i)) inner)) d.is (at_code copy)
 
-  steps_keep : (old new : State) (i : ℕ) (instr : Instr) → Good old → Asks sys lattice p (owner_at i) instr → (does : Does p w i instr old new) →
+  steps_keep : (old new : State) (i : ℕ) (instr : Instr) → Good old → Asks sys lattice p (owner_at i) instr
+      → (does : Does p w i instr old new) →
       Fits i → Fits (other p w old new i instr does) → Good new
   steps_keep old new i (number r) good asks does deep deep2 = subst Good (sym does.1) (reg_keeps old i r (plain (num does.0)) good (tt, has_num (type_at i r) does.0))
   steps_keep old new i (local r) good asks (o, k, place, made, is) deep deep2 =
@@ -416,7 +440,8 @@ module _ (sys : System) (lattice : ℕ) (order : Order) (depth : ℕ) (map : Ass
   cell_leads el (ref v s) x h = subst (λ t. Points x.raw t) (into_join (el v) (kept el s)) h.1
   cell_leads el (fun v ps r e) x h = tt
 
-  pub reached : (st : State) (owner : Owner) (sites : List ℕ) (x : Value) (s : Skel) (o k : ℕ) (t : Skel) → Good st → Leads (el sites) s x.raw →
+  pub reached : (st : State) (owner : Owner) (sites : List ℕ) (x : Value) (s : Skel) (o k : ℕ) (t : Skel) → Good st
+      → Leads (el sites) s x.raw →
       Belongs (owner_of sys) owner s → Reaches st x s o k t → IsPart owner sites o t
   reached st owner sites x (flat u m) o k t good leads mine reaches = absurd reaches
   reached st owner sites x (fun u ps r e) o k t good leads mine reaches = absurd reaches
@@ -430,7 +455,8 @@ module _ (sys : System) (lattice : ℕ) (order : Order) (depth : ℕ) (map : Ass
       let same : held a ≡ kept (el sites) s = subst (λ y. Points y (kept (el sites) s)) is leads in
       reached st owner sites (st.cells a b) s o k t good (cell_leads (el sites) s (st.cells a b) (subst (λ y. InCell (st.cells a b) y) same (good.cells a b))) mine.1 on
 
-  const_holds : (i n e : ℕ) (s : Skel) → Fits i → Belongs (owner_of sys) (owner_at i) s → Stands sys lattice n (Const lattice e (root s)) → leq order e (el (sites_at i) (root s)) ≡ true
+  const_holds : (i n e : ℕ) (s : Skel) → Fits i → Belongs (owner_of sys) (owner_at i) s
+      → Stands sys lattice n (Const lattice e (root s)) → leq order e (el (sites_at i) (root s)) ≡ true
   const_holds i n e s deep mine st =
       let met = met_in (owner_at i) (sites_at i) (root s) deep (belongs_root (owner_of sys) (owner_at i) s mine) in
       subst (λ q. leq order e q ≡ true) met.same (rises.const n e (root s) met.there st met.copy)

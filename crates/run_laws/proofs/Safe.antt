@@ -13,7 +13,8 @@ use Rattle.run_laws.proofs.Types.{top, AllBelow, below_one}
 use Rattle.run_laws.proofs.Keeping.{FitsIn, AllFit, el, runs_keep, reached, met_in, reg_leads, belongs_root, top_read, top_kept, false_not}
 use Rattle.run_laws.proofs.Depths.{depth_of, copy_of, all_fit}
 
-abbrev frame_of : (sys : System) (lattice : ℕ) (order : Order) (p : Program) (w : World) (st : State) → IsViolated sys lattice order p w st → ℕ
+abbrev frame_of : (sys : System) (lattice : ℕ) (order : Order) (p : Program) (w : World) (st : State)
+    → IsViolated sys lattice order p w st → ℕ
 frame_of sys lattice order p w st (inl v) = v.frame
 frame_of sys lattice order p w st (inr v) = v.frame
 
@@ -22,7 +23,8 @@ module _ (sys : System) (lattice : ℕ) (order : Order) (depth : ℕ) (map : Ass
   abbrev els : ℕ → ℕ → ℕ
   els i v = el sys lattice order depth map p w ordered meets.rises of (w.frame i).sites v
 
-  bound_holds : (i n e : ℕ) (s : Skel) → FitsIn sys depth w i → Belongs (owner_of sys) (w.frame i).owner s → Stands sys lattice n (Bound (root s) lattice e) → leq order (els i (root s)) e ≡ true
+  bound_holds : (i n e : ℕ) (s : Skel) → FitsIn sys depth w i → Belongs (owner_of sys) (w.frame i).owner s
+      → Stands sys lattice n (Bound (root s) lattice e) → leq order (els i (root s)) e ≡ true
   bound_holds i n e s deep mine st =
       let met = met_in sys lattice order depth map p w ordered meets.rises of (w.frame i).owner (w.frame i).sites (root s) deep (belongs_root (owner_of sys) (w.frame i).owner s mine) in
       subst (λ q. leq order q e ≡ true) met.same (meets.bound n e (root s) met.there st met.copy)
@@ -30,7 +32,8 @@ module _ (sys : System) (lattice : ℕ) (order : Order) (depth : ℕ) (map : Ass
   not_over : (x : Value) (q e : ℕ) → AllBelow order x.labels q → leq order q e ≡ true → Exceeds order x e → ⊥
   not_over x q e below up over = false_not (sym over.2 ∙ ordered.through over.0 q e (below_one order x.labels q over.0 below over.1) up)
 
-  safe : (st : State) (run : Run sys lattice p w st) → AllFit sys lattice depth p w st run → (v : IsViolated sys lattice order p w st) → FitsIn sys depth w (frame_of sys lattice order p w st v) → ⊥
+  safe : (st : State) (run : Run sys lattice p w st) → AllFit sys lattice depth p w st run
+      → (v : IsViolated sys lattice order p w st) → FitsIn sys depth w (frame_of sys lattice order p w st v) → ⊥
   safe st run fit (inl v) deep =
       let good = runs_keep sys lattice order depth map p w ordered meets.rises of st run fit in
       let s : Skel = skel_at p w v.frame v.reg in

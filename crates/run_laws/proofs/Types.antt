@@ -1,4 +1,5 @@
--- Skeletons read under an assignment: trees of elements (the qualified types of Foster, Fähndrich and Aiken), and their order.
+-- Skeletons read under an assignment: trees of elements (the qualified types of Foster, Fähndrich and Aiken), and their
+-- order.
 use Rattle.std.proofs.Common.{◌≡◌, ℕ, Bool, true, false, not, List, [], ◌∷◌, ◌++◌, refl, subst, inl, inr, sym, ap, nat_eq, if◌then◌else◌}
 use Rattle.std.proofs.lemmas.Bool.{eqb-true, eq-eqb}
 use Rattle.lattice_core.specs.Order.{Order, IsOrder, leq}
@@ -97,11 +98,13 @@ abbrev pub AllBelow : Order → List ℕ → ℕ → Type 0
 AllBelow order [] q = Unit {0}
 AllBelow order (l ∷ ls) q = (leq order l q ≡ true) × AllBelow order ls q
 
-pub below_more : (order : Order) (ls : List ℕ) (q r : ℕ) → IsOrder order → leq order q r ≡ true → AllBelow order ls q → AllBelow order ls r
+pub below_more : (order : Order) (ls : List ℕ) (q r : ℕ) → IsOrder order → leq order q r ≡ true → AllBelow order ls q
+    → AllBelow order ls r
 below_more order [] q r ordered up h = tt
 below_more order (l ∷ ls) q r ordered up h = (ordered.through l q r h.0 up, below_more order ls q r ordered up h.1)
 
-pub below_both : (order : Order) (ls ms : List ℕ) (q : ℕ) → AllBelow order ls q → AllBelow order ms q → AllBelow order (ls ++ ms) q
+pub below_both : (order : Order) (ls ms : List ℕ) (q : ℕ) → AllBelow order ls q → AllBelow order ms q
+    → AllBelow order (ls ++ ms) q
 below_both order [] ms q h k = k
 below_both order (l ∷ ls) ms q h k = (h.0, below_both order ls ms q h.1 k)
 
@@ -137,7 +140,8 @@ mutual
   turn order forward (arrow q ps s) (cell r t) h = absurd h
   turn order forward (arrow q ps s) (arrow r qs t) h = (turned order forward q r h.0, turn_all order (not forward) ps qs h.1, turn order forward s t h.2)
 
-  turn_all : (order : Order) (forward : Bool) (ps qs : Trees) → AllSubs order forward ps qs → AllSubs order (not forward) qs ps
+  turn_all : (order : Order) (forward : Bool) (ps qs : Trees) → AllSubs order forward ps qs
+      → AllSubs order (not forward) qs ps
   turn_all order forward no_trees no_trees h = tt
   turn_all order forward no_trees (more_trees q qs) h = absurd h
   turn_all order forward (more_trees p ps) no_trees h = absurd h

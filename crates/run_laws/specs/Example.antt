@@ -16,13 +16,16 @@ use Rattle.qual_types.specs.Skel.{Skel, flat, ref, fun, no_skels}
 use Rattle.run_laws.specs.Programs.{Instr, shared, move, load, store, Program}
 use Rattle.run_laws.specs.Runs.{Object, World}
 
+-- the lattice: 0 is below 1
 abbrev pub order : Order
 order = record { above = 3 ∷ 2 ∷ [] }
 
+-- a constraint of this lattice, from a token that does not matter
 abbrev pub constraint : Link → Constraint
 constraint link = record { link = link; lattices = 1; span = record { unit = 0; from = 0; to = 0 } }
 
--- The system, with an element as the bound of b, 0 above. Variables 0 and 2 are of the places of a and b, 1 and 3 of what
+-- The system, with an element as the bound of b, 0 above. Variables 0 and 2 are of the places of a and b, 1 and 3 of
+-- what
 -- they hold, all of nobody.
 abbrev pub sys : ℕ → System
 sys limit = record {
@@ -39,11 +42,13 @@ skel (suc (suc zero)) = ref 2 (flat 3 Base)
 skel (suc (suc (suc zero))) = flat 3 Base
 skel (suc (suc (suc (suc r)))) = flat 6 Void
 
+-- the steps of f: the cell of a is read, and what was read is written to the cell of b
 abbrev pub code : Owner → List Instr
 code Nobody = []
 code (Function zero) = shared 0 ∷ load 1 0 ∷ move 3 1 ∷ shared 2 ∷ store 2 3 ∷ []
 code (Function (suc g)) = []
 
+-- the program: f alone, which has no parameters
 abbrev pub program : Program
 program = record {
   skel = λ owner r. skel r;
@@ -53,10 +58,11 @@ program = record {
   code = code;
 }
 
--- a call of f by nobody, and an object for each of a and b
+-- the objects of a run: the first is declared as a, the others as b
 abbrev pub object : ℕ → Object
 object zero = record { skel = flat 1 Base; sites = [] }
 object (suc o) = record { skel = flat 3 Base; sites = [] }
 
+-- what the calls and objects of a run are: all calls are of f, and in its one copy
 abbrev pub world : World
 world = record { frame = λ i. record { owner = Function 0; sites = [] }; object = object }

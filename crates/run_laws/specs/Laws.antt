@@ -19,7 +19,8 @@ SomeRunIsViolated = IsOrder example.order × IsSystemOf (example.sys 0) 0 exampl
     ((st : State) × Run (example.sys 0) 0 example.program example.world st ×
     IsViolated (example.sys 0) 0 example.order example.program example.world st)
 
--- And there are runs of accepted programs: where `b` may be tainted, the same program is accepted, and a run of it brings
+-- And there are runs of accepted programs: where `b` may be tainted, the same program is accepted, and a run of it
+-- brings
 -- what is tainted to the cell of `b`.
 abbrev pub SomeRunIsAccepted : Type 0
 SomeRunIsAccepted = IsAcceptedIn (example.sys 1) 0 example.order × IsSystemOf (example.sys 1) 0 example.program ×

@@ -1,6 +1,7 @@
 -- Programs as steps over registers, and the constraints that a system has of them.
 --
--- An expression is taken apart into steps. A register has a skeleton and holds a value: a variable's register holds the address
+-- An expression is taken apart into steps. A register has a skeleton and holds a value: a variable's register holds the
+-- address
 -- of its cell, at the skeleton of its place, and each expression has a register at the skeleton of its value.
 use Rattle.std.specs.Prelude.{◌≡◌, ◌⊎◌, ℕ, true, false, List, [], ◌∷◌, Option, Some, slice_get}
 use Rattle.qual_base.specs.declared.places.Owner.{Owner}
@@ -38,8 +39,10 @@ pub data Instr : Type 0 where
   pass : ℕ → ℕ → ℕ → Instr
   take : ℕ → ℕ → Instr
 
--- Registers and their skeletons, by the function or by nobody, whose are the initialisers at file scope; of each function the
--- skeleton of its first declaration and the registers of its parameters and of its result; the steps of each, in no order.
+-- Registers and their skeletons, by the function or by nobody, whose are the initialisers at file scope; of each
+-- function the
+-- skeleton of its first declaration and the registers of its parameters and of its result; the steps of each, in no
+-- order.
 pub record Program : Type 0 where
   pub skel : Owner → ℕ → Skel
   pub signature : ℕ → Skel
@@ -47,10 +50,12 @@ pub record Program : Type 0 where
   pub outcome : ℕ → ℕ
   pub code : Owner → List Instr
 
+-- a step is one of these
 abbrev pub IsAmong : Instr → List Instr → Type 0
 IsAmong instr [] = ⊥
 IsAmong instr (x ∷ xs) = (instr ≡ x) ⊎ IsAmong instr xs
 
+-- something holds of each of these links
 abbrev pub AllAre : (Link → Type 0) → List Link → Type 0
 AllAre is [] = Unit {0}
 AllAre is (link ∷ links) = is link × AllAre is links
@@ -59,7 +64,7 @@ AllAre is (link ∷ links) = is link × AllAre is links
 abbrev pub IsThere : System → ℕ → Link → Type 0
 IsThere sys lattice link = (n : ℕ) × Stands sys lattice n link
 
--- it is so and stays in one function
+-- some constraint of the lattice is this link, a flow that stays in one function
 abbrev pub IsFlow : System → ℕ → Owner → Link → Type 0
 IsFlow sys lattice owner link = IsThere sys lattice link × Stays (owner_of sys) owner link
 
@@ -72,7 +77,7 @@ pub record Flows (sys : System) (lattice : ℕ) (owner : Owner) (a b : Skel) : T
 abbrev pub Goes : System → ℕ → Owner → Skel → Skel → Type 0
 Goes sys lattice owner a b = (a ≡ b) ⊎ Flows sys lattice owner a b
 
--- the same of the labels of a number, from the one variable to the other
+-- the labels of a number may go from one variable to another: they are the same one, or a flow leads there
 abbrev pub LabelsGo : System → ℕ → Owner → ℕ → ℕ → Type 0
 LabelsGo sys lattice owner u v = (u ≡ v) ⊎ IsFlow sys lattice owner (Le u v)
 
@@ -91,7 +96,8 @@ pub record AtFun (s : Skel) : Type 0 where
   pub ellipsis : Option ℕ
   pub is : s ≡ ref var (fun node params result ellipsis)
 
--- A function's name at a site of the function where it stands: the calls and returns between its signature and the instance.
+-- A function's name at a site of the function where it stands: the calls and returns between its signature and the
+-- instance.
 pub record NameAsks (sys : System) (lattice : ℕ) (owner : Owner) (s : ℕ) (signature instance : Skel) : Type 0 where
   pub site : Site
   pub there : slice_get sys.sites s ≡ Some site

@@ -20,21 +20,26 @@ pub record Value : Type 0 where
   pub labels : List ℕ
   pub raw : Raw
 
+-- a value without labels
 abbrev pub plain : Raw → Value
 plain raw = record { labels = []; raw = raw }
 
+-- a value with one label more
 abbrev pub labelled : ℕ → Value → Value
 labelled e x = record { labels = e ∷ x.labels; raw = x.raw }
 
+-- a call of a run: the function, and the sites of the calls that are open, which tell the copy
 pub record Frame : Type 0 where
   pub owner : Owner
   pub sites : List ℕ
 
+-- an object of a run: the skeleton of what it holds, and the sites of the copy that it belongs to
 pub record Object : Type 0 where
   pub skel : Skel
   pub sites : List ℕ
 
--- Which copy of which function each call of the run is of, and what each object of the run is declared as, in which copy.
+-- Which copy of which function each call of the run is of, and what each object of the run is declared as, in which
+-- copy.
 pub record World : Type 0 where
   pub frame : ℕ → Frame
   pub object : ℕ → Object
@@ -44,15 +49,19 @@ pub record State : Type 0 where
   pub regs : ℕ → ℕ → Value
   pub cells : ℕ → ℕ → Value
 
+-- one register or cell holds this value, and the others what they held
 abbrev pub put : (ℕ → ℕ → Value) → ℕ → ℕ → Value → ℕ → ℕ → Value
 put held i k x j l = if nat_eq i j && nat_eq k l then x else held j l
 
+-- a register of a call holds this value from here on
 abbrev pub puts_reg : State → ℕ → ℕ → Value → State
 puts_reg st i r x = record st { regs = put st.regs i r x }
 
+-- a cell of an object holds this value from here on
 abbrev pub puts_cell : State → ℕ → ℕ → Value → State
 puts_cell st o k x = record st { cells = put st.cells o k x }
 
+-- the skeleton of a register of a call
 abbrev pub skel_at : Program → World → ℕ → ℕ → Skel
 skel_at p w i r = p.skel (w.frame i).owner r
 
@@ -76,7 +85,8 @@ IsMoved (flat v k) old raw = (n : ℕ) × (raw ≡ num n)
 IsMoved (ref v s) old raw = raw ≡ old
 IsMoved (fun v ps r e) old raw = raw ≡ old
 
--- One step of a call. A call's frame, and a new object, may be any that is declared so: how numbers are given out, and in
+-- One step of a call. A call's frame, and a new object, may be any that is declared so: how numbers are given out, and
+-- in
 -- which order the steps of all calls are taken, is left open.
 abbrev pub Does : Program → World → ℕ → Instr → State → State → Type 0
 Does p w i (number r) old new = (n : ℕ) × (new ≡ puts_reg old i r (plain (num n)))
@@ -110,11 +120,13 @@ Reaches st x (ref u s) o k t = (a b : ℕ) × (x.raw ≡ ptr a b)
 abbrev pub IsBlank : State → Type 0
 IsBlank st = ((i r : ℕ) → st.regs i r ≡ plain (num 0)) × ((o k : ℕ) → st.cells o k ≡ plain (num 0))
 
--- The states of the runs in a lattice. A value may at any time take the label of a constant at whose variable it is, in a
+-- The states of the runs in a lattice. A value may at any time take the label of a constant at whose variable it is, in
+-- a
 -- register or in a cell that a register leads to.
 pub data Run (sys : System) (lattice : ℕ) (p : Program) (w : World) : State → Type 0 where
   begins : (st : State) → IsBlank st → Run sys lattice p w st
-  steps : (old new : State) (i : ℕ) (instr : Instr) → Run sys lattice p w old → IsAmong instr (p.code (w.frame i).owner) →
+  steps : (old new : State) (i : ℕ) (instr : Instr) → Run sys lattice p w old
+      → IsAmong instr (p.code (w.frame i).owner) →
       Does p w i instr old new → Run sys lattice p w new
   marks : (old new : State) (i r n e : ℕ) → Run sys lattice p w old →
       Stands sys lattice n (Const lattice e (root (skel_at p w i r))) →
@@ -123,6 +135,7 @@ pub data Run (sys : System) (lattice : ℕ) (p : Program) (w : World) : State �
       Reaches old (old.regs i r) (skel_at p w i r) o k t →
       Stands sys lattice n (Const lattice e (root t)) → new ≡ puts_cell old o k (labelled e (old.cells o k)) → Run sys lattice p w new
 
+-- an element is one of these
 abbrev pub IsOneOf : ℕ → List ℕ → Type 0
 IsOneOf e [] = ⊥
 IsOneOf e (x ∷ xs) = (e ≡ x) ⊎ IsOneOf e xs
@@ -140,7 +153,7 @@ pub record IsOverIn (sys : System) (lattice : ℕ) (order : Order) (p : Program)
   pub bound : Stands sys lattice n (Bound (root (skel_at p w frame reg)) lattice e)
   pub over : Exceeds order (st.regs frame reg) e
 
--- So is one in a cell that a register leads to.
+-- A value in a cell that a register leads to is at the variable of a bound, with a label that is not at or below it.
 pub record IsOverAt (sys : System) (lattice : ℕ) (order : Order) (p : Program) (w : World) (st : State) : Type 0 where
   pub frame : ℕ
   pub reg : ℕ
@@ -153,13 +166,16 @@ pub record IsOverAt (sys : System) (lattice : ℕ) (order : Order) (p : Program)
   pub bound : Stands sys lattice n (Bound (root part) lattice e)
   pub over : Exceeds order (st.cells object offset) e
 
+-- a state is a violation: in a register, or in a cell that a register leads to
 abbrev pub IsViolated : System → ℕ → Order → Program → World → State → Type 0
 IsViolated sys lattice order p w st = IsOverIn sys lattice order p w st ⊎ IsOverAt sys lattice order p w st
 
--- Each call of a run is in a copy of its function, of whatever depth, and the initialisers at file scope are in the one copy.
+-- Each call of a run is in a copy of its function, of whatever depth, and the initialisers at file scope are in the one
+-- copy.
 abbrev pub IsSomeCopy : System → Owner → List ℕ → Type 0
 IsSomeCopy sys Nobody sites = sites ≡ []
 IsSomeCopy sys (Function f) sites = IsCallString sys (Function f) sites
 
+-- each call of a run is in some copy of its function
 abbrev pub IsWorld : System → World → Type 0
 IsWorld sys w = (i : ℕ) → IsSomeCopy sys (w.frame i).owner (w.frame i).sites

@@ -26,7 +26,8 @@ abbrev pub MayDiffer : Bool → Skel → Type 0
 MayDiffer true s = HasNoFun s
 MayDiffer false s = ⊥
 
--- Two skeletons whose values are of one kind, both references or both not, and whose cells are alike: what a `void *` refers
+-- Two skeletons whose values are of one kind, both references or both not, and whose cells are alike: what a `void *`
+-- refers
 -- to may be beside a reference. The parameters and results of functions are of one kind.
 abbrev mutual
   pub IsEven : Bool → Skel → Skel → Type 0

@@ -17,8 +17,8 @@ use Rattle.row_rules.specs.Sites.{functions_of, has_place, owner_by}
 use Rattle.row_rules.specs.Worlds.{number_among, numbered_from}
 use Rattle.row_rules.specs.Annotations.{has_access}
 use Rattle.constraint_rules.specs.Systems.{Program, starts_of, system_of}
-use Rattle.key_laws.specs.Differing.{IsRead, UnitsDiffer}
-use Rattle.meaning_laws.proofs.Lists.{place_is}
+use Rattle.row_laws.specs.KeyLaws.Differing.{IsRead, UnitsDiffer}
+use Rattle.name_rules.proofs.MeaningLaws.Lists.{place_is}
 use Rattle.owned_laws.specs.Functions.{FunctionsOwnTheirs, OwnsIts}
 use Rattle.annotate.specs.Texts.{UnitText}
 use Rattle.sig_writer.specs.Functions.{external_in, externals_in, functions_in, is_first}
@@ -85,11 +85,13 @@ is_function (parameter_role i) is = absurd cc
 is_function (field_role n i) is = absurd cc
 is_function enumerator_role is = absurd cc
 
-some_declared : (found : Option Declared) → is_some_function found ≡ true → (d : Declared) × (found ≡ Some d) × (d.role ≡ function_role)
+some_declared : (found : Option Declared) → is_some_function found ≡ true
+    → (d : Declared) × (found ≡ Some d) × (d.role ≡ function_role)
 some_declared None is = absurd cc
 some_declared (Some d) is = (d, refl, is_function d.role is)
 
-owned_at : (own : ℕ → Owner) (owner : Owner) (vars : List ℕ) (v : ℕ) → AllOwned own owner vars → Contains vars v → own v ≡ owner
+owned_at : (own : ℕ → Owner) (owner : Owner) (vars : List ℕ) (v : ℕ) → AllOwned own owner vars → Contains vars v
+    → own v ≡ owner
 owned_at own owner [] v all in_vars = absurd (none v in_vars)
 owned_at own owner (u ∷ vars) v all in_vars = elim (first_or vars u v in_vars) [
   | inl same ↦ subst (λ w. own w ≡ owner) same all.0

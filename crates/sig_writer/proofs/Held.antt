@@ -4,10 +4,10 @@ use Rattle.qual_types.specs.declared.row.Row.{Row}
 use Rattle.qual_types.specs.Skel.{no_skeleton}
 use Rattle.qual_types.specs.Rows.{Seen, all_seen, nothing, skel_of}
 use Rattle.name_rules.specs.Spellings.{Place}
-use Rattle.place_map.specs.Values.{number_at}
+use Rattle.name_tables.specs.PlaceMap.Values.{number_at}
 use Rattle.row_rules.specs.Worlds.{Numbered, skeleton_among}
-use Rattle.unit_skeletons.specs.declared.skeletons.Skeletons.{Skeletons}
-use Rattle.unit_skeletons.specs.Found.{number_or_none}
+use Rattle.unit_starts.specs.declared.unit_skeletons.skeletons.Skeletons.{Skeletons}
+use Rattle.unit_starts.specs.UnitSkeletons.Found.{number_or_none}
 use Rattle.annotate.specs.Texts.{UnitText, bytes_in, unit_in}
 use Rattle.sig_writer.specs.Functions.{external_in}
 use Rattle.sig_writer.specs.Laws.{ExternalsAreHeld}
@@ -39,7 +39,8 @@ module _ (it : Skeletons) (all : List Numbered) (few : length it.vars ≤ 2 ^ 24
       by None is = sym (found p) ∙ ap (λ (o : Option ℕ). skel_of it.vars (number_or_none o)) is ∙ past it.vars 4294967295 (omega (arith, few))
       by (Some n) is = sym (found p) ∙ ap (λ (o : Option ℕ). skel_of it.vars (number_or_none o)) is
 
-  all_held : (units : List UnitText) (places : List Place) → map (external_in units all) places ≡ map (external_at units it) places
+  all_held : (units : List UnitText) (places : List Place)
+      → map (external_in units all) places ≡ map (external_at units it) places
   all_held units [] = refl
   all_held units (p ∷ places) =
       ap (λ (e : External). e ∷ map (external_in units all) places)

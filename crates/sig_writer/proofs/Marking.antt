@@ -30,10 +30,6 @@ set_only (m ∷ ms) (suc i) zero is = inl is
 set_only (m ∷ ms) (suc i) (suc k) is = elim (set_only ms i k is)
     [ inl old ↦ inl old | inr same ↦ inr (ap (λ n. suc n) same) ]
 
-pub marks_none : (Is : ℕ → Type 0) (marks : List Bool) → ((i : ℕ) → Is i → ⊥) → Marks Is marks marks
-marks_none Is marks none = record
-    { size = refl; kept = λ i is. is; done = λ i is. absurd (none i is); only = λ i is. inl is }
-
 -- the two nodes that a summary joins were marked
 module _ (nodes : Nodes) (row : Summary) (pair : Pair) (joined : IsJoined nodes row pair) (marks : List Bool)
     (size : length marks ≡ nodes.to - nodes.from) where

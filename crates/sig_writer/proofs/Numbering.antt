@@ -133,10 +133,6 @@ items_push [] list (suc j) none is = refl
 items_push (x ∷ xs) list zero none is = is
 items_push (x ∷ xs) list (suc j) none is = items_push xs list j none is
 
-pub puts_none : (Is : ℕ → Type 0) (number : ℕ) (lists : List (Vec ℕ Global)) → ((j : ℕ) → Is j → ⊥) →
-    Puts Is number lists lists
-puts_none Is number lists none = record { size = refl; done = λ j lt is. absurd (none j is); only = λ j. inr refl }
-
 pub puts_at : (number at : ℕ) (lists : List (Vec ℕ Global)) (list : Vec ℕ Global) → at < length lists →
     list.items ≡ with_last (items_at lists at) number →
     Puts (λ j. at ≡ j) number lists (set lists at list)

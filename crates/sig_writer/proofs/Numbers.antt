@@ -10,7 +10,8 @@ numbers_end (suc count) from =
     let at : suc from + count ≡ from + suc count = omega arith in
     ap (λ (ns : List ℕ). from ∷ ns) (numbers_end count (suc from) ∙ ap (λ n. numbers count (suc from) ++ n ∷ []) at)
 
-pub one_more : (from n at : ℕ) (old before after : List ℕ) → from ≤ n → before ≡ old ++ numbers (n - from) from → after ≡ before ++ at ∷ [] → at ≡ n
+pub one_more : (from n at : ℕ) (old before after : List ℕ) → from ≤ n → before ≡ old ++ numbers (n - from) from
+    → after ≡ before ++ at ∷ [] → at ≡ n
     → after ≡ old ++ numbers (n + 1 - from) from
 one_more from n at old before after up is pushed at_is =
     let count : n + 1 - from ≡ suc (n - from) = omega (arith, up) in
@@ -69,7 +70,8 @@ all_ordered s order =
     let is : last_of s + 1 - root s ≡ length (nodes s) = omega (arith, l, some) in
     ap (λ n. numbers n (root s)) is ∙ sym order
 
-pub nodes_are : (s : Skel) (from last : ℕ) → from ≡ root s → last ≡ last_of s → IsInOrder s → AreNodes (nodes s) (record { from = from; to = last + 1 })
+pub nodes_are : (s : Skel) (from last : ℕ) → from ≡ root s → last ≡ last_of s → IsInOrder s
+    → AreNodes (nodes s) (record { from = from; to = last + 1 })
 nodes_are s from last from_is last_is order =
     let up = ordered s order in
     record { order = omega (arith, up, from_is, last_is); are = rw (from_is, last_is) (all_ordered s order) }

@@ -6,10 +6,10 @@ use Rattle.qual_types.specs.Skel.{Skel, nodes, all_nodes, of_some, root, numbere
 use Rattle.name_rules.specs.Spellings.{Place}
 use Rattle.name_rules.specs.Scopes.{is_place}
 use Rattle.row_rules.specs.Worlds.{Numbered, skeleton_among}
-use Rattle.place_map.specs.Values.{number_at}
+use Rattle.name_tables.specs.PlaceMap.Values.{number_at}
 use Rattle.qual_types.specs.Rows.{skel_of}
-use Rattle.unit_skeletons.specs.declared.skeletons.Skeletons.{Skeletons}
-use Rattle.unit_skeletons.specs.Found.{number_or_none}
+use Rattle.unit_starts.specs.declared.unit_skeletons.skeletons.Skeletons.{Skeletons}
+use Rattle.unit_starts.specs.UnitSkeletons.Found.{number_or_none}
 use Rattle.sig_writer.specs.Nodes.{numbers, skel_by, IsInOrder, SkeletonsAreInOrder}
 
 numbers_split : (a b n : ℕ) → numbers (a + b) n ≡ numbers a n ++ numbers b (n + a)
@@ -82,7 +82,8 @@ among_in_order [] p = refl
 among_in_order (it ∷ all) p =
     by_choice (is_place it.start.at p) (numbered it.start.type it.first) (skeleton_among all p) (type_in_order it.start.type it.first) (among_in_order all p)
 
-by_number : (it : Skeletons) (o : Option ℕ) (s : Skel) → skel_of it.vars (number_or_none o) ≡ s → IsInOrder s → IsInOrder (skel_by it o)
+by_number : (it : Skeletons) (o : Option ℕ) (s : Skel) → skel_of it.vars (number_or_none o) ≡ s → IsInOrder s
+    → IsInOrder (skel_by it o)
 by_number it None s is order = refl
 by_number it (Some n) s is order = subst IsInOrder (sym is) order
 

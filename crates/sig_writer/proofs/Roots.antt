@@ -4,10 +4,10 @@ use Rattle.qual_types.specs.declared.row.Row.{Row}
 use Rattle.qual_types.specs.Skel.{no_skeleton}
 use Rattle.qual_types.specs.Rows.{skel_of}
 use Rattle.name_rules.specs.Spellings.{Place}
-use Rattle.place_map.specs.Values.{number_at}
-use Rattle.unit_skeletons.specs.declared.skeletons.Skeletons.{Skeletons}
-use Rattle.unit_skeletons.specs.Found.{skel_or}
-use Rattle.unit_skeletons.proofs.Placing.{found_all}
+use Rattle.name_tables.specs.PlaceMap.Values.{number_at}
+use Rattle.unit_starts.specs.declared.unit_skeletons.skeletons.Skeletons.{Skeletons}
+use Rattle.unit_starts.specs.UnitSkeletons.Found.{skel_or}
+use Rattle.unit_starts.proofs.UnitSkeletons.Placing.{found_all}
 use Rattle.sig_writer.specs.Nodes.{root_in, skel_by}
 
 root_is : (it : Skeletons) (p : Place) → length it.vars ≤ 16777216 →

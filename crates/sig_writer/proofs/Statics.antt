@@ -4,10 +4,11 @@ use Rattle.std.specs.HashMap.{get}
 use Rattle.name_rules.specs.Spellings.{Place}
 use Rattle.name_rules.specs.Scopes.{is_place}
 use Rattle.name_rules.specs.Linking.{is_internal}
-use Rattle.name_links.specs.Tables.{StaticSet, AreStatics}
+use Rattle.name_state.specs.NameLinks.Tables.{StaticSet, AreStatics}
 use Rattle.sig_writer.proofs.Taken.{one_reversed}
 
-by_test : (b : Bool) (value : Unit {0}) (o : Option (Unit {0})) (rest : Bool) → is_some o ≡ rest → is_some (cond b (Some value) o) ≡ b || rest
+by_test : (b : Bool) (value : Unit {0}) (o : Option (Unit {0})) (rest : Bool) → is_some o ≡ rest
+    → is_some (cond b (Some value) o) ≡ b || rest
 by_test true value o rest is = refl
 by_test false value o rest is = is
 

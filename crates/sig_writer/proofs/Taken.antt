@@ -15,7 +15,8 @@ module _ {A : Type 0} where
   whole (x ∷ xs) (suc i) le = ap (λ ys. x ∷ ys) (whole xs i (omega arith))
 
   -- one more
-  pub taken_more : (xs : List A) (i : ℕ) (x : A) → x ≡ slice_index_or xs i x → i < length xs → take (i + 1) xs ≡ take i xs ++ x ∷ []
+  pub taken_more : (xs : List A) (i : ℕ) (x : A) → x ≡ slice_index_or xs i x → i < length xs
+      → take (i + 1) xs ≡ take i xs ++ x ∷ []
   taken_more [] i x is lt = absurd (omega arith)
   taken_more (y ∷ xs) zero x is lt = ap (λ z. z ∷ []) (sym is)
   taken_more (y ∷ xs) (suc i) x is lt =
@@ -28,7 +29,8 @@ module _ {A : Type 0} where
   one_reversed xs i x is lt = ap reverse (taken_more xs i x is lt) ∙ reverse-append (take i xs) (x ∷ [])
 
 -- what is made of each, behind one more
-pub flat_more : {A B : Type 0} (f : A → List B) (xs : List A) (i : ℕ) (x : A) → x ≡ slice_index_or xs i x → i < length xs
+pub flat_more : {A B : Type 0} (f : A → List B) (xs : List A) (i : ℕ) (x : A) → x ≡ slice_index_or xs i x
+    → i < length xs
     → flat_map f (take (i + 1) xs) ≡ flat_map f (take i xs) ++ f x
 flat_more f xs i x is lt =
     ap (flat_map f) (taken_more xs i x is lt)
@@ -36,7 +38,8 @@ flat_more f xs i x is lt =
     ∙ ap (λ ys. flat_map f (take i xs) ++ ys) (append-nil (f x))
 
 -- those that pass a test, behind one more
-pub kept_more : {A B : Type 0} (p : A → Bool) (f : A → B) (xs : List A) (i : ℕ) (x : A) → x ≡ slice_index_or xs i x → i < length xs
+pub kept_more : {A B : Type 0} (p : A → Bool) (f : A → B) (xs : List A) (i : ℕ) (x : A) → x ≡ slice_index_or xs i x
+    → i < length xs
     → map f (filter p (take (i + 1) xs)) ≡ map f (filter p (take i xs)) ++ map f (filter p (x ∷ []))
 kept_more p f xs i x is lt =
     ap (λ ys. map f (filter p ys)) (taken_more xs i x is lt)

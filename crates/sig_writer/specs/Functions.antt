@@ -24,6 +24,7 @@ functions_in s = map (λ it. it.1) (filter (is_first s) (reverse s.things))
 
 -- ---- the functions as texts name them
 
+-- an external function by where it was first declared: its name there, and the skeleton that begins there
 abbrev pub external_in : List UnitText → List Numbered → Place → External
 external_in units skeletons p = record {
   place = p;

@@ -3,6 +3,7 @@ use Rattle.std.specs.Prelude.{◌≡◌, ℕ, Bool, true, false, List, [], ◌�
 use Rattle.qual_types.specs.Skel.{Skel, flat, ref, fun}
 use Rattle.sig_writer.specs.Signatures.{each_before, each_behind, kind_text, params_text, type_text}
 
+-- whether a text is not empty
 abbrev pub is_some_text : List ℕ → Bool
 is_some_text [] = false
 is_some_text (c ∷ text) = true
@@ -18,12 +19,14 @@ bracket (flat v kind) text = []
 bracket (ref v s) text = []
 bracket (fun v ps r e) text = text
 
+-- what stands before the inner text; `is_round`: something stands there
 abbrev pub before_text : (ℕ → List (List ℕ)) → Skel → Bool → List ℕ
 before_text words (flat v kind) is_round = each_before (words v) ++ kind_text kind ++ gap is_round
 before_text words (ref v s) is_round =
     before_text words s true ++ bracket s (codes "(") ++ codes "*" ++ each_behind (words v) ++ gap is_round
 before_text words (fun v ps r e) is_round = before_text words r true
 
+-- what stands behind the inner text
 abbrev pub behind_text : (ℕ → List (List ℕ)) → Skel → List ℕ
 behind_text words (flat v kind) = []
 behind_text words (ref v s) = bracket s (codes ")") ++ behind_text words s

@@ -11,6 +11,7 @@ use Rattle.sig_writer.specs.declared.nodes.Nodes.{Nodes}
 use Rattle.sig_writer.specs.declared.marks.Pair.{Pair}
 use Rattle.sig_writer.specs.Marks.{IsJoined, marked_up_to}
 
+-- the node of a number is marked
 abbrev pub IsMarked : List Bool → ℕ → Type 0
 IsMarked marks i = slice_get marks i ≡ Some true
 
@@ -41,10 +42,12 @@ items_at [] j = []
 items_at (list ∷ lists) zero = list.items
 items_at (list ∷ lists) (suc j) = items_at lists j
 
+-- whether the number that may be there is this one
 abbrev pub is_some_number : Option ℕ → ℕ → Bool
 is_some_number None n = false
 is_some_number (Some m) n = nat_eq m n
 
+-- whether the last number of a list is this one
 abbrev pub ends_with : List ℕ → ℕ → Bool
 ends_with list n = is_some_number (slice_get list (length list - 1)) n
 
@@ -77,6 +80,7 @@ pub record IsIndexUpTo (nodes : Nodes) (rows : List Summary) (marks : List Bool)
     pub are : (m : ℕ) → Contains numbers m ↔ ((i : ℕ) × (i < n) × IsMarked marks i × IsMarked marks j
         × (marked_up_to marks i ≡ m) × Reaches nodes rows i j)
 
+-- each node has the list of the numbers of those of the first n nodes that reach it
 pub record AreUpTo (nodes : Nodes) (rows : List Summary) (marks : List Bool) (n : ℕ) (lists : List (Vec ℕ Global)) :
     Type 0 where
   pub count : length lists ≡ length marks

@@ -15,6 +15,7 @@ IsJoined nodes row pair =
     (nodes.from + pair.from ≡ row.from) × (row.from < nodes.to)
     × (nodes.from + pair.to ≡ row.to) × (row.to < nodes.to) × (pair.from ≡ pair.to → ⊥)
 
+-- a summary does not lead from one of the nodes to another one
 abbrev pub JoinsNone : Nodes → Summary → Type 0
 JoinsNone nodes row = (pair : Pair) → IsJoined nodes row pair → ⊥
 
@@ -36,13 +37,15 @@ marked_up_to (true ∷ marks) (suc i) = suc (marked_up_to marks i)
 marked_up_to (false ∷ marks) zero = 0
 marked_up_to (false ∷ marks) (suc i) = marked_up_to marks i
 
--- a list has, ascending, the numbers of the marked nodes that are this one or from which a summary leads to it; none where it is not
+-- a list has, ascending, the numbers of the marked nodes that are this one or from which a summary leads to it; none
+-- where it is not
 -- marked
 pub record IsIndexOf (nodes : Nodes) (rows : List Summary) (marks : List Bool) (j : ℕ) (numbers : List ℕ) : Type 0 where
   pub ascending : AreAscending numbers
   pub are : (n : ℕ) → Contains numbers n ↔ ((i : ℕ) × (slice_get marks i ≡ Some true) × (slice_get marks j ≡ Some true)
       × (marked_up_to marks i ≡ n) × ((i ≡ j) ⊎ HasPair rows (nodes.from + i) (nodes.from + j)))
 
+-- each node has the list of numbers that its index word has
 pub record AreIndicesOf (nodes : Nodes) (rows : List Summary) (lists : List (Vec ℕ Global)) : Type 0 where
   pub marks : List Bool
   pub are_marks : AreMarks nodes rows marks

@@ -5,10 +5,10 @@ use Rattle.qual_types.specs.Skel.{Skel, flat, ref, fun, nodes, root, no_skeleton
 use Rattle.qual_types.specs.declared.row.Row.{Row}
 use Rattle.qual_types.specs.Rows.{skel_of}
 use Rattle.name_rules.specs.Spellings.{Place}
-use Rattle.place_map.specs.Values.{number_at}
+use Rattle.name_tables.specs.PlaceMap.Values.{number_at}
 use Rattle.row_rules.specs.Worlds.{Numbered, skeleton_among}
-use Rattle.unit_skeletons.specs.declared.skeletons.Skeletons.{Skeletons}
-use Rattle.unit_skeletons.specs.Found.{number_or_none}
+use Rattle.unit_starts.specs.declared.unit_skeletons.skeletons.Skeletons.{Skeletons}
+use Rattle.unit_starts.specs.UnitSkeletons.Found.{number_or_none}
 use Rattle.sig_writer.specs.declared.nodes.Nodes.{Nodes}
 use Rattle.sig_writer.specs.declared.nodes.Last.{Last}
 use Rattle.sig_writer.specs.declared.nodes.Last.TheVariants.{Var, Part}
@@ -18,9 +18,11 @@ abbrev pub numbers : ℕ → ℕ → List ℕ
 numbers zero from = []
 numbers (suc count) from = from ∷ numbers count (suc from)
 
+-- the variables from the first of the nodes to the last
 abbrev pub numbers_in : Nodes → List ℕ
 numbers_in it = numbers (it.to - it.from) it.from
 
+-- the first and the last variable tell all nodes
 pub record AreNodes (vars : List ℕ) (it : Nodes) : Type 0 where
   pub order : it.from ≤ it.to
   pub are : numbers_in it ≡ vars
@@ -30,9 +32,11 @@ abbrev pub skel_by : Skeletons → Option ℕ → Skel
 skel_by it None = no_skeleton
 skel_by it (Some n) = skel_of it.vars n
 
+-- the variables of the skeleton that begins at a place
 abbrev pub nodes_in : Skeletons → Place → List ℕ
 nodes_in it p = nodes (skel_by it (number_at it.starts p))
 
+-- the variables of the skeletons that begin at these places
 abbrev pub all_nodes_in : Skeletons → List Place → List ℕ
 all_nodes_in it functions = flat_map (nodes_in it) functions
 
@@ -57,6 +61,7 @@ SkeletonsAreInOrder =
 
 -- ---- the last variable of a skeleton, in pre-order
 
+-- the variable that comes last in a skeleton
 abbrev pub last_of : Skel → ℕ
 last_of (flat v k) = v
 last_of (ref v s) = last_of s

@@ -1,4 +1,5 @@
--- What the words of signatures stand for: constraints on the nodes of external functions. With any client they are accepted exactly
+-- What the words of signatures stand for: constraints on the nodes of external functions. With any client they are
+-- accepted exactly
 -- where the library is.
 use Rattle.std.specs.Prelude.{◌≡◌, ℕ, ◌<◌, nat_eq, Bool, true, not, ◌&&◌, ◌↔◌, ◌⊎◌, List, [], ◌∷◌, ◌++◌, map, Option, None, Some}
 use Rattle.std.specs.List.{filter, flat_map, list_all, list_any, Contains}
@@ -15,14 +16,17 @@ use Rattle.sig_writer.specs.Signatures.{External, Found, nodes_of, numbers_of, s
 
 -- ---- the constraints of the words
 
+-- the constant that a word of the join gives, if there is one
 abbrev pub const_of : ℕ → Option ℕ → List Link
 const_of v None = []
 const_of v (Some e) = Const 0 e v ∷ []
 
+-- the bound that a word of the meet gives, if there is one
 abbrev pub bound_of : ℕ → Option ℕ → List Link
 bound_of v None = []
 bound_of v (Some b) = Bound v 0 b ∷ []
 
+-- whether all numbers are among others
 abbrev pub are_among : List ℕ → List ℕ → Bool
 are_among numbers others = list_all (λ n. list_any (nat_eq n) others) numbers
 
@@ -32,10 +36,12 @@ flows_of it nodes v [] = []
 flows_of it nodes v (n ∷ numbers) =
     map (λ u. Le v u) (filter (λ u. not (nat_eq u v) && are_among (n ∷ numbers) (numbers_of it nodes u)) nodes)
 
+-- the constraints that the words of a node give
 abbrev pub words_at : Found → List ℕ → ℕ → List Link
 words_at it nodes v =
     const_of v (says it nodes v).low ++ bound_of v (says it nodes v).high ++ flows_of it nodes v (numbers_of it nodes v)
 
+-- a constraint of the one lattice, at the first declaration of a function
 abbrev pub constraint_of : External → Link → Constraint
 constraint_of f link = record {
   link = link;
@@ -43,9 +49,11 @@ constraint_of f link = record {
   span = record { unit = f.place.0; from = f.place.1; to = f.place.1 };
 }
 
+-- the constraints that the words of a function's signature give
 abbrev pub words_for : Found → External → List Constraint
 words_for it f = map (constraint_of f) (flat_map (words_at it (nodes_of f)) (nodes_of f))
 
+-- the constraints of all signatures of a library
 abbrev pub words_part : Found → List External → List Constraint
 words_part it functions = flat_map (words_for it) functions
 
@@ -58,6 +66,7 @@ AreOwnedApart sys functions =
     → Contains (nodes_of other) v → owner_of sys u ≡ Function f → owner_of sys v ≡ Function f
     → nodes_of one ≡ nodes_of other
 
+-- a constraint has a variable at one of its ends
 abbrev pub HasVar : Link → ℕ → Type 0
 HasVar (Le u v) w = (u ≡ w) ⊎ (v ≡ w)
 HasVar (Const l e v) w = v ≡ w
@@ -71,7 +80,8 @@ IsLibrarys sys nodes f =
     (v : ℕ) × (owner_of sys v ≡ Function f)
     × (((n : ℕ) × (link : Link) × Has sys n link × HasVar link v) ⊎ Contains nodes v)
 
--- A split of which the library is this system and the words are those of its signatures. The client has any constraints, over further
+-- A split of which the library is this system and the words are those of its signatures. The client has any
+-- constraints, over further
 -- sites and variables, that meet the library at its nodes alone.
 pub record IsSplitOf (sys : System) (it : Found) (functions : List External) (s : Split) : Type 0 where
   pub library : s.library ≡ sys.constraints

@@ -28,10 +28,11 @@ pub record AreKnown (known : Known) : Type 0 where
   pub least : IsLeast known.lattice.now.order known.least
   pub greatest : IsGreatest known.lattice.now.order known.greatest
 
--- the join of the constants that come to a variable with no call open, and the meet of the bounds that it leads to
+-- the join of the constants that come to a variable with no call open
 abbrev pub IsJoinAt : Known → ℕ → ℕ → Type 0
 IsJoinAt known v e = IsJoinOf known.lattice.now.order (set_of known.solver.now.phases First v) e
 
+-- the meet of the bounds that a variable leads to
 abbrev pub IsMeetAt : Known → ℕ → ℕ → Type 0
 IsMeetAt known v e = IsMeetOf known.lattice.now.order (set_at known.below.now v) e
 
@@ -43,6 +44,7 @@ pub record IsKnownOf (known : Known) (vars : List ℕ) (it : Found) : Type 0 whe
   pub least : it.least ≡ known.least
   pub greatest : it.greatest ≡ known.greatest
 
+-- what is written of the join and of the meet
 abbrev pub elements_of : Option ℕ → Option ℕ → Elements
 elements_of low high = record { low = low; high = high }
 
@@ -51,9 +53,11 @@ pub record Saying : Type 0 where
   pub vars : List ℕ
   pub says : List Says
 
+-- nothing: no number and no element
 abbrev pub nothing_said : Says
 nothing_said = record { numbers = []; low = None; high = None }
 
+-- what a variable says, of these variables and what they say in the same order
 abbrev pub says_among : List ℕ → List Says → ℕ → Says
 says_among [] all v = nothing_said
 says_among (u ∷ us) [] v = nothing_said
@@ -63,6 +67,7 @@ says_among (u ∷ us) (it ∷ all) v = if nat_eq u v then it else says_among us 
 abbrev pub said_at : Saying → ℕ → Says
 said_at said v = says_among said.vars said.says v
 
+-- what each node says, by its numbers and its elements
 abbrev pub says_by : List (Vec ℕ Global) → List Elements → List Says
 says_by [] elements = []
 says_by (list ∷ lists) [] = []
@@ -80,16 +85,19 @@ abbrev pub IsOf : Order → Option ℕ → Type 0
 IsOf order None = Unit {0}
 IsOf order (Some e) = e < size order
 
+-- the elements that are written are of an order
 abbrev pub AreOf : Order → Elements → Type 0
 AreOf order it = IsOf order it.low × IsOf order it.high
 
--- what is written of a variable is what is found of it, in whatever variables it is
+-- what is written of a variable's join is what is found of it, in whatever variables it is
 pub record IsLowAt (known : Known) (v : ℕ) (e : Option ℕ) : Type 0 where
   pub is : (vars : List ℕ) (it : Found) → Contains vars v → IsKnownOf known vars it → e ≡ unless (it.join v) it.least
 
+-- what is written of a variable's meet is what is found of it, in whatever variables it is
 pub record IsHighAt (known : Known) (v : ℕ) (e : Option ℕ) : Type 0 where
   pub is : (vars : List ℕ) (it : Found) → Contains vars v → IsKnownOf known vars it → e ≡ unless (it.meet v) it.greatest
 
+-- what is written of a variable's join and meet is what is found of it
 pub record AreFoundAt (known : Known) (v : ℕ) (it : Elements) : Type 0 where
   pub within : AreOf known.lattice.now.order it
   pub low : IsLowAt known v it.low
@@ -101,6 +109,7 @@ pub record PushesFound (known : Known) (v : ℕ) (old new : List Elements) : Typ
   pub pushed : new ≡ old ++ it ∷ []
   pub found : AreFoundAt known v it
 
+-- for each node the elements that are written of it
 pub record AreElements (known : Known) (nodes : Nodes) (elements : List Elements) : Type 0 where
   pub count : length elements ≡ nodes.to - nodes.from
   pub are : (k : ℕ) (it : Elements) → slice_get elements k ≡ Some it → AreFoundAt known (nodes.from + k) it
@@ -110,5 +119,6 @@ pub record AreSaid (it : Found) (vars : List ℕ) (said : Saying) : Type 0 where
   pub vars_are : said.vars ≡ vars
   pub says_are : (v : ℕ) → Contains vars v → said_at said v ≡ says it vars v
 
+-- whether some of these variables says anything
 abbrev pub some_says : Saying → List ℕ → Bool
 some_says said vars = list_any (λ v. not (says_nothing (said_at said v))) vars

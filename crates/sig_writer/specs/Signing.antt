@@ -21,6 +21,7 @@ pub record IsWritten (sys : System) (lattice : LatticeView) (functions : List Ex
   pub is : text ≡ lines_of it lattice functions
   pub serves : Serves sys lattice.order it functions
 
+-- a function of a library has no signature, for this reason and as the first such one
 pub record IsRefused (sys : System) (lattice : LatticeView) (functions : List External) (refusal : Refusal) : Type 0 where
   pub it : Found
   pub found : IsFoundIn sys lattice functions it

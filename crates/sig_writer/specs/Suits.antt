@@ -1,4 +1,5 @@
--- Which libraries may have signatures: those over one lattice of values through which nothing passes by pointers or fields, of which
+-- Which libraries may have signatures: those over one lattice of values through which nothing passes by pointers or
+-- fields, of which
 -- no constraint has a variable of nobody.
 use Rattle.std.specs.Prelude.{◌≡◌, ℕ, ◌<◌, ◌⊎◌, List, [], ◌∷◌, Some}
 use Rattle.qual_base.specs.declared.places.Owner.TheVariants.{Nobody}
@@ -17,9 +18,11 @@ pub record IsPlain (lattice : LatticeView) : Type 0 where
   pub level : level_at lattice.entries 0 ≡ Some Value
   pub flows : lattice.flows ≡ no_flows
 
+-- there is one lattice, and it is one of values without attributes of the whole
 abbrev pub IsOnePlain : List LatticeView → Type 0
 IsOnePlain lattices = (lattice : LatticeView) × (lattices ≡ lattice ∷ []) × IsPlain lattice
 
+-- no function owns a variable
 abbrev pub IsNobodys : System → ℕ → Type 0
 IsNobodys sys v = owner_of sys v ≡ Nobody
 
@@ -35,12 +38,14 @@ IsShared sys (Leave s u v) = IsNobodys sys u ⊎ IsNobodys sys v
 abbrev pub AreOwnBelow : System → ℕ → Type 0
 AreOwnBelow sys n = (m : ℕ) (link : Link) → m < n → Has sys m link → IsShared sys link → ⊥
 
+-- the first constraint that has a variable of nobody
 pub record IsFirstShared (sys : System) (n : ℕ) : Type 0 where
   pub link : Link
   pub there : Has sys n link
   pub shared : IsShared sys link
   pub first : AreOwnBelow sys n
 
+-- a library may have signatures: it is over one plain lattice, and no constraint of it has a variable of nobody
 pub record Suits (sys : System) (lattices : List LatticeView) : Type 0 where
   pub one : IsOnePlain lattices
   pub own : (n : ℕ) (link : Link) → Has sys n link → IsShared sys link → ⊥

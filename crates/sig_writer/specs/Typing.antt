@@ -10,10 +10,12 @@ use Rattle.sig_writer.specs.Refusing.{AreAllWithin}
 use Rattle.sig_writer.specs.Saying.{said_at}
 use Rattle.sig_writer.specs.Signatures.{words_of}
 
+-- a space before each word, where that is its place
 abbrev pub space_before : Space → List ℕ
 space_before Before = codes " "
 space_before Behind = []
 
+-- a space behind each word, where that is its place
 abbrev pub space_behind : Space → List ℕ
 space_behind Before = []
 space_behind Behind = codes " "
@@ -22,9 +24,11 @@ space_behind Behind = codes " "
 abbrev pub each_in : Space → List (List ℕ) → List ℕ
 each_in space words = flat_map (λ word. space_before space ++ word ++ space_behind space) words
 
+-- the text of an index word
 abbrev pub numbers_text : List ℕ → List ℕ
 numbers_text numbers = codes "$" ++ flat_map (λ n. codes "_" ++ decimal n) numbers
 
+-- whether a skeleton is that of a function
 abbrev pub is_fun : Skel → Bool
 is_fun (flat v kind) = false
 is_fun (ref v s) = false

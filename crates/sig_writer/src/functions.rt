@@ -9,12 +9,12 @@ ghost use Rattle.row_rules.specs.Starting.{is_some_function};
 ghost use Rattle.unit_shapes.specs.Views.{names_in};
 ghost use Rattle.sig_writer.specs.Functions.{functions_in, is_first};
 ghost use Rattle.type_table.specs.Types.{CType};
-ghost use Rattle.name_links.specs.Tables.{AreStatics};
-ghost use Rattle.unit_names.specs.Shown.{names_of};
+ghost use Rattle.name_state.specs.NameLinks.Tables.{AreStatics};
+ghost use Rattle.name_state.specs.UnitNames.Shown.{names_of};
 
 use c_types::Program;
-use found_names::FoundNames;
-use name_scopes::Place;
+use name_state::found_names::FoundNames;
+use name_tables::name_scopes::Place;
 use qual_base::{NameId, NoMemory, Numbered, UnitNo};
 use std::alloc::Global;
 use std::collections::HashMap;

@@ -1,5 +1,8 @@
-//! The signatures of a library: for each external function of which a client has something to know a declaration whose words say it.
-//! Read as a prelude, they stand for the library's sources.
+//! The signatures of a library: for each external function of which a client has something to know a declaration whose
+//! words say it. Read as a prelude, they stand for the library's sources.
+//!
+//! Entry: `signatures`. Invariant: a word is written only where a constraint of the library wants it.
+//! It does not know how sources are read. Above: `cqual_tool`.
 #![tactic(auto)]
 
 mod functions;

@@ -18,11 +18,11 @@ use crate::refusals::{Refusal, refusal_of};
 use crate::says::{Known, Said, say};
 use crate::types::{Typed, put_type};
 use annotate::{UnitText, bytes_of, put, unit_at};
-use name_scopes::Place;
+use name_tables::name_scopes::Place;
 use qual_base::{NoMemory, Numbered, SkelId, VarId};
 use qual_types::Look;
 use std::alloc::Global;
-use unit_skeletons::Skeletons;
+use unit_starts::unit_skeletons::Skeletons;
 
 /// The external functions of a library, each by where it was first declared, its units and its skeletons.
 #[derive(Clone, Copy)]

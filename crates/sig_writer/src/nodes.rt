@@ -8,11 +8,11 @@ ghost use Rattle.sig_writer.specs.Nodes.{all_nodes_in, last_in, last_of, nodes_i
 ghost use Rattle.sig_writer.specs.Nodes.{root_in, AreInOrder, AreNodes, IsHigher, IsInOrder};
 ghost use Rattle.sig_writer.specs.Nodes.{SkeletonsAreInOrder};
 
-use name_scopes::Place;
+use name_tables::name_scopes::Place;
 use qual_base::{NoMemory, Numbered, SkelId, VarId};
 use qual_types::{Look, VarTable};
 use std::alloc::Global;
-use unit_skeletons::Skeletons;
+use unit_starts::unit_skeletons::Skeletons;
 
 /// The nodes of a function: the variables from one on, before another. They stand in pre-order.
 #[derive(Clone, Copy, PartialEq, Eq, Debug)]

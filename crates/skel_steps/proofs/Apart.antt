@@ -16,12 +16,12 @@ use Rattle.tape_ops.specs.declared.statement.StmtOp.{StmtOp}
 use Rattle.tape_ops.specs.declared.statement.StmtOp.TheVariants as stmts
 use Rattle.qual_types.specs.Skel.{Skel}
 use Rattle.name_rules.specs.Checks.{is_star}
-use Rattle.shape_steps.specs.Steps.{twice}
+use Rattle.name_rules.specs.ShapeSteps.Steps.{twice}
 use Rattle.row_rules.specs.Worlds.{World, at}
 use Rattle.row_rules.specs.Vals.{Val, Candidate, a_value, contents, is_ref, index_of, own, pick_of, prefix_of}
-use Rattle.row_steps.specs.Rounds.{Rounds}
-use Rattle.row_steps.specs.State.{State, put, val_at, value_at}
-use Rattle.row_steps.specs.Steps.{expr_step, form_step, init_step, spec_step, declr_step, stmt_step, stack_step, with_round_step, step, carrying, candidate_at, selected}
+use Rattle.row_rules.specs.RowSteps.Rounds.{Rounds}
+use Rattle.row_rules.specs.RowSteps.State.{State, put, val_at, value_at}
+use Rattle.row_rules.specs.RowSteps.Steps.{expr_step, form_step, init_step, spec_step, declr_step, stmt_step, stack_step, with_round_step, step, carrying, candidate_at, selected}
 
 -- also where a pointer is kept on the way
 aside : (b : Bool) (pointer : Skel) (n : ℕ) (v : Val) (st : State) (r : Rounds) →

@@ -4,9 +4,9 @@ use Rattle.qual_types.specs.declared.row.Row.{Row}
 use Rattle.qual_types.specs.Skel.{Skel}
 use Rattle.row_rules.specs.Worlds.{World, at}
 use Rattle.row_rules.specs.Vals.{Val, Candidate, a_value, value, no_zeros, or_all, left_of, value_of_left, pick_of}
-use Rattle.row_steps.specs.State.{State}
-use Rattle.row_steps.specs.Steps.{candidate_at, selected}
-use Rattle.shape_steps.specs.Steps.{twice}
+use Rattle.row_rules.specs.RowSteps.State.{State}
+use Rattle.row_rules.specs.RowSteps.Steps.{candidate_at, selected}
+use Rattle.name_rules.specs.ShapeSteps.Steps.{twice}
 use Rattle.row_world.specs.Shown.{val_in}
 use Rattle.skel_steps.specs.declared.picks.Count.{Count}
 use Rattle.skel_steps.specs.declared.picks.PickedVal.{PickedVal}
@@ -48,7 +48,8 @@ first_added all c count old new count_is old_is is =
     is ∙ ap (λ n. first_by n old c.val) count_is ∙ ap (λ v. first_by (count_of all) v c.val) old_is ∙ sym (first_more all c)
 
 -- one more that is a zero
-pub zero_added : (rows : List Row) (all : List Candidate) (c : Candidate) (old new : PickedVal) → IsPickedVal rows all old →
+pub zero_added : (rows : List Row) (all : List Candidate) (c : Candidate) (old new : PickedVal)
+    → IsPickedVal rows all old →
     c.is_zero ≡ true → new.count ≡ more_than old.count →
     val_in rows new.first ≡ first_by old.count (val_in rows old.first) c.val → new.others ≡ old.others →
     new.first_other ≡ old.first_other → IsPickedVal rows (all ++ c ∷ []) new
@@ -61,7 +62,8 @@ zero_added rows all c old new h is_zero count first others first_other =
     }
 
 -- one more that is none
-pub other_added : (rows : List Row) (all : List Candidate) (c : Candidate) (old new : PickedVal) → IsPickedVal rows all old →
+pub other_added : (rows : List Row) (all : List Candidate) (c : Candidate) (old new : PickedVal)
+    → IsPickedVal rows all old →
     c.is_zero ≡ false → new.count ≡ more_than old.count →
     val_in rows new.first ≡ first_by old.count (val_in rows old.first) c.val → new.others ≡ more_than old.others →
     val_in rows new.first_other ≡ first_by old.others (val_in rows old.first_other) c.val →

@@ -1,2 +1,3 @@
 pub mod Apart
 mod Candidates
+pub mod SkelStacks

@@ -2,13 +2,13 @@
 
 ghost use Rattle.std.specs.Prelude.{◌≡◌, OnOk};
 ghost use Rattle.tape_ops.specs.declared.declarator.DeclrOp.TheVariants as declrs;
-ghost use Rattle.row_steps.specs.Steps as steps;
-ghost use Rattle.skel_stacks.specs.Views.{Tables, state_in};
+ghost use Rattle.row_rules.specs.RowSteps.Steps as steps;
+ghost use Rattle.skel_steps.specs.SkelStacks.Views.{Tables, state_in};
 ghost use Rattle.skel_steps.specs.Stepping.{Steps};
 
+use crate::skel_stacks::Stacks;
 use qual_base::{NoMemory, TokenId};
 use row_world::Known;
-use skel_stacks::Stacks;
 use tape_ops::{DeclrOp, SpecOp, StmtOp};
 
 /// What a word of specifiers does. Constant time but for growth.

@@ -1,16 +1,16 @@
 //! What operands and operators do to the stacks.
 
 ghost use Rattle.std.specs.Prelude.{OnOk};
-ghost use Rattle.row_steps.specs.Steps as steps;
+ghost use Rattle.row_rules.specs.RowSteps.Steps as steps;
 ghost use Rattle.skel_steps.specs.Stepping.{Steps};
 
 use crate::operands::{extension, name, number, put_own, text};
 use crate::operators::{
     arrow, assign, binary_operator, call, comma, condition, index, member, post, prefix,
 };
+use crate::skel_stacks::Stacks;
 use qual_base::NoMemory;
 use row_world::Known;
-use skel_stacks::Stacks;
 use tape_ops::ExprOp;
 
 /// What an operand or operator does. Constant time for each operand that it takes, and linear in the members of the struct that

@@ -5,18 +5,18 @@ ghost use Rattle.type_table.specs.declared.row.Row as row;
 ghost use Rattle.type_table.specs.Rows.{type_of};
 ghost use Rattle.tape_ops.specs.declared.form.FormOp.TheVariants as forms;
 ghost use Rattle.name_rules.specs.Values.{is_plain_void_pointer};
-ghost use Rattle.shape_values.specs.Views.{some_value_type};
+ghost use Rattle.expr_shapes.specs.ShapeValues.Views.{some_value_type};
 ghost use Rattle.row_rules.specs.Vals as vals;
-ghost use Rattle.row_steps.specs.State as states;
-ghost use Rattle.row_steps.specs.Steps as steps;
+ghost use Rattle.row_rules.specs.RowSteps.State as states;
+ghost use Rattle.row_rules.specs.RowSteps.Steps as steps;
 ghost use Rattle.skel_steps.specs.Stepping.{Steps, state_of};
 
 use crate::operands::{put_own, put_value, value_at};
 use crate::picks::{choose, select};
+use crate::skel_stacks::Stacks;
+use expr_shapes::shape_values::{ValueType, is_plain_void_pointer};
 use qual_base::{NoMemory, TokenId, TypeId};
 use row_world::Known;
-use shape_values::{ValueType, is_plain_void_pointer};
-use skel_stacks::Stacks;
 use tape_ops::FormOp;
 use type_table::TypeTable;
 

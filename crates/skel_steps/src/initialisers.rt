@@ -2,13 +2,13 @@
 
 ghost use Rattle.std.specs.Prelude.{ℕ, OnOk};
 ghost use Rattle.tape_ops.specs.declared.initialiser.InitOp.TheVariants as inits;
-ghost use Rattle.row_steps.specs.Steps as steps;
+ghost use Rattle.row_rules.specs.RowSteps.Steps as steps;
 ghost use Rattle.skel_steps.specs.Stepping.{Steps};
 
+use crate::skel_stacks::Stacks;
 use crate::targets::{initialised_by, target_in, with_member};
 use qual_base::{NameId, NoMemory};
 use row_world::Known;
-use skel_stacks::Stacks;
 use tape_ops::InitOp;
 
 /// The rule for the name that was declared last. Linear in the operands of its initialiser.

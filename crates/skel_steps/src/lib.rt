@@ -1,4 +1,7 @@
 //! What each op of a tape does to the stacks of skeletons.
+//!
+//! Entry: `step`, and `skel_stacks::Stacks`. Invariant: the stacks are those of the steps in `row_rules`.
+//! It does not know constraints and graphs. Above: `unit_system`.
 #![tactic(auto)]
 
 mod declarators;
@@ -8,6 +11,7 @@ mod initialisers;
 mod operands;
 mod operators;
 mod picks;
+pub mod skel_stacks;
 mod steps;
 mod targets;
 

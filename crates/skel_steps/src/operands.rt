@@ -3,15 +3,15 @@
 ghost use Rattle.std.specs.Prelude.{◌≡◌, Bool, ℕ, OnOk};
 ghost use Rattle.tape_ops.specs.declared.expression.ExprOp.TheVariants as exprs;
 ghost use Rattle.row_rules.specs.Vals as vals;
-ghost use Rattle.row_steps.specs.State as states;
-ghost use Rattle.row_steps.specs.Steps as steps;
+ghost use Rattle.row_rules.specs.RowSteps.State as states;
+ghost use Rattle.row_rules.specs.RowSteps.Steps as steps;
 ghost use Rattle.row_world.specs.Shown.{skel};
-ghost use Rattle.skel_stacks.specs.Views.{Tables, skel_in, state_in};
+ghost use Rattle.skel_steps.specs.SkelStacks.Views.{Tables, skel_in, state_in};
 ghost use Rattle.skel_steps.specs.Stepping.{Steps, state_of};
 
+use crate::skel_stacks::Stacks;
 use qual_base::{NoMemory, SkelId, TokenId};
 use row_world::{Known, Operand, value};
-use skel_stacks::Stacks;
 
 /// The skeleton of the value of an operand with so many above it. Constant time.
 pub fn value_at(known: &Known, stacks: &Stacks, depth: usize) -> SkelId

@@ -7,18 +7,18 @@ ghost use Rattle.qual_types.specs.Rows.{skel_of};
 ghost use Rattle.row_rules.specs.Worlds.{World};
 ghost use Rattle.row_rules.specs.Vals as vals;
 ghost use Rattle.name_rules.specs.Checks.{is_star};
-ghost use Rattle.row_steps.specs.State as states;
-ghost use Rattle.row_steps.specs.Steps as steps;
+ghost use Rattle.row_rules.specs.RowSteps.State as states;
+ghost use Rattle.row_rules.specs.RowSteps.Steps as steps;
 ghost use Rattle.row_world.specs.Shown.{Shows, skel, val};
 ghost use Rattle.row_world.specs.declared.known.Known.{Known};
 ghost use Rattle.skel_steps.specs.Stepping.{Steps, state_of};
 
 use crate::operands::{put_place, put_value, value_at};
+use crate::skel_stacks::Stacks;
 use c_words::Punct;
 use qual_base::{NameId, NoMemory, SkelId, TokenId};
 use qual_types::VarTable;
 use row_world::{Known, Operand, binary, contents, is_ref, outcome, value};
-use skel_stacks::Stacks;
 
 /// The comma. Constant time.
 pub(crate) fn comma(known: &Known, stacks: &mut Stacks) -> Result<(), NoMemory>

@@ -3,17 +3,17 @@
 ghost use Rattle.std.specs.Prelude.{◌≡◌, ◌<◌, ◌-◌, ◌∷◌, ◌++◌, [], ℕ, suc, List, OnOk};
 ghost use Rattle.tape_ops.specs.declared.form.FormOp.TheVariants as forms;
 ghost use Rattle.qual_types.specs.declared.row.Row as row;
-ghost use Rattle.shape_steps.specs.Steps.{twice};
+ghost use Rattle.name_rules.specs.ShapeSteps.Steps.{twice};
 ghost use Rattle.row_rules.specs.Worlds.{World};
 ghost use Rattle.row_rules.specs.Vals as vals;
-ghost use Rattle.row_steps.specs.Steps as steps;
+ghost use Rattle.row_rules.specs.RowSteps.Steps as steps;
 ghost use Rattle.row_world.specs.Shown.{Shows, skel, val, val_in};
 ghost use Rattle.skel_steps.specs.Picks.{IsPickedVal, candidate_in, more_than, first_by, is_several, are_several, fresh_by, value_by, pick_by, with_candidate};
 ghost use Rattle.skel_steps.specs.Stepping.{Steps, state_of};
 
+use crate::skel_stacks::Stacks;
 use qual_base::{NoMemory, SkelId, TokenId};
 use row_world::{Known, Operand, nowhere, value};
-use skel_stacks::Stacks;
 
 /// How many there are of something.
 #[derive(Clone, Copy)]

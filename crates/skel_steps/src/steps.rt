@@ -1,16 +1,16 @@
 //! What each op of a tape does to the stacks.
 
 ghost use Rattle.std.specs.Prelude.{OnOk};
-ghost use Rattle.row_steps.specs.Steps as steps;
+ghost use Rattle.row_rules.specs.RowSteps.Steps as steps;
 ghost use Rattle.skel_steps.specs.Stepping.{Steps};
 
 use crate::declarators::{step_declarator, step_specifier, step_statement};
 use crate::expressions::step_expression;
 use crate::forms::step_form;
 use crate::initialisers::step_initialiser;
+use crate::skel_stacks::Stacks;
 use qual_base::NoMemory;
 use row_world::Known;
-use skel_stacks::Stacks;
 use tape_ops::Op;
 
 /// What an op does to all but what is around. Constant time for each operand that it takes, and linear in the members of the

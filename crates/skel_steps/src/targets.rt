@@ -6,15 +6,15 @@ ghost use Rattle.qual_types.specs.Skel.{Skel, flat};
 ghost use Rattle.row_rules.specs.Worlds.{World};
 ghost use Rattle.row_rules.specs.Rows as rows;
 ghost use Rattle.row_rules.specs.Vals as vals;
-ghost use Rattle.row_steps.specs.Steps as steps;
+ghost use Rattle.row_rules.specs.RowSteps.Steps as steps;
 ghost use Rattle.row_world.specs.Shown.{Shows, skel};
-ghost use Rattle.skel_stacks.specs.Views.{braces_in};
+ghost use Rattle.skel_steps.specs.SkelStacks.Views.{braces_in};
 ghost use Rattle.skel_steps.specs.Stepping.{tables_of};
 
+use crate::skel_stacks::Braces;
 use qual_base::{NameId, NoMemory, SkelId, StructId, TokenId};
 use qual_types::{Kind, Look};
 use row_world::{Known, contents};
-use skel_stacks::Braces;
 
 /// What is no struct is initialised by its first item alone.
 fn first_alone(is_first: bool, of: SkelId) -> Option<SkelId>

@@ -18,6 +18,7 @@ pub members_same : (ds : List (Listed RustMemDeclr)) → parts.mem_declrs_from (
 members_same [] = refl
 members_same (d ∷ ds) = ap (λ (ds : MemDeclrs). more_mem_declrs d.attrs.items (mem_declr_of d.item) ds) (members_same ds)
 
-pub items_same : (items : List RustStructItem) → parts.struct_items_from (map struct_item_of items) ≡ struct_items_from items
+pub items_same : (items : List RustStructItem)
+    → parts.struct_items_from (map struct_item_of items) ≡ struct_items_from items
 items_same [] = refl
 items_same (item ∷ items) = ap (λ (items : StructItems). more_struct_items (struct_item_of item) items) (items_same items)

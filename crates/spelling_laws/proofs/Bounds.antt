@@ -80,7 +80,8 @@ one_more tokens t old new h g =
         let less = h.below k s id there is in let more = g.more in omega (arith, less, more)
     by k s id (inr same) is = g.own id (subst (λ (it : Token). it.kind ≡ Name id) (sym same) is)
 
-reaches_few : (unit : ℕ) (wide : Bool) (words : Meanings) (bytes : List ℕ) (front : Front) → Reaches unit wide words bytes front →
+reaches_few : (unit : ℕ) (wide : Bool) (words : Meanings) (bytes : List ℕ) (front : Front)
+    → Reaches unit wide words bytes front →
     Few front.tokens front.names
 reaches_few unit wide words bytes front begins = record { few = omega arith; below = λ k t id there is. absurd cc }
 reaches_few unit wide words bytes front (skips old new reached s) =

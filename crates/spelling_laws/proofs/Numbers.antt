@@ -11,7 +11,7 @@ use Rattle.c_lexer.specs.declared.token.Token.{Token}
 use Rattle.c_lexer.specs.Numbering.{AreNumbered, NamesAreNumbered, kind_of}
 use Rattle.c_lexer.specs.Tokens.{Lexed, end_of, start_of, text_of}
 use Rattle.c_tree.specs.declared.lexeme.Lexeme.{Lexeme}
-use Rattle.source_spelling.specs.Tokens.{bytes_of, is_name, key_among, key_of_some, key_or, name_among, name_of_kind, or_behind, spelled, spelled_among}
+use Rattle.c_types.specs.SourceSpelling.Tokens.{bytes_of, is_name, key_among, key_of_some, key_or, name_among, name_of_kind, or_behind, spelled, spelled_among}
 use Rattle.first_laws.specs.Firsts.{has_name, is_named}
 use Rattle.spelling_laws.specs.Spelled.{IsLexed, SpelledNamesDiffer}
 use Rattle.spelling_laws.proofs.Bounds.{name_below}
@@ -87,7 +87,8 @@ token_kind : (lexed : Lexed) (i : ℕ) (t : Token) (n : ℕ) → slice_get lexed
 token_kind lexed i t n there kind =
     ap (option_map (λ (token : Token). token.kind)) there ∙ ap (λ (k : TokenKind). Some k) kind
 
-token_text : (lexed : Lexed) (i : ℕ) (t : Token) → slice_get lexed.tokens i ≡ Some t → text_of lexed i ≡ bytes_of lexed t
+token_text : (lexed : Lexed) (i : ℕ) (t : Token) → slice_get lexed.tokens i ≡ Some t
+    → text_of lexed i ≡ bytes_of lexed t
 token_text lexed i t there =
     let first : start_of lexed.tokens i ≡ t.start = ap (λ o. unwrap_or o 0)
     (slice_get-map (λ (token : Token). token.start) lexed.tokens i ∙ ap (option_map (λ (token : Token). token.start)) there) in

@@ -4,7 +4,7 @@ use Rattle.c_lexer.specs.declared.token.Token.{Token}
 use Rattle.c_lexer.specs.Reading.{Meanings}
 use Rattle.c_lexer.specs.Tokens.{Lexed, IsSpelled}
 use Rattle.c_tree.specs.declared.lexeme.Lexeme.{Lexeme}
-use Rattle.source_spelling.specs.Tokens.{spelling_behind}
+use Rattle.c_types.specs.SourceSpelling.Tokens.{spelling_behind}
 use Rattle.first_laws.specs.Firsts.{NamesDiffer}
 
 -- its bytes spell its tokens

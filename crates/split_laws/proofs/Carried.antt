@@ -74,7 +74,8 @@ turned one other same = record {
   }));
 }
 
-safely : (one other : System) (lattice : ℕ) (order : Order) → AreSame one other → IsSafe one lattice order → IsSafe other lattice order
+safely : (one other : System) (lattice : ℕ) (order : Order) → AreSame one other → IsSafe one lattice order
+    → IsSafe other lattice order
 safely one other lattice order same safe n v b e st lead =
     let back_way = turned one other same in
     safe n v b e (to other one lattice back_way n (Bound v lattice b) st) (on other one lattice back_way e v lead)

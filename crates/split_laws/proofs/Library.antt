@@ -32,23 +32,28 @@ module _ (sys : System) (lattice : ℕ) where
 
 -- calls and copies are those of the sites, whatever the constraints
 module _ (s : Split) (one other : List Constraint) where
-  pub calls_of : (t : ℕ) (outer inner : Owner) → Calls (of_part s one) t outer inner → Calls (of_part s other) t outer inner
+  pub calls_of : (t : ℕ) (outer inner : Owner) → Calls (of_part s one) t outer inner
+      → Calls (of_part s other) t outer inner
   calls_of t outer inner c = record { it = c.it; there = c.there; outer_is = c.outer_is; inner_is = c.inner_is }
 
-  string_of : (owner : Owner) (sites : List ℕ) → IsCallString (of_part s one) owner sites → IsCallString (of_part s other) owner sites
+  string_of : (owner : Owner) (sites : List ℕ) → IsCallString (of_part s one) owner sites
+      → IsCallString (of_part s other) owner sites
   string_of owner [] h = tt
   string_of owner (t ∷ []) h = (h.0, calls_of t h.0 owner h.1)
   string_of owner (t ∷ r ∷ sites) h = (h.0, calls_of t h.0 owner h.1, string_of h.0 (r ∷ sites) h.2)
 
-  pub copy_of : (depth : ℕ) (owner : Owner) (sites : List ℕ) → IsCopy (of_part s one) depth owner sites → IsCopy (of_part s other) depth owner sites
+  pub copy_of : (depth : ℕ) (owner : Owner) (sites : List ℕ) → IsCopy (of_part s one) depth owner sites
+      → IsCopy (of_part s other) depth owner sites
   copy_of depth Nobody sites h = h
   copy_of depth (Function f) sites h = (string_of (Function f) sites h.0, h.1)
 
 -- a copy without its last site
-pub copy_off : (sys : System) (depth : ℕ) (outer inner : Owner) (t : ℕ) (sites : List ℕ) → IsCopy sys depth inner (t ∷ sites) → Calls sys t outer inner → IsCopy sys depth outer sites
+pub copy_off : (sys : System) (depth : ℕ) (outer inner : Owner) (t : ℕ) (sites : List ℕ)
+    → IsCopy sys depth inner (t ∷ sites) → Calls sys t outer inner → IsCopy sys depth outer sites
 copy_off sys depth outer inner t sites copy call = by_string sites (string (subst (λ o. IsCopy sys depth o (t ∷ sites)) call.inner_is copy))
   where
-    string : IsCopy sys depth (Function call.it.target) (t ∷ sites) → IsCopy sys depth (Function call.it.target) (t ∷ sites)
+    string : IsCopy sys depth (Function call.it.target) (t ∷ sites)
+        → IsCopy sys depth (Function call.it.target) (t ∷ sites)
     string c = c
 
     same : (o : Owner) → Calls sys t o (Function call.it.target) → o ≡ outer
@@ -88,10 +93,12 @@ module _ (s : Split) (fits : IsSplit s) where
   abbrev pub foreign : ℕ → Bool
   foreign t = foreign_by (slice_get s.sites t)
 
-  foreign_is : (t u x : ℕ) → Calls (alone s) t (owner_of (alone s) u) (owner_of (alone s) x) → foreign t ≡ foreign_owner (owner_of (alone s) u)
+  foreign_is : (t u x : ℕ) → Calls (alone s) t (owner_of (alone s) u) (owner_of (alone s) x)
+      → foreign t ≡ foreign_owner (owner_of (alone s) u)
   foreign_is t u x call = ap foreign_by call.there ∙ ap foreign_owner (sym call.outer_is)
 
-  pub own_site : (t u x : ℕ) → Calls (alone s) t (owner_of (alone s) u) (owner_of (alone s) x) → IsMine s u → foreign t ≡ true → ⊥
+  pub own_site : (t u x : ℕ) → Calls (alone s) t (owner_of (alone s) u) (owner_of (alone s) x) → IsMine s u
+      → foreign t ≡ true → ⊥
   own_site t u x call mine is =
       let one : foreign t ≡ not (s.mine mine.0) = foreign_is t u x call ∙ ap foreign_owner mine.1 in
       let two : not (s.mine mine.0) ≡ false = ap not mine.2 in
@@ -102,7 +109,8 @@ module _ (s : Split) (fits : IsSplit s) where
   other_owner Nobody h = refl
   other_owner (Function f) h = ap not (h f refl)
 
-  pub other_site : (t u x : ℕ) → Calls (alone s) t (owner_of (alone s) u) (owner_of (alone s) x) → IsOther s u → foreign t ≡ true
+  pub other_site : (t u x : ℕ) → Calls (alone s) t (owner_of (alone s) u) (owner_of (alone s) x) → IsOther s u
+      → foreign t ≡ true
   other_site t u x call other = foreign_is t u x call ∙ other_owner (owner_of (alone s) u) other
 
   pub mine_not_other : (v : ℕ) → IsMine s v → IsOther s v → ⊥

@@ -92,10 +92,12 @@ module _ (s : Split) (lattice : ℕ) (order : Order) (join meet : ℕ → ℕ) (
     anywhere e x (site ∷ sites) p = inl p
 
     -- what a test says of an inner end and of a node
-    inner_path : (n site u a x : ℕ) → Stands lib lattice n (Enter site u a) → t.joined a x ≡ true → (g : ℕ) × Matches lib lattice g a x
+    inner_path : (n site u a x : ℕ) → Stands lib lattice n (Enter site u a) → t.joined a x ≡ true
+        → (g : ℕ) × Matches lib lattice g a x
     inner_path n site u a x st is = (given.exact.joined a x (inl (n, site, u, st))).0 is
 
-    inner_test : (n site u a x g : ℕ) → Stands lib lattice n (Enter site u a) → Matches lib lattice g a x → t.joined a x ≡ true
+    inner_test : (n site u a x g : ℕ) → Stands lib lattice n (Enter site u a) → Matches lib lattice g a x
+        → t.joined a x ≡ true
     inner_test n site u a x g st m = (given.exact.joined a x (inl (n, site, u, st))).1 (g, m)
 
     node_path : (v x : ℕ) → s.node v ≡ true → t.joined v x ≡ true → (g : ℕ) × Matches lib lattice g v x
@@ -127,12 +129,14 @@ module _ (s : Split) (lattice : ℕ) (order : Order) (join meet : ℕ → ℕ) (
         let same : f ≡ g = same_function lib lattice lib_owned n u v st f g mine.0.1 mine.1.1 in
         onward e f u v sites r (one_part lib lattice f u v mine.0.1 (flow f u v n st (mine.1.1 ∙ ap (λ f. Function f) (sym same))))
 
-    entered : (e n site u a : ℕ) (sites : List ℕ) → Stands lib lattice n (Enter site u a) → In e u sites → In e a (site ∷ sites)
+    entered : (e n site u a : ℕ) (sites : List ℕ) → Stands lib lattice n (Enter site u a) → In e u sites
+        → In e a (site ∷ sites)
     entered e n site u a sites st r =
         let call = entering lib lattice lib_owned n site u a st in
         inr (inl (n, u, a, st, r, inner_test n site u a a call.it.target st (stay call.it.target a call.inner_is)))
 
-    left : (e m site b y : ℕ) (sites : List ℕ) → Stands lib lattice m (Leave site b y) → In e b (site ∷ sites) → In e y sites
+    left : (e m site b y : ℕ) (sites : List ℕ) → Stands lib lattice m (Leave site b y) → In e b (site ∷ sites)
+        → In e y sites
     left e m site b y sites st2 (inl p) = anywhere e y sites (returns b y site m p st2)
     left e m site b y sites st2 (inr (inl (n, u, a, st, r, is))) =
         let mine = given.split.library n (Enter site u a) (has_of lib lattice n (Enter site u a) st) in
@@ -159,7 +163,8 @@ module _ (s : Split) (lattice : ℕ) (order : Order) (join meet : ℕ → ℕ) (
     call_on e n site u a st (inl p) = inr (calls u a site n p st)
     call_on e n site u a st (inr c) = inr (calls_on u a site n c st)
 
-    comes_on : (e n site u a g x : ℕ) → Stands lib lattice n (Enter site u a) → Matches lib lattice g a x → Comes e u → Comes e x
+    comes_on : (e n site u a g x : ℕ) → Stands lib lattice n (Enter site u a) → Matches lib lattice g a x → Comes e u
+        → Comes e x
     comes_on e n site u a g x st m (inl lead) = inl (lead_on e g a x m (call_on e n site u a st lead))
     comes_on e n site u a g x st m (inr (v, w, node, copy, same, d)) = inr (v, w, node, copy, same, down_on lib lattice g v a x (into v u a site n d st) m)
 
@@ -181,7 +186,8 @@ module _ (s : Split) (lattice : ℕ) (order : Order) (join meet : ℕ → ℕ) (
     at_node v w node = let mine = given.split.node v node in ap (λ o. map v (seen_from o w)) mine.1
 
     -- the words bound it
-    bounded : (v n b : ℕ) (w : List ℕ) → s.node v ≡ true → IsCopy lib depth (owner_of lib v) w → ReachesBound lib lattice v n b → leq order (map v w) b ≡ true
+    bounded : (v n b : ℕ) (w : List ℕ) → s.node v ≡ true → IsCopy lib depth (owner_of lib v) w
+        → ReachesBound lib lattice v n b → leq order (map v w) b ≡ true
     bounded v n b w node copy reaches =
         let low : leq order (meet v) b ≡ true = (given.words.meets v node).lower b (n, reaches) in
         given.lat.ordered.through (map v w) (meet v) b (elim (given.words.has_bound v node) [
@@ -191,14 +197,16 @@ module _ (s : Split) (lattice : ℕ) (order : Order) (join meet : ℕ → ℕ) (
               subst (λ x. leq order x (meet v) ≡ true) (at_node v w node) (met.bound found.0 (meet v) v w here (copy_of s s.library (s.words ++ s.client) depth (owner_of lib v) w copy))
         ]) low
 
-    under : (n x b e : ℕ) (sites : List ℕ) → Stands lib lattice n (Bound x lattice b) → IsCopy lib depth (owner_of lib x) sites → In e x sites → leq order e b ≡ true
+    under : (n x b e : ℕ) (sites : List ℕ) → Stands lib lattice n (Bound x lattice b)
+        → IsCopy lib depth (owner_of lib x) sites → In e x sites → leq order e b ≡ true
     under n x b e sites st copy r = elim (comes e x sites copy r) [
       | inl lead ↦ given.safe n x b e st lead
       | inr below ↦ subst (λ d. leq order d b ≡ true) (sym below.4) (bounded below.0 n b below.1 below.2 below.3 (x, below.5, st))
     ]
 
     -- what comes to a node where the client leaves is below the node's element
-    words_flow : (v u : ℕ) (w : List ℕ) → s.node v ≡ true → s.node u ≡ true → IsCopy lib depth (owner_of lib u) w → (g : ℕ) → Matches lib lattice g v u → leq order (map v w) (map u w) ≡ true
+    words_flow : (v u : ℕ) (w : List ℕ) → s.node v ≡ true → s.node u ≡ true → IsCopy lib depth (owner_of lib u) w
+        → (g : ℕ) → Matches lib lattice g v u → leq order (map v w) (map u w) ≡ true
     words_flow v u w node_v node_u copy g m = elim (split_path lib lattice g v u m) [
       | inl same ↦ subst (λ x. leq order (map v w) (map x w) ≡ true) same (given.lat.ordered.same (map v w) (met.rises.elements v w))
       | inr match ↦ elim (given.words.has_le v u node_v node_u match) [
@@ -214,7 +222,8 @@ module _ (s : Split) (lattice : ℕ) (order : Order) (join meet : ℕ → ℕ) (
       ]
     ]
 
-    words_const : (e v : ℕ) (w : List ℕ) → s.node v ≡ true → IsCopy lib depth (owner_of lib v) w → Returning lib lattice e v → leq order e (map v w) ≡ true
+    words_const : (e v : ℕ) (w : List ℕ) → s.node v ≡ true → IsCopy lib depth (owner_of lib v) w
+        → Returning lib lattice e v → leq order e (map v w) ≡ true
     words_const e v w node copy p =
         given.lat.ordered.through e (join v) (map v w) ((given.words.joins v node).upper e p) (elim (given.words.has_const v node) [
           | inr bottom ↦ bottom (map v w) (met.rises.elements v w)
@@ -223,7 +232,9 @@ module _ (s : Split) (lattice : ℕ) (order : Order) (join meet : ℕ → ℕ) (
               subst (λ x. leq order (join v) x ≡ true) (at_node v w node) (met.rises.const found.0 (join v) v w st (copy_of s s.library (s.words ++ s.client) depth (owner_of lib v) w copy))
         ])
 
-    out : (e v site : ℕ) (sites : List ℕ) → s.node v ≡ true → foreign s given.split site ≡ true → IsCopy lib depth (owner_of lib v) (site ∷ sites) → In e v (site ∷ sites) → leq order e (map v (site ∷ sites)) ≡ true
+    out : (e v site : ℕ) (sites : List ℕ) → s.node v ≡ true → foreign s given.split site ≡ true
+        → IsCopy lib depth (owner_of lib v) (site ∷ sites) → In e v (site ∷ sites)
+        → leq order e (map v (site ∷ sites)) ≡ true
     out e v site sites node far copy (inl p) = words_const e v (site ∷ sites) node copy p
     out e v site sites node far copy (inr (inl (n, u, a, st, r, is))) =
         let mine = given.split.library n (Enter site u a) (has_of lib lattice n (Enter site u a) st) in
@@ -247,7 +258,8 @@ module _ (s : Split) (lattice : ℕ) (order : Order) (join meet : ℕ → ℕ) (
     low x sites = least_over order (Among x sites) (λ e. test_of (Among x sites e) (among_tells x sites e)) given.lat
         (λ e is. (test_on (Among x sites e) (among_tells x sites e) is, is.1)) (λ e r. test_off (Among x sites e) (among_tells x sites e) r)
 
-    raised : (u v : ℕ) (one other : List ℕ) → ((e : ℕ) → In e u one → In e v other) → leq order (low u one).0 (low v other).0 ≡ true
+    raised : (u v : ℕ) (one other : List ℕ) → ((e : ℕ) → In e u one → In e v other)
+        → leq order (low u one).0 (low v other).0 ≡ true
     raised u v one other h = (low u one).1.least (low v other).0 (low v other).1.element (λ e r. (low v other).1.upper e (h e r.0, r.1))
 
     abbrev pick : Bool → ℕ → List ℕ → ℕ
@@ -264,7 +276,8 @@ module _ (s : Split) (lattice : ℕ) (order : Order) (join meet : ℕ → ℕ) (
     at_mine : (x : ℕ) (sites : List ℕ) → IsMine s x → at (whole s) made x sites ≡ (low x sites).0
     at_mine x sites mine = ap (λ o. value_by o x (seen_from o sites)) mine.1 ∙ ap (λ b. pick b x sites) mine.2
 
-    other_by : (x : ℕ) (sites : List ℕ) (o : Owner) → ((f : ℕ) → o ≡ Function f → s.mine f ≡ false) → value_by o x (seen_from o sites) ≡ map x (seen_from o sites)
+    other_by : (x : ℕ) (sites : List ℕ) (o : Owner) → ((f : ℕ) → o ≡ Function f → s.mine f ≡ false)
+        → value_by o x (seen_from o sites) ≡ map x (seen_from o sites)
     other_by x sites Nobody h = refl
     other_by x sites (Function f) h = ap (λ b. pick b x sites) (h f refl)
 
@@ -288,7 +301,8 @@ module _ (s : Split) (lattice : ℕ) (order : Order) (join meet : ℕ → ℕ) (
     to_lib : (o : Owner) (sites : List ℕ) → IsCopy (whole s) depth o sites → IsCopy lib depth o sites
     to_lib o sites c = copy_of s (s.library ++ s.client) s.library depth o sites c
 
-    le_on : (n u v : ℕ) (sites : List ℕ) → Stands (whole s) lattice n (Le u v) → IsCopy (whole s) depth (either (owner_of lib u) (owner_of lib v)) sites →
+    le_on : (n u v : ℕ) (sites : List ℕ) → Stands (whole s) lattice n (Le u v)
+        → IsCopy (whole s) depth (either (owner_of lib u) (owner_of lib v)) sites →
         leq order (at (whole s) made u sites) (at (whole s) made v sites) ≡ true
     le_on n u v sites st copy = elim (parted s s.library s.client lattice n (Le u v) st) [
       | inl own ↦
@@ -300,7 +314,8 @@ module _ (s : Split) (lattice : ℕ) (order : Order) (join meet : ℕ → ℕ) (
           between _ _ _ _ (at_other u sites other.0) (at_other v sites other.1) (met.rises.le there.0 u v sites there.1 (to_served _ sites copy))
     ]
 
-    const_on : (n e v : ℕ) (sites : List ℕ) → Stands (whole s) lattice n (Const lattice e v) → IsCopy (whole s) depth (owner_of lib v) sites → leq order e (at (whole s) made v sites) ≡ true
+    const_on : (n e v : ℕ) (sites : List ℕ) → Stands (whole s) lattice n (Const lattice e v)
+        → IsCopy (whole s) depth (owner_of lib v) sites → leq order e (at (whole s) made v sites) ≡ true
     const_on n e v sites st copy = elim (parted s s.library s.client lattice n (Const lattice e v) st) [
       | inl own ↦
           let mine = given.split.library n (Const lattice e v) (has_of lib lattice n (Const lattice e v) own) in
@@ -314,7 +329,8 @@ module _ (s : Split) (lattice : ℕ) (order : Order) (join meet : ℕ → ℕ) (
     whole_call : (site : ℕ) (outer inner : Owner) → Calls (whole s) site outer inner → Calls lib site outer inner
     whole_call site outer inner c = calls_of s (s.library ++ s.client) s.library site outer inner c
 
-    enter_on : (n t u x : ℕ) (site : Site) (sites : List ℕ) → Stands (whole s) lattice n (Enter t u x) → slice_get s.sites t ≡ Some site → IsCopy (whole s) depth site.owner sites →
+    enter_on : (n t u x : ℕ) (site : Site) (sites : List ℕ) → Stands (whole s) lattice n (Enter t u x)
+        → slice_get s.sites t ≡ Some site → IsCopy (whole s) depth site.owner sites →
         length (t ∷ sites) ≤ depth → leq order (at (whole s) made u sites) (at (whole s) made x (t ∷ sites)) ≡ true
     enter_on n t u x site sites st there copy fits = elim (parted s s.library s.client lattice n (Enter t u x) st) [
       | inl own ↦
@@ -337,7 +353,8 @@ module _ (s : Split) (lattice : ℕ) (order : Order) (join meet : ℕ → ℕ) (
           ]
     ]
 
-    leave_on : (n t y v : ℕ) (site : Site) (sites : List ℕ) → Stands (whole s) lattice n (Leave t y v) → slice_get s.sites t ≡ Some site → IsCopy (whole s) depth site.owner sites →
+    leave_on : (n t y v : ℕ) (site : Site) (sites : List ℕ) → Stands (whole s) lattice n (Leave t y v)
+        → slice_get s.sites t ≡ Some site → IsCopy (whole s) depth site.owner sites →
         length (t ∷ sites) ≤ depth → leq order (at (whole s) made y (t ∷ sites)) (at (whole s) made v sites) ≡ true
     leave_on n t y v site sites st there copy fits = elim (parted s s.library s.client lattice n (Leave t y v) st) [
       | inl own ↦
@@ -363,7 +380,8 @@ module _ (s : Split) (lattice : ℕ) (order : Order) (join meet : ℕ → ℕ) (
           ]
     ]
 
-    bound_on : (n b v : ℕ) (sites : List ℕ) → Stands (whole s) lattice n (Bound v lattice b) → IsCopy (whole s) depth (owner_of lib v) sites → leq order (at (whole s) made v sites) b ≡ true
+    bound_on : (n b v : ℕ) (sites : List ℕ) → Stands (whole s) lattice n (Bound v lattice b)
+        → IsCopy (whole s) depth (owner_of lib v) sites → leq order (at (whole s) made v sites) b ≡ true
     bound_on n b v sites st copy = elim (parted s s.library s.client lattice n (Bound v lattice b) st) [
       | inl own ↦
           let mine = given.split.library n (Bound v lattice b) (has_of lib lattice n (Bound v lattice b) own) in

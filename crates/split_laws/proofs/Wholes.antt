@@ -21,7 +21,8 @@ use Rattle.split_laws.proofs.Appending.{front, back, parted}
 use Rattle.split_laws.proofs.Library.{owned, copy_of}
 
 -- one room for all of a finite number
-all_room : (P : ℕ → ℕ → Type 0) → ((n r q : ℕ) → r ≤ q → P n r → P n q) → ((n : ℕ) → (r : ℕ) × P n r) → (k : ℕ) → (r : ℕ) × ((n : ℕ) → n < k → P n r)
+all_room : (P : ℕ → ℕ → Type 0) → ((n r q : ℕ) → r ≤ q → P n r → P n q) → ((n : ℕ) → (r : ℕ) × P n r) → (k : ℕ)
+    → (r : ℕ) × ((n : ℕ) → n < k → P n r)
 all_room P more one zero = (0, λ n low. absurd (omega (arith, low)))
 all_room P more one (suc k) =
     let before = all_room P more one k in
@@ -214,7 +215,8 @@ module _ (s : Split) (lattice : ℕ) (order : Order) (join meet : ℕ → ℕ) (
     to_lib : (o : Owner) (sites : List ℕ) → IsCopy (served s) depth o sites → IsCopy lib (depth + extra) o sites
     to_lib o sites h = copy_of s (s.words ++ s.client) s.library (depth + extra) o sites (deeper (served s) o sites h)
 
-    of_lib : (o : Owner) (sites : List ℕ) → IsCopy lib (depth + extra) o sites → IsCopy (whole s) (depth + extra) o sites
+    of_lib : (o : Owner) (sites : List ℕ) → IsCopy lib (depth + extra) o sites
+        → IsCopy (whole s) (depth + extra) o sites
     of_lib o sites h = copy_of s s.library (s.library ++ s.client) (depth + extra) o sites h
 
     lib_met : Meets lib lattice order (depth + extra) map
@@ -229,7 +231,8 @@ module _ (s : Split) (lattice : ℕ) (order : Order) (join meet : ℕ → ℕ) (
       bound = λ n b v sites st copy. met.bound n b v sites (front s s.library s.client lattice n (Bound v lattice b) st) (of_lib _ sites copy);
     }
 
-    le_on : (n u v : ℕ) (sites : List ℕ) → Stands (served s) lattice n (Le u v) → IsCopy (served s) depth (either (owner_of lib u) (owner_of lib v)) sites →
+    le_on : (n u v : ℕ) (sites : List ℕ) → Stands (served s) lattice n (Le u v)
+        → IsCopy (served s) depth (either (owner_of lib u) (owner_of lib v)) sites →
         leq order (at lib map u sites) (at lib map v sites) ≡ true
     le_on n u v sites st copy = elim (parted s s.words s.client lattice n (Le u v) st) [
       | inl word ↦
@@ -244,7 +247,8 @@ module _ (s : Split) (lattice : ℕ) (order : Order) (join meet : ℕ → ℕ) (
           let there = back s s.library s.client lattice found.0 (Le u v) found.1 in met.rises.le there.0 u v sites there.1 (to_whole _ sites copy)
     ]
 
-    const_on : (n e v : ℕ) (sites : List ℕ) → Stands (served s) lattice n (Const lattice e v) → IsCopy (served s) depth (owner_of lib v) sites → leq order e (at lib map v sites) ≡ true
+    const_on : (n e v : ℕ) (sites : List ℕ) → Stands (served s) lattice n (Const lattice e v)
+        → IsCopy (served s) depth (owner_of lib v) sites → leq order e (at lib map v sites) ≡ true
     const_on n e v sites st copy = elim (parted s s.words s.client lattice n (Const lattice e v) st) [
       | inl word ↦
           let said = given.words.const n e v word in
@@ -254,7 +258,8 @@ module _ (s : Split) (lattice : ℕ) (order : Order) (join meet : ℕ → ℕ) (
           let there = back s s.library s.client lattice found.0 (Const lattice e v) found.1 in met.rises.const there.0 e v sites there.1 (to_whole _ sites copy)
     ]
 
-    bound_on : (n b v : ℕ) (sites : List ℕ) → Stands (served s) lattice n (Bound v lattice b) → IsCopy (served s) depth (owner_of lib v) sites → leq order (at lib map v sites) b ≡ true
+    bound_on : (n b v : ℕ) (sites : List ℕ) → Stands (served s) lattice n (Bound v lattice b)
+        → IsCopy (served s) depth (owner_of lib v) sites → leq order (at lib map v sites) b ≡ true
     bound_on n b v sites st copy = elim (parted s s.words s.client lattice n (Bound v lattice b) st) [
       | inl word ↦
           let said = given.words.bound n v b word in
@@ -264,7 +269,8 @@ module _ (s : Split) (lattice : ℕ) (order : Order) (join meet : ℕ → ℕ) (
           let there = back s s.library s.client lattice found.0 (Bound v lattice b) found.1 in met.bound there.0 b v sites there.1 (to_whole _ sites copy)
     ]
 
-    enter_on : (n t u v : ℕ) (site : Site) (sites : List ℕ) → Stands (served s) lattice n (Enter t u v) → slice_get s.sites t ≡ Some site → IsCopy (served s) depth site.owner sites →
+    enter_on : (n t u v : ℕ) (site : Site) (sites : List ℕ) → Stands (served s) lattice n (Enter t u v)
+        → slice_get s.sites t ≡ Some site → IsCopy (served s) depth site.owner sites →
         length (t ∷ sites) ≤ depth → leq order (at lib map u sites) (at lib map v (t ∷ sites)) ≡ true
     enter_on n t u v site sites st there copy fits = elim (parted s s.words s.client lattice n (Enter t u v) st) [
       | inl word ↦ absurd (given.words.no_enter n t u v word)
@@ -272,7 +278,8 @@ module _ (s : Split) (lattice : ℕ) (order : Order) (join meet : ℕ → ℕ) (
           let k = back s s.library s.client lattice found.0 (Enter t u v) found.1 in met.rises.enter k.0 t u v site sites k.1 there (to_whole _ sites copy) (omega (arith, fits))
     ]
 
-    leave_on : (n t u v : ℕ) (site : Site) (sites : List ℕ) → Stands (served s) lattice n (Leave t u v) → slice_get s.sites t ≡ Some site → IsCopy (served s) depth site.owner sites →
+    leave_on : (n t u v : ℕ) (site : Site) (sites : List ℕ) → Stands (served s) lattice n (Leave t u v)
+        → slice_get s.sites t ≡ Some site → IsCopy (served s) depth site.owner sites →
         length (t ∷ sites) ≤ depth → leq order (at lib map u (t ∷ sites)) (at lib map v sites) ≡ true
     leave_on n t u v site sites st there copy fits = elim (parted s s.words s.client lattice n (Leave t u v) st) [
       | inl word ↦ absurd (given.words.no_leave n t u v word)

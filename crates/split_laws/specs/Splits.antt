@@ -1,4 +1,5 @@
--- A system in two parts: a library, and a client that meets it at some variables of the library's functions alone. Words stand
+-- A system in two parts: a library, and a client that meets it at some variables of the library's functions alone.
+-- Words stand
 -- for the library: constraints on those variables.
 use Rattle.std.specs.Prelude.{◌≡◌, ℕ, ◌<◌, Bool, true, false, List, ◌++◌, ◌⊎◌, ◌↔◌}
 use Rattle.qual_base.specs.declared.places.Owner.{Owner}
@@ -14,6 +15,8 @@ use Rattle.flow_graph.specs.Paths.{Matches, Match, Returning}
 use Rattle.flow_laws.specs.Least.{IsLeastOver, IsSafe}
 use Rattle.certificate_laws.specs.Certificates.{IsInnerEnd}
 
+-- the constraints of a library, of its words and of a client, over the same sites and owners; `node` tells the
+-- variables at which the client may meet the library, which are below `vars`, and `mine` the functions of the library
 pub record Split : Type 0 where
   pub sites : List Site
   pub owners : List Owner
@@ -24,15 +27,19 @@ pub record Split : Type 0 where
   pub mine : ℕ → Bool
   pub vars : ℕ
 
+-- the system of these constraints
 abbrev pub of_part : Split → List Constraint → System
 of_part s part = record { constraints = part; sites = s.sites; owners = s.owners }
 
+-- the library alone
 abbrev pub alone : Split → System
 alone s = of_part s s.library
 
+-- the library with the client
 abbrev pub whole : Split → System
 whole s = of_part s (s.library ++ s.client)
 
+-- the words with the client
 abbrev pub served : Split → System
 served s = of_part s (s.words ++ s.client)
 
@@ -60,6 +67,8 @@ IsClientLink s (Bound v l b) = IsOther s v
 IsClientLink s (Enter t u x) = IsOther s u × (IsMine s x → s.node x ≡ true)
 IsClientLink s (Leave t x v) = IsOther s v × (IsMine s x → s.node x ≡ true)
 
+-- no flow leaves a function but by a call, each link of the library has variables of the library alone, the client
+-- meets them at nodes alone, and the nodes are the library's
 pub record IsSplit (s : Split) : Type 0 where
   pub owned : IsWellOwned (whole s)
   pub library : (n : ℕ) (link : Link) → Has (alone s) n link → IsMineLink s link
@@ -72,7 +81,8 @@ pub data Down (sys : System) (lattice : ℕ) : ℕ → ℕ → Type 0 where
   here : (u : ℕ) → Down sys lattice u u
   along : (u x v n : ℕ) → Down sys lattice u x → Stands sys lattice n (Le x v) → Down sys lattice u v
   into : (u x v s n : ℕ) → Down sys lattice u x → Stands sys lattice n (Enter s x v) → Down sys lattice u v
-  round : (u x a b v s g n m : ℕ) → Down sys lattice u x → Stands sys lattice n (Enter s x a) → Matches sys lattice g a b → Stands sys lattice m (Leave s b v) →
+  round : (u x a b v s g n m : ℕ) → Down sys lattice u x → Stands sys lattice n (Enter s x a)
+      → Matches sys lattice g a b → Stands sys lattice m (Leave s b v) →
       Down sys lattice u v
 
 -- the bound of a number is reached so
@@ -85,30 +95,39 @@ pub record IsGreatestUnder (order : Order) (In : ℕ → Type 0) (r : ℕ) : Typ
   pub lower : (e : ℕ) → In e → leq order r e ≡ true
   pub greatest : (d : ℕ) → d < size order → ((e : ℕ) → In e → leq order d e ≡ true) → leq order d r ≡ true
 
--- what the words say: at each node the join of all that comes there with no call open, the meet of the bounds that are reached,
+-- what the words say: at each node the join of all that comes there with no call open, the meet of the bounds that are
+-- reached,
 -- and the nodes to which matched paths lead; a bottom and a top are left out
 pub record AreWords (s : Split) (lattice : ℕ) (order : Order) (join meet : ℕ → ℕ) : Type 0 where
   pub joins : (v : ℕ) → s.node v ≡ true → IsLeastOver order (λ e. Returning (alone s) lattice e v) (join v)
-  pub meets : (v : ℕ) → s.node v ≡ true → IsGreatestUnder order (λ b. (n : ℕ) × ReachesBound (alone s) lattice v n b) (meet v)
+  pub meets : (v : ℕ) → s.node v ≡ true
+      → IsGreatestUnder order (λ b. (n : ℕ) × ReachesBound (alone s) lattice v n b) (meet v)
   pub const : (n e v : ℕ) → Stands (of_part s s.words) lattice n (Const lattice e v) → (s.node v ≡ true) × (e ≡ join v)
   pub bound : (n v b : ℕ) → Stands (of_part s s.words) lattice n (Bound v lattice b) → (s.node v ≡ true) × (b ≡ meet v)
-  pub le : (n v u : ℕ) → Stands (of_part s s.words) lattice n (Le v u) → (s.node v ≡ true) × (s.node u ≡ true) × Match (alone s) lattice v u
+  pub le : (n v u : ℕ) → Stands (of_part s s.words) lattice n (Le v u)
+      → (s.node v ≡ true) × (s.node u ≡ true) × Match (alone s) lattice v u
   pub no_enter : (n t u v : ℕ) → Stands (of_part s s.words) lattice n (Enter t u v) → ⊥
   pub no_leave : (n t u v : ℕ) → Stands (of_part s s.words) lattice n (Leave t u v) → ⊥
-  pub has_const : (v : ℕ) → s.node v ≡ true → ((n : ℕ) × Stands (of_part s s.words) lattice n (Const lattice (join v) v)) ⊎ ((d : ℕ) → d < size order → leq order (join v) d ≡ true)
-  pub has_bound : (v : ℕ) → s.node v ≡ true → ((n : ℕ) × Stands (of_part s s.words) lattice n (Bound v lattice (meet v))) ⊎ ((d : ℕ) → d < size order → leq order d (meet v) ≡ true)
-  pub has_le : (v u : ℕ) → s.node v ≡ true → s.node u ≡ true → Match (alone s) lattice v u → (v ≡ u) ⊎ ((n : ℕ) × Stands (of_part s s.words) lattice n (Le v u))
+  pub has_const : (v : ℕ) → s.node v ≡ true
+      → ((n : ℕ) × Stands (of_part s s.words) lattice n (Const lattice (join v) v)) ⊎ ((d : ℕ) → d < size order → leq order (join v) d ≡ true)
+  pub has_bound : (v : ℕ) → s.node v ≡ true
+      → ((n : ℕ) × Stands (of_part s s.words) lattice n (Bound v lattice (meet v))) ⊎ ((d : ℕ) → d < size order → leq order d (meet v) ≡ true)
+  pub has_le : (v u : ℕ) → s.node v ≡ true → s.node u ≡ true → Match (alone s) lattice v u
+      → (v ≡ u) ⊎ ((n : ℕ) × Stands (of_part s s.words) lattice n (Le v u))
 
--- Tests of the library: what comes to a variable with no call open, what is joined from an inner end or a node, and the elements
+-- Tests of the library: what comes to a variable with no call open, what is joined from an inner end or a node, and the
+-- elements
 -- of the bounds that are reached from a node.
 pub record SplitTests : Type 0 where
   pub returned : ℕ → ℕ → Bool
   pub joined : ℕ → ℕ → Bool
   pub bounded : ℕ → ℕ → Bool
 
+-- the tests tell exactly what comes, what is joined, and what bounds are reached
 pub record AreSplitExact (s : Split) (lattice : ℕ) (t : SplitTests) : Type 0 where
   pub returned : (e v : ℕ) → (t.returned e v ≡ true) ↔ Returning (alone s) lattice e v
-  pub joined : (a v : ℕ) → IsInnerEnd (alone s) lattice a ⊎ (s.node a ≡ true) → (t.joined a v ≡ true) ↔ ((g : ℕ) × Matches (alone s) lattice g a v)
+  pub joined : (a v : ℕ) → IsInnerEnd (alone s) lattice a ⊎ (s.node a ≡ true)
+      → (t.joined a v ≡ true) ↔ ((g : ℕ) × Matches (alone s) lattice g a v)
   pub bounded : (v b : ℕ) → s.node v ≡ true → (t.bounded v b ≡ true) ↔ ((n : ℕ) × ReachesBound (alone s) lattice v n b)
 
 -- what both laws rest on

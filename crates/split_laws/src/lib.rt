@@ -1,5 +1,8 @@
-//! Laws of a library and its clients: what the words of a library's signatures stand for. Functions without a body, each with a law as
-//! its contract.
+//! Laws of a library and its clients: what the words of a library's signatures stand for. Functions without a body,
+//! each with a law as its contract.
+//!
+//! Entry: the laws of one site with two bodies. Invariant: what a library does to a client is what its words do.
+//! It does not know any algorithm, and how `sig_writer` finds the words. Above: `bounds_below`, `sig_writer`.
 #![tactic(auto)]
 
 ghost use Rattle.split_laws.specs.Same.{SamePaths};

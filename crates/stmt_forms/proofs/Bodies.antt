@@ -23,7 +23,8 @@ module _ {T : Type 0} (turn : Turn (List T)) (known : List T) where
       [ None ↦ ends xs s ts | Some read ↦ read >>= λ x. turns turn n x.tree x.scopes x.rest ]
 
   -- behind known items a turn does what it does from none on, where the turns behind it do
-  one_behind : (n : ℕ) → ((xs : List T) (s : HeldScopes) (ts : List Lexeme) → turns turn n (known ++ xs) s ts ≡ and_then (turns turn n xs s ts) (λ x. Ok (behind_known x))) →
+  one_behind : (n : ℕ)
+      → ((xs : List T) (s : HeldScopes) (ts : List Lexeme) → turns turn n (known ++ xs) s ts ≡ and_then (turns turn n xs s ts) (λ x. Ok (behind_known x))) →
       (test : Bool) (read : Read T) (xs : List T) (s : HeldScopes) (ts : List Lexeme) →
       one_turn test read n (known ++ xs) s ts ≡ and_then (one_turn test read n xs s ts) (λ x. Ok (behind_known x))
   unfolding and_then
@@ -76,7 +77,8 @@ behind_labels depth room opening (Ok labels) =
     row_behind (λ kind. not (is_close_brace kind)) (block_item_with (knot depth) room) labels.tree (closed_with opening) labels.scopes labels.rest
 
 -- the body of a block
-pub body_is : (depth room : ℕ) (s : HeldScopes) (ts : List Lexeme) → block_body (knot depth) room s ts ≡ body_at depth room s ts
+pub body_is : (depth room : ℕ) (s : HeldScopes) (ts : List Lexeme)
+    → block_body (knot depth) room s ts ≡ body_at depth room s ts
 unfolding block_body and_then
 body_is depth room s [] = refl
 body_is depth room s (t ∷ ts) = behind_labels depth (room - 1) t.at (labels_at depth (room - 1) s ts)

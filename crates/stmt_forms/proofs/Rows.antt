@@ -13,10 +13,12 @@ pub attr_words_same : (attrs : List Attr) → spec_words_from (map (λ a. rust_w
 attr_words_same [] = refl
 attr_words_same (attr ∷ attrs) = ap (more_words (attribute attr)) (attr_words_same attrs)
 
-pub items_same : (xs : List rust_block_item.BlockItem) → parts.block_items_from (map block_item_of xs) ≡ block_items_from xs
+pub items_same : (xs : List rust_block_item.BlockItem)
+    → parts.block_items_from (map block_item_of xs) ≡ block_items_from xs
 items_same [] = refl
 items_same (x ∷ xs) = ap (more_block_items (block_item_of x)) (items_same xs)
 
-pub one_item_mapped : (xs : List rust_block_item.BlockItem) (x : rust_block_item.BlockItem) → map block_item_of (xs ++ x ∷ []) ≡ map block_item_of xs ++ block_item_of x ∷ []
+pub one_item_mapped : (xs : List rust_block_item.BlockItem) (x : rust_block_item.BlockItem)
+    → map block_item_of (xs ++ x ∷ []) ≡ map block_item_of xs ++ block_item_of x ∷ []
 one_item_mapped [] x = refl
 one_item_mapped (y ∷ xs) x = ap (λ more. block_item_of y ∷ more) (one_item_mapped xs x)

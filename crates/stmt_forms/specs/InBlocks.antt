@@ -17,6 +17,7 @@ use Rattle.reader_base.specs.declared.fault.ReadError.{ReadError}
 use Rattle.reader_base.specs.declared.place.Place.{Place}
 use Rattle.reader_base.specs.Gives.{Reads}
 
+-- an item of a block is read as the reader of lists gives it
 abbrev pub ReadsItem : Place → Place → Result SizedBlockItem ReadError → Reader BlockItem → Type 0
 ReadsItem before after result reader = Reads (λ x. block_item_of x.item) before after result reader
 
@@ -24,18 +25,23 @@ ReadsItem before after result reader = Reads (λ x. block_item_of x.item) before
 abbrev pub typedef_word : ℕ → ℕ → SpecWords
 typedef_word token name = trees.more_words (trees.typedef_name (record { token = token; name = name })) trees.no_words
 
+-- a `_Static_assert` as an item of a block
 abbrev pub assert_item_with : ℕ → Reader BlockItem
 assert_item_with room s ts = fits 1 room ts (assert_at s ts >>= λ it. ends (block_decl (decl_assert it.tree)) it.scopes it.rest)
 
+-- a declaration as an item of a block, behind ext*
 abbrev pub declaration_item_with : ℕ → List ℕ → ℕ → Reader BlockItem
 declaration_item_with depth exts room s ts = declaration_with (knot depth) exts room s ts >>= λ d. ends (block_decl (decl_declaration d.tree)) d.scopes d.rest
 
+-- a declaration as an item of a block, behind words that were read already
 abbrev pub item_from_with : ℕ → SpecWords → ℕ → Reader BlockItem
 item_from_with depth known room s ts = declaration_from (knot depth) known room s ts >>= λ d. ends (block_decl (decl_declaration d.tree)) d.scopes d.rest
 
+-- a declaration that begins with this typedef name
 abbrev pub typed_item_with : ℕ → ℕ → ℕ → Reader BlockItem
 typed_item_with depth name room s ts = take_one s ts >>= λ token. item_from_with depth (typedef_word token.tree name) room token.scopes token.rest
 
+-- an item that begins with no name: a declaration or a statement
 abbrev pub unnamed_item_with : ℕ → ℕ → Reader BlockItem
 unnamed_item_with depth room s ts =
     if begins_specs s (kind_at ts) then declaration_item_with depth [] room s ts
@@ -45,6 +51,7 @@ unnamed_item_with depth room s ts =
 abbrev pub known_items : SizedBlockItems → List BlockItem
 known_items known = map block_item_of known.items.items
 
+-- one more item of a block, up to `}`
 abbrev pub item_turn : ℕ → ℕ → Turn (List BlockItem)
 item_turn depth room = repeated_turn (λ kind. not (is_close_brace kind)) (block_item_with (knot depth) room)
 
@@ -52,6 +59,7 @@ item_turn depth room = repeated_turn (λ kind. not (is_close_brace kind)) (block
 abbrev pub label_turn : ℕ → ℕ → Turn (List BlockItem)
 label_turn depth room = repeated_turn is_label_word (labels_with (knot depth) room)
 
+-- LabelDecl*
 abbrev pub labels_at : ℕ → ℕ → Reader (List BlockItem)
 labels_at depth room s ts = repeated is_label_word (labels_with (knot depth) room) s ts
 
@@ -59,9 +67,11 @@ labels_at depth room s ts = repeated is_label_word (labels_with (knot depth) roo
 abbrev pub more_items_at : ℕ → List BlockItem → ℕ → Reader (List BlockItem)
 more_items_at depth known room s ts = run (item_turn depth room) known s ts
 
+-- LabelDecl* (decl | stmt)*
 abbrev pub items_at : ℕ → ℕ → Reader (List BlockItem)
 items_at depth room s ts = labels_at depth room s ts >>= λ labels. more_items_at depth labels.tree room labels.scopes labels.rest
 
+-- { LabelDecl* (decl | stmt)* }, in a scope that is open
 abbrev pub body_at : ℕ → ℕ → Reader Block
 body_at depth room s ts = do
   opening ← take_one s ts
@@ -69,9 +79,11 @@ body_at depth room s ts = do
   closing ← token_at is_close_brace items.scopes items.rest
   ends (record { opening = opening.tree; items = block_items_from items.tree; closing = closing.tree }) closing.scopes closing.rest
 
+-- a block as a statement
 abbrev pub block_stmt_with : ℕ → ℕ → Reader Stmt
 block_stmt_with depth room s ts = block_with (knot depth) room s ts >>= λ b. ends (trees.block b.tree.opening b.tree.items b.tree.closing) b.scopes b.rest
 
+-- an expression statement, where an expression begins
 abbrev pub value_stmt_with : ℕ → ℕ → Reader Stmt
 value_stmt_with depth room s ts =
     if begins_expr s (kind_at ts) then fits 2 room ts (expr_stmt_with (knot depth) nothing room s ts) else refuses Unexpected ts

@@ -1,7 +1,10 @@
 //! Readers of statements and blocks (C99, 6.8).
 //!
-//! Each reads what begins at a place, with the room that its height may take, and asks the reader
-//! that is lent to it for the parts inside.
+//! Each reads what begins at a place, with the room that its height may take, and asks the reader that is lent to it
+//! for the parts inside.
+//!
+//! Entry: `statement`, `block`. Invariant: what is answered is what `c_reading` says of the same tokens.
+//! It does not know where statements stand. Above: `c_parser`.
 #![tactic(auto)]
 
 mod blocks;

@@ -48,10 +48,6 @@ pub int_specs : (s : HeldScopes) (kind : TokenKind) → is_int kind ≡ true →
 int_specs s (kinds.Keyword keywords.Int) h = refl
 int_specs s kind h = absurd cc
 
-pub semi_stmt : (kind : TokenKind) → is_semicolon kind ≡ true → stops_stmt kind ≡ true
-semi_stmt (kinds.Punct puncts.Semicolon) h = refl
-semi_stmt kind h = absurd cc
-
 pub brace_stmt : (kind : TokenKind) → is_close_brace kind ≡ true → stops_stmt kind ≡ true
 brace_stmt (kinds.Punct puncts.CloseBrace) h = refl
 brace_stmt kind h = absurd cc
@@ -88,7 +84,8 @@ semi_of = record { kind = kinds.Punct puncts.Semicolon; at = 0 }
 
 module _ (n : ℕ) (inner : Inner) (laws : Laws [] n inner) (places : InnerLaws n inner) where
   -- expr ; behind what was begun
-  pub expr_stmt_good : (begun : Begun) (room : ℕ) → room - 1 < n → (s : HeldScopes) (ts : List Lexeme) → Good true (expr_stmt_with inner begun room) any s ts
+  pub expr_stmt_good : (begun : Begun) (room : ℕ) → room - 1 < n → (s : HeldScopes) (ts : List Lexeme)
+      → Good true (expr_stmt_with inner begun room) any s ts
   unfolding expr_stmt_with
   expr_stmt_good begun room less s ts =
       bind_good true (inner.expr Whole begun (room - 1)) (λ e. behind (token_at is_semicolon) (λ semi. ends (expr_stmt (some_expr e) semi))) is_semicolon any s ts
@@ -96,11 +93,13 @@ module _ (n : ℕ) (inner : Inner) (laws : Laws [] n inner) (places : InnerLaws 
       (λ x is. (rest x.tree).good x.scopes x.rest)
       (inl (λ x y is e. behind_shrinks (token_at is_semicolon) (λ semi. ends (expr_stmt (some_expr x.tree) semi)) (token_shrinks is_semicolon) (λ semi. ends_falls (expr_stmt (some_expr x.tree) semi)) x.scopes x.rest y e))
     where
-      rest : (e : Expr) → Law true (behind (token_at is_semicolon) (λ semi. ends (expr_stmt (some_expr e) semi))) is_semicolon any
+      rest : (e : Expr)
+          → Law true (behind (token_at is_semicolon) (λ semi. ends (expr_stmt (some_expr e) semi))) is_semicolon any
       rest e = token_then true is_semicolon (kinds.Punct puncts.Semicolon) is_semicolon any (λ semi. ends (expr_stmt (some_expr e) semi)) refl refl semicolon_end (λ semi. ends_law true (expr_stmt (some_expr e) semi) any any (λ kind h. h))
 
   -- two tokens at least: the expression and the semicolon
-  pub expr_stmt_two : (begun : Begun) (room : ℕ) (s : HeldScopes) (ts : List Lexeme) (x : Found Stmt) → expr_stmt_with inner begun room s ts ≡ done x → suc (length x.rest) < length ts
+  pub expr_stmt_two : (begun : Begun) (room : ℕ) (s : HeldScopes) (ts : List Lexeme) (x : Found Stmt)
+      → expr_stmt_with inner begun room s ts ≡ done x → suc (length x.rest) < length ts
   unfolding expr_stmt_with
   expr_stmt_two begun room s ts x e =
       let a = bind_ok e in
@@ -114,7 +113,8 @@ module _ (n : ℕ) (inner : Inner) (laws : Laws [] n inner) (places : InnerLaws 
   expr_stmt_shrinks begun room s ts x e = let two = expr_stmt_two begun room s ts x e in omega (arith, two)
 
   -- a name that is no type's, and `;`
-  pub expr_stmt_name : (room : ℕ) → room - 1 < n → 2 ≤ room → (s : HeldScopes) (name at : ℕ) → names_type s name ≡ false →
+  pub expr_stmt_name : (room : ℕ) → room - 1 < n → 2 ≤ room → (s : HeldScopes) (name at : ℕ)
+      → names_type s name ≡ false →
       (t : Stmt) × (expr_stmt_with inner nothing room s (record { kind = kinds.Name name; at = at } ∷ semi_of ∷ []) ≡ done (found t s []))
   unfolding expr_stmt_with and_then
   expr_stmt_name room less two s name at no_type =
@@ -126,7 +126,8 @@ module _ (n : ℕ) (inner : Inner) (laws : Laws [] n inner) (places : InnerLaws 
   abbrev pub label_rest : ℕ → Identifier → Reader Stmt
   label_rest room name = behind (token_at is_colon) (λ colon. behind (attrs_at room) (λ attrs. behind (inner.stmt (room - 1)) (λ t. ends (label name colon attrs t))))
 
-  pub label_law : (room : ℕ) → room - 1 < n → 2 ≤ room → (name : Identifier) → Law true (label_rest room name) is_colon stops_stmt
+  pub label_law : (room : ℕ) → room - 1 < n → 2 ≤ room → (name : Identifier)
+      → Law true (label_rest room name) is_colon stops_stmt
   label_law room less two name =
       token_then true is_colon (kinds.Punct puncts.Colon) is_colon stops_stmt (λ colon. behind (attrs_at room) (λ attrs. behind (inner.stmt (room - 1)) (λ t. ends (label name colon attrs t)))) refl refl colon_end
       (λ colon. bind_law true (attrs_at room) (λ attrs. behind (inner.stmt (room - 1)) (λ t. ends (label name colon attrs t))) any is_semicolon stops_stmt (attrs_law true room any is_semicolon ((λ kind h. refl), semi_attribute))
@@ -145,28 +146,37 @@ module _ (n : ℕ) (inner : Inner) (laws : Laws [] n inner) (places : InnerLaws 
   abbrev of_decl : Declaration → BlockItem
   of_decl d = block_decl (decl_declaration d)
 
-  from_item_good : (known : SpecWords) (room : ℕ) → has_auto known ≡ false → room < n → (stops : TokenKind → Bool) (s : HeldScopes) (ts : List Lexeme) → Good false (behind (declaration_from inner known room) (λ d. ends (of_decl d))) stops s ts
+  from_item_good : (known : SpecWords) (room : ℕ) → has_auto known ≡ false → room < n
+      → (stops : TokenKind → Bool) (s : HeldScopes) (ts : List Lexeme)
+      → Good false (behind (declaration_from inner known room) (λ d. ends (of_decl d))) stops s ts
   from_item_good known room plain less stops s ts =
       mapped_good false (declaration_from inner known room) of_decl stops s ts (good_before false (declaration_from inner known room) any stops s ts (λ kind h. refl) (from_good n inner laws places known room plain less s ts))
 
-  from_item_shrinks : (known : SpecWords) (room : ℕ) → Shrinks (behind (declaration_from inner known room) (λ d. ends (of_decl d)))
+  from_item_shrinks : (known : SpecWords) (room : ℕ)
+      → Shrinks (behind (declaration_from inner known room) (λ d. ends (of_decl d)))
   from_item_shrinks known room = behind_shrinks (declaration_from inner known room) (λ d. ends (of_decl d)) (from_shrinks n inner laws places known room) (λ d. ends_falls (of_decl d))
 
-  with_item_good : (exts : List ℕ) (room : ℕ) → room < n → (stops : TokenKind → Bool) (s : HeldScopes) (ts : List Lexeme) → Good false (behind (declaration_with inner exts room) (λ d. ends (of_decl d))) stops s ts
+  with_item_good : (exts : List ℕ) (room : ℕ) → room < n
+      → (stops : TokenKind → Bool) (s : HeldScopes) (ts : List Lexeme)
+      → Good false (behind (declaration_with inner exts room) (λ d. ends (of_decl d))) stops s ts
   with_item_good exts room less stops s ts =
       mapped_good false (declaration_with inner exts room) of_decl stops s ts (good_before false (declaration_with inner exts room) any stops s ts (λ kind h. refl) (declaration_good n inner laws places exts room less s ts))
 
-  with_item_shrinks : (exts : List ℕ) (room : ℕ) → Shrinks (behind (declaration_with inner exts room) (λ d. ends (of_decl d)))
+  with_item_shrinks : (exts : List ℕ) (room : ℕ)
+      → Shrinks (behind (declaration_with inner exts room) (λ d. ends (of_decl d)))
   with_item_shrinks exts room = behind_shrinks (declaration_with inner exts room) (λ d. ends (of_decl d)) (declaration_shrinks n inner laws places exts room) (λ d. ends_falls (of_decl d))
 
-  stmt_item_good : (read : Reader Stmt) (wide stops : TokenKind → Bool) → ((kind : TokenKind) → stops kind ≡ true → wide kind ≡ true) → (s : HeldScopes) (ts : List Lexeme) → Good true read wide s ts →
+  stmt_item_good : (read : Reader Stmt) (wide stops : TokenKind → Bool)
+      → ((kind : TokenKind) → stops kind ≡ true → wide kind ≡ true) → (s : HeldScopes) (ts : List Lexeme)
+      → Good true read wide s ts →
       Good false (behind read (λ t. ends (block_stmt t))) stops s ts
   stmt_item_good read wide stops h s ts g = mapped_good false read block_stmt stops s ts (good_weaker false read stops s ts (good_before true read wide stops s ts h g))
 
   stmt_item_shrinks : (read : Reader Stmt) → Shrinks read → Shrinks (behind read (λ t. ends (block_stmt t)))
   stmt_item_shrinks read shrinks = behind_shrinks read (λ t. ends (block_stmt t)) shrinks (λ t. ends_falls (block_stmt t))
 
-  -- A name: a label, a declaration or an expression, by the token behind it. What a name and a colon begin is completed by a
+  -- A name: a label, a declaration or an expression, by the token behind it. What a name and a colon begin is completed
+  -- by a
   -- statement, so a name alone is by these.
   module _ (name room : ℕ) (less : room < n) (two : 2 ≤ room) where
     abbrev name_token : ℕ → Lexeme
@@ -186,7 +196,9 @@ module _ (n : ℕ) (inner : Inner) (laws : Laws [] n inner) (places : InnerLaws 
         if names_type s name then behind (declaration_from inner (known_name at) room) (λ d. ends (of_decl d)) s k
         else behind (expr_stmt_with inner nothing room) (λ t. ends (block_stmt t)) s (name_token at ∷ k)
 
-    stmt_item_two : (s : HeldScopes) (ts : List Lexeme) (x : Found BlockItem) → behind (expr_stmt_with inner nothing room) (λ t. ends (block_stmt t)) s ts ≡ done x → suc (length x.rest) < length ts
+    stmt_item_two : (s : HeldScopes) (ts : List Lexeme) (x : Found BlockItem)
+        → behind (expr_stmt_with inner nothing room) (λ t. ends (block_stmt t)) s ts ≡ done x
+        → suc (length x.rest) < length ts
     stmt_item_two s ts x e =
         let a = bind_ok e in
         let low = expr_stmt_two nothing room s ts a.0 a.1 in
@@ -212,7 +224,8 @@ module _ (n : ℕ) (inner : Inner) (laws : Laws [] n inner) (places : InnerLaws 
             (λ x e. let low = stmt_item_two s (name_token at ∷ k) x e in omega (arith, low))
             (stmt_item_good (expr_stmt_with inner nothing room) any is_close_brace (λ kind h. refl) s (name_token at ∷ k) (expr_stmt_good nothing room (omega (arith, less)) s (name_token at ∷ k))))
 
-    label_item_law : (at : ℕ) → Law false (behind (label_rest room (identifier_of at name)) (λ t. ends (block_stmt t))) is_colon is_close_brace
+    label_item_law : (at : ℕ)
+        → Law false (behind (label_rest room (identifier_of at name)) (λ t. ends (block_stmt t))) is_colon is_close_brace
     label_item_law at =
         mapped_law false (label_rest room (identifier_of at name)) block_stmt is_colon is_close_brace
         (law_weaker false (label_rest room (identifier_of at name)) is_colon is_close_brace
@@ -235,14 +248,16 @@ module _ (n : ℕ) (inner : Inner) (laws : Laws [] n inner) (places : InnerLaws 
         then (and_then (take_one s ts) (λ token. as_item inner (declaration_from inner (more_words (typedef_name (record { token = token.tree; name = name })) no_words) room token.scopes token.rest)))
         else as_stmt inner (expr_stmt_with inner nothing room s ts)
 
-    named_same : (t : Lexeme) → t.kind ≡ kinds.Name name → (ts : List Lexeme) (s : HeldScopes) (k : List Lexeme) → first_kind k ≡ first_kind (t ∷ ts) → named_choice s k ≡ behind take_one choice s k
+    named_same : (t : Lexeme) → t.kind ≡ kinds.Name name → (ts : List Lexeme) (s : HeldScopes) (k : List Lexeme)
+        → first_kind k ≡ first_kind (t ∷ ts) → named_choice s k ≡ behind take_one choice s k
     unfolding label_with and_then
     named_same t is ts s [] e = absurd cc
     named_same t is ts s (u ∷ us) e =
         let same : u.kind ≡ t.kind = cc in
         ap (λ (u : Lexeme). named_choice s (u ∷ us)) (ap (λ (kind : TokenKind). record { kind = kind; at = u.at }) (same ∙ is))
 
-    pub named_good : (s : HeldScopes) (t : Lexeme) (ts : List Lexeme) → t.kind ≡ kinds.Name name → Good false named_choice is_close_brace s (t ∷ ts)
+    pub named_good : (s : HeldScopes) (t : Lexeme) (ts : List Lexeme) → t.kind ≡ kinds.Name name
+        → Good false named_choice is_close_brace s (t ∷ ts)
     named_good s t ts is =
         good_as false (behind take_one choice) named_choice is_close_brace s (t ∷ ts) (named_same t is ts s) (inl (λ x e. behind_shrinks take_one choice take_shrinks choice_falls s (t ∷ ts) x e))
         (take_behind false choice is_close_brace choice_law s (t ∷ ts) (ap is_end is))
@@ -252,7 +267,8 @@ module _ (n : ℕ) (inner : Inner) (laws : Laws [] n inner) (places : InnerLaws 
             if_ok (is_colon (kind_at k)) e (λ is e. shrinks_falls _ (stmt_item_shrinks (label_rest room (identifier_of at name)) (label_shrinks room (identifier_of at name))) s k x e)
             (λ is e. shrinks_falls (other_choice at) (other_shrinks at) s k x e)
 
-  named_item_good : (name room : ℕ) → room < n → (s : HeldScopes) (ts : List Lexeme) → spelled_name (kind_at ts) ≡ Some name → Good false (named_item inner name room) is_close_brace s ts
+  named_item_good : (name room : ℕ) → room < n → (s : HeldScopes) (ts : List Lexeme)
+      → spelled_name (kind_at ts) ≡ Some name → Good false (named_item inner name room) is_close_brace s ts
   unfolding named_item
   named_item_good name room less s [] is = absurd cc
   named_item_good name room less s (t ∷ ts) is =
@@ -270,7 +286,8 @@ module _ (n : ℕ) (inner : Inner) (laws : Laws [] n inner) (places : InnerLaws 
   extended_rest_shrinks room exts s k x e =
       if_ok (begins_specs s (kind_at k)) e (λ is e. with_item_shrinks exts room s k x e) (λ is e. stmt_item_shrinks (expr_stmt_with inner (extensions exts) room) (expr_stmt_shrinks (extensions exts) room) s k x e)
 
-  extended_item_good : (room : ℕ) → room < n → (s : HeldScopes) (ts : List Lexeme) → Good false (extended_item inner room) is_close_brace s ts
+  extended_item_good : (room : ℕ) → room < n → (s : HeldScopes) (ts : List Lexeme)
+      → Good false (extended_item inner room) is_close_brace s ts
   unfolding extended_item
   extended_item_good room less s ts =
       bind_good false (extensions_at room) (extended_rest room) is_int is_close_brace s ts
@@ -303,7 +320,8 @@ module _ (n : ℕ) (inner : Inner) (laws : Laws [] n inner) (places : InnerLaws 
   from_or_not_shrinks : (attrs : List Attr) (room : ℕ) → Shrinks (from_or_not attrs room)
   from_or_not_shrinks attrs room s ts x e = if_ok (begins_specs s (kind_at ts)) e (λ is e. from_item_shrinks (words_of_attrs attrs) room s ts x e) (λ is e. absurd cc)
 
-  attr_item_law : (attrs : List Attr) (room : ℕ) → room < n → Law false (attr_item_by inner attrs room) is_semicolon is_close_brace
+  attr_item_law : (attrs : List Attr) (room : ℕ) → room < n
+      → Law false (attr_item_by inner attrs room) is_semicolon is_close_brace
   unfolding attr_item_by and_then
   attr_item_law attrs room less = record {
     good = λ s ts.
@@ -327,7 +345,8 @@ module _ (n : ℕ) (inner : Inner) (laws : Laws [] n inner) (places : InnerLaws 
   unfolding attr_item_by
   attr_item_shrinks attrs room s ts x e = if_ok (is_semicolon (kind_at ts)) e (λ is e. semi_item_shrinks attrs s ts x e) (λ is e. from_or_not_shrinks attrs room s ts x e)
 
-  attr_item_good : (room : ℕ) → room < n → (s : HeldScopes) (ts : List Lexeme) → Good false (attr_item inner room) is_close_brace s ts
+  attr_item_good : (room : ℕ) → room < n → (s : HeldScopes) (ts : List Lexeme)
+      → Good false (attr_item inner room) is_close_brace s ts
   unfolding attr_item
   attr_item_good room less s ts =
       bind_good false (attrs_at room) (λ attrs. attr_item_by inner attrs room) is_semicolon is_close_brace s ts (λ attrs scopes gives at. (attr_item_law attrs room less).ready scopes at)
@@ -337,45 +356,54 @@ module _ (n : ℕ) (inner : Inner) (laws : Laws [] n inner) (places : InnerLaws 
   abbrev plain_item : ℕ → Reader BlockItem
   plain_item room s ts = if begins_specs s (kind_at ts) then behind (declaration_with inner [] room) (λ d. ends (of_decl d)) s ts else behind (inner.stmt room) (λ t. ends (block_stmt t)) s ts
 
-  plain_item_good : (room : ℕ) → room < n → (s : HeldScopes) (ts : List Lexeme) → Good false (plain_item room) is_close_brace s ts
+  plain_item_good : (room : ℕ) → room < n → (s : HeldScopes) (ts : List Lexeme)
+      → Good false (plain_item room) is_close_brace s ts
   plain_item_good room less s ts =
       if_good false begins_specs (behind (declaration_with inner [] room) (λ d. ends (of_decl d))) (behind (inner.stmt room) (λ t. ends (block_stmt t))) is_close_brace s ts (λ is. with_item_good [] room less is_close_brace s ts)
       (λ is. stmt_item_good (inner.stmt room) stops_stmt is_close_brace brace_stmt s ts (places.stmts.good room less s ts))
       (λ is. inl (λ x e. with_item_shrinks [] room s ts x e)) (λ is. inl (λ x e. stmt_item_shrinks (inner.stmt room) (laws.stmts.shrinks room) s ts x e))
 
-  assert_item_good : (room : ℕ) (s : HeldScopes) (ts : List Lexeme) → Good false (λ s ts. fits 1 room ts (behind assert_at (λ it. ends (block_decl (decl_assert it))) s ts)) is_close_brace s ts
+  assert_item_good : (room : ℕ) (s : HeldScopes) (ts : List Lexeme)
+      → Good false (λ s ts. fits 1 room ts (behind assert_at (λ it. ends (block_decl (decl_assert it))) s ts)) is_close_brace s ts
   assert_item_good room s ts =
       fits_good false 1 room (behind assert_at (λ it. ends (block_decl (decl_assert it)))) is_close_brace s ts
       (λ fit. mapped_good false assert_at (λ it. block_decl (decl_assert it)) is_close_brace s ts (good_before false assert_at any is_close_brace s ts (λ kind h. refl) ((assert_law false).good s ts)))
 
   -- at a token that begins none of the others
-  item_is_other : (room : ℕ) (s : HeldScopes) (ts k : List Lexeme) → first_kind k ≡ first_kind ts → (o : Option ℕ) → is_static_assert (kind_at ts) ≡ false → is_extension (kind_at ts) ≡ false → is_attribute (kind_at ts) ≡ false →
+  item_is_other : (room : ℕ) (s : HeldScopes) (ts k : List Lexeme) → first_kind k ≡ first_kind ts → (o : Option ℕ)
+      → is_static_assert (kind_at ts) ≡ false → is_extension (kind_at ts) ≡ false → is_attribute (kind_at ts) ≡ false →
       spelled_name (kind_at ts) ≡ o → block_item_with inner room s k ≡ other_item inner o room s k
   unfolding block_item_with
   item_is_other room s ts k e o a b c is = rw (kind_same k ts e, a, b, c, is) refl
 
-  pub block_item_good : (room : ℕ) → room < n → (s : HeldScopes) (ts : List Lexeme) → Good false (block_item_with inner room) is_close_brace s ts
+  pub block_item_good : (room : ℕ) → room < n → (s : HeldScopes) (ts : List Lexeme)
+      → Good false (block_item_with inner room) is_close_brace s ts
   unfolding block_item_with other_item
   block_item_good room less s ts = by_assert (is_static_assert (kind_at ts)) refl
     where
-      by_name : is_static_assert (kind_at ts) ≡ false → is_extension (kind_at ts) ≡ false → is_attribute (kind_at ts) ≡ false → (o : Option ℕ) → spelled_name (kind_at ts) ≡ o → Good false (block_item_with inner room) is_close_brace s ts
+      by_name : is_static_assert (kind_at ts) ≡ false → is_extension (kind_at ts) ≡ false
+          → is_attribute (kind_at ts) ≡ false → (o : Option ℕ) → spelled_name (kind_at ts) ≡ o
+          → Good false (block_item_with inner room) is_close_brace s ts
       by_name a b c (Some name) is =
           good_choice false (other_item inner (Some name) room) (block_item_with inner room) is_close_brace s ts (λ k e. item_is_other room s ts k e (Some name) a b c is) (block_item_shrinks [] none_tokens n inner laws room)
           (named_item_good name room less s ts is)
       by_name a b c None is =
           good_choice false (other_item inner None room) (block_item_with inner room) is_close_brace s ts (λ k e. item_is_other room s ts k e None a b c is) (block_item_shrinks [] none_tokens n inner laws room) (plain_item_good room less s ts)
 
-      by_attribute : is_static_assert (kind_at ts) ≡ false → is_extension (kind_at ts) ≡ false → (c : Bool) → is_attribute (kind_at ts) ≡ c → Good false (block_item_with inner room) is_close_brace s ts
+      by_attribute : is_static_assert (kind_at ts) ≡ false → is_extension (kind_at ts) ≡ false → (c : Bool)
+          → is_attribute (kind_at ts) ≡ c → Good false (block_item_with inner room) is_close_brace s ts
       by_attribute a b true is =
           good_choice false (attr_item inner room) (block_item_with inner room) is_close_brace s ts (λ k e. rw (kind_same k ts e, a, b, is) refl) (block_item_shrinks [] none_tokens n inner laws room) (attr_item_good room less s ts)
       by_attribute a b false is = by_name a b is (spelled_name (kind_at ts)) refl
 
-      by_extension : is_static_assert (kind_at ts) ≡ false → (b : Bool) → is_extension (kind_at ts) ≡ b → Good false (block_item_with inner room) is_close_brace s ts
+      by_extension : is_static_assert (kind_at ts) ≡ false → (b : Bool) → is_extension (kind_at ts) ≡ b
+          → Good false (block_item_with inner room) is_close_brace s ts
       by_extension a true is =
           good_choice false (extended_item inner room) (block_item_with inner room) is_close_brace s ts (λ k e. rw (kind_same k ts e, a, is) refl) (block_item_shrinks [] none_tokens n inner laws room) (extended_item_good room less s ts)
       by_extension a false is = by_attribute a is (is_attribute (kind_at ts)) refl
 
-      by_assert : (a : Bool) → is_static_assert (kind_at ts) ≡ a → Good false (block_item_with inner room) is_close_brace s ts
+      by_assert : (a : Bool) → is_static_assert (kind_at ts) ≡ a
+          → Good false (block_item_with inner room) is_close_brace s ts
       by_assert true is =
           good_choice false (λ s ts. fits 1 room ts (behind assert_at (λ it. ends (block_decl (decl_assert it))) s ts)) (block_item_with inner room) is_close_brace s ts (λ k e. rw (kind_same k ts e, is) refl)
           (block_item_shrinks [] none_tokens n inner laws room) (assert_item_good room s ts)
@@ -384,7 +412,8 @@ module _ (n : ℕ) (inner : Inner) (laws : Laws [] n inner) (places : InnerLaws 
   -- Blocks.
 
   -- `__label__` names ;
-  labels_good : (room : ℕ) (stops : TokenKind → Bool) (s : HeldScopes) (ts : List Lexeme) → is_label_word (kind_at ts) ≡ true → Good false (labels_with inner room) stops s ts
+  labels_good : (room : ℕ) (stops : TokenKind → Bool) (s : HeldScopes) (ts : List Lexeme)
+      → is_label_word (kind_at ts) ≡ true → Good false (labels_with inner room) stops s ts
   unfolding labels_with
   labels_good room stops s ts is =
       fits_good false 1 room (behind take_one listed_names) stops s ts (λ fit. take_behind false listed_names stops names_rest s ts (label_word_end (kind_at ts) is))
@@ -405,7 +434,8 @@ module _ (n : ℕ) (inner : Inner) (laws : Laws [] n inner) (places : InnerLaws 
   items_rest room opening labels =
       behind (repeated (λ kind. not (is_close_brace kind)) (block_item_with inner (room - 1))) (λ items. behind (token_at is_close_brace) (λ closing. ends (block_made opening labels items closing)))
 
-  items_rest_law : (room : ℕ) → room - 1 < n → (opening : ℕ) (labels : List BlockItem) → Law false (items_rest room opening labels) is_close_brace any
+  items_rest_law : (room : ℕ) → room - 1 < n → (opening : ℕ) (labels : List BlockItem)
+      → Law false (items_rest room opening labels) is_close_brace any
   items_rest_law room less opening labels =
       closed_law false (repeated (λ kind. not (is_close_brace kind)) (block_item_with inner (room - 1))) is_close_brace (kinds.Punct puncts.CloseBrace) is_close_brace any
       (λ items closing. ends (block_made opening labels items closing))
@@ -430,11 +460,13 @@ module _ (n : ℕ) (inner : Inner) (laws : Laws [] n inner) (places : InnerLaws 
       (λ s ts is. labels_good (room - 1) is_close_brace s ts is))
       (items_rest_law room less opening) (inl (λ labels s ts y e. items_rest_shrinks room opening labels s ts y e))
 
-  pub block_body_good : (room : ℕ) → room - 1 < n → (s : HeldScopes) (ts : List Lexeme) → is_end (kind_at ts) ≡ false → Good false (block_body inner room) any s ts
+  pub block_body_good : (room : ℕ) → room - 1 < n → (s : HeldScopes) (ts : List Lexeme) → is_end (kind_at ts) ≡ false
+      → Good false (block_body inner room) any s ts
   unfolding block_body
   block_body_good room less s ts known = take_behind false (block_rest room) any (block_rest_law room less) s ts known
 
-  pub block_body_ready : (room : ℕ) → room - 1 < n → (s : HeldScopes) (at : ℕ) → Ready false (block_body inner room) is_open_brace any s at
+  pub block_body_ready : (room : ℕ) → room - 1 < n → (s : HeldScopes) (at : ℕ)
+      → Ready false (block_body inner room) is_open_brace any s at
   unfolding block_body
   block_body_ready room less s at =
       ready_bind false take_one (block_rest room) is_open_brace any any s at (ready_take false (kinds.Punct puncts.OpenBrace) is_open_brace any s at refl) (λ opening scopes given at. (block_rest_law room less opening).ready scopes at)
@@ -442,7 +474,8 @@ module _ (n : ℕ) (inner : Inner) (laws : Laws [] n inner) (places : InnerLaws 
   same_block : Block → HeldScopes → Block
   same_block b t = b
 
-  block_good : (room : ℕ) → room < suc n → (s : HeldScopes) (ts : List Lexeme) → Good true (block_with inner room) any s ts
+  block_good : (room : ℕ) → room < suc n → (s : HeldScopes) (ts : List Lexeme)
+      → Good true (block_with inner room) any s ts
   unfolding block_with same_block
   block_good room less s ts = by_brace (is_open_brace (kind_at ts)) refl
     where
@@ -453,7 +486,8 @@ module _ (n : ℕ) (inner : Inner) (laws : Laws [] n inner) (places : InnerLaws 
           (fits_good true 1 room (in_scope (λ s. new_scope (is_wide s)) (block_body inner room) same_block) any s ts
           (λ fit. own_good (λ s. new_scope (is_wide s)) (block_body inner room) same_block any s ts (block_body_good room (omega (arith, less, fit)) (enter s) ts (open_brace_end (kind_at ts) is))))
 
-  block_ready : (room : ℕ) → room < suc n → 1 ≤ room → (s : HeldScopes) (at : ℕ) → Ready true (block_with inner room) is_open_brace any s at
+  block_ready : (room : ℕ) → room < suc n → 1 ≤ room → (s : HeldScopes) (at : ℕ)
+      → Ready true (block_with inner room) is_open_brace any s at
   unfolding block_with same_block
   block_ready room less one s at =
       ready_as true (λ s ts. fits 1 room ts (in_scope (λ s. new_scope (is_wide s)) (block_body inner room) same_block s ts)) (block_with inner room) is_open_brace any s at (λ k h. rw h refl)

@@ -1,4 +1,5 @@
--- Declarations: behind their words a fresh name and `;` complete them, or `;` alone where the room is too low for a name.
+-- Declarations: behind their words a fresh name and `;` complete them, or `;` alone where the room is too low for a
+-- name.
 use Rattle.std.proofs.Common.{◌≡◌, ℕ, ◌<◌, ◌≤◌, Bool, true, false, if◌then◌else◌, List, [], ◌∷◌, ◌++◌, length, ◌⊎◌, inl, inr, Option, Some, None, refl, ◌∙◌, ap, subst, arith}
 use Rattle.std.specs.Prelude.{◌+◌, ◌-◌, nat_le}
 use Rattle.std.proofs.lemmas.Bool.{leb-true, leb-false}
@@ -102,7 +103,8 @@ behind_words kind = if is_semicolon kind then true else is_name_kind kind
 pub words_specs : (kind : TokenKind) → behind_words kind ≡ true → stops_specs kind ≡ true
 words_specs kind h = by_semi (is_semicolon kind) refl h
   where
-    by_semi : (b : Bool) → is_semicolon kind ≡ b → (if b then true else is_name_kind kind) ≡ true → stops_specs kind ≡ true
+    by_semi : (b : Bool) → is_semicolon kind ≡ b → (if b then true else is_name_kind kind) ≡ true
+        → stops_specs kind ≡ true
     by_semi true is h = semi_specs kind is
     by_semi false is h = name_specs kind h
 
@@ -146,11 +148,14 @@ semi = record { kind = kinds.Punct puncts.Semicolon; at = 0 }
 abbrev pub behind_of : SpecWords → TokenKind → Bool
 behind_of words kind = if takes_base words then is_base_word kind else behind_words kind
 
-pub plain_behind_of : (words : SpecWords) → has_auto words ≡ false → (kind : TokenKind) → behind_words kind ≡ true → behind_of words kind ≡ true
+pub plain_behind_of : (words : SpecWords) → has_auto words ≡ false → (kind : TokenKind) → behind_words kind ≡ true
+    → behind_of words kind ≡ true
 plain_behind_of words is kind h = rw is h
 
 -- a reader that begins with `int` whatever stands behind does so before all tokens
-pub first_int : (more : List TokenKind) (at : ℕ) → ((k : List Lexeme) → stops_specs (kind_at k) ≡ true → is_int (kind_at (numbered_from at more ++ k)) ≡ true) → (k : List Lexeme) → is_int (kind_at (numbered_from at more ++ k)) ≡ true
+pub first_int : (more : List TokenKind) (at : ℕ)
+    → ((k : List Lexeme) → stops_specs (kind_at k) ≡ true → is_int (kind_at (numbered_from at more ++ k)) ≡ true)
+    → (k : List Lexeme) → is_int (kind_at (numbered_from at more ++ k)) ≡ true
 first_int [] at h k = let wrong : is_int (kinds.Punct puncts.Semicolon) ≡ true = h (semi ∷ []) refl in absurd cc
 first_int (kind ∷ more) at h k = h (semi ∷ []) refl
 
@@ -185,7 +190,8 @@ module _ (n : ℕ) (inner : Inner) (laws : Laws [] n inner) (places : InnerLaws 
   semi_attrs room = attrs_law false room is_semicolon is_semicolon ((λ kind h. h), semi_attribute)
 
   -- [AsmLabel] Attr* [= init]
-  pub declr_behind_law : (before : List Attr) (d : Declr) (room : ℕ) → room < n → 2 ≤ room → Law false (declr_behind inner before d room) is_semicolon is_semicolon
+  pub declr_behind_law : (before : List Attr) (d : Declr) (room : ℕ) → room < n → 2 ≤ room
+      → Law false (declr_behind inner before d room) is_semicolon is_semicolon
   unfolding declr_behind
   declr_behind_law before d room less two =
       bind_law false label_at (λ name. behind (attrs_at room) (λ attrs. behind (some_init_with inner room) (λ init. ends (item name attrs init)))) is_semicolon is_semicolon is_semicolon (label_law false)
@@ -199,18 +205,21 @@ module _ (n : ℕ) (inner : Inner) (laws : Laws [] n inner) (places : InnerLaws 
   abbrev released : List Attr → Kind → ℕ → Declr → Reader DeclrItem
   released before kind room d s k = declr_behind inner before d room (release kind s) k
 
-  released_law : (before : List Attr) (kind : Kind) (room : ℕ) → room < n → 2 ≤ room → (d : Declr) → Law false (released before kind room d) is_semicolon is_semicolon
+  released_law : (before : List Attr) (kind : Kind) (room : ℕ) → room < n → 2 ≤ room → (d : Declr)
+      → Law false (released before kind room d) is_semicolon is_semicolon
   released_law before kind room less two d = record {
     good = λ s ts. good_from false (declr_behind inner before d room) (release kind) is_semicolon s ts (release_kept kind s) ((declr_behind_law before d room less two).good (release kind s) ts);
     ready = λ s at. ready_from false (declr_behind inner before d room) (release kind) is_semicolon is_semicolon s at (release_kept kind s) ((declr_behind_law before d room less two).ready (release kind s) at);
   }
 
   -- a name was read, so there was room for one
-  init_declr_room : (before : List Attr) (kind : Kind) (room : ℕ) (s : HeldScopes) (ts : List Lexeme) (x : Found DeclrItem) → init_declr_with inner before kind room s ts ≡ done x → 2 ≤ room
+  init_declr_room : (before : List Attr) (kind : Kind) (room : ℕ) (s : HeldScopes) (ts : List Lexeme) (x : Found DeclrItem)
+      → init_declr_with inner before kind room s ts ≡ done x → 2 ≤ room
   unfolding init_declr_with
   init_declr_room before kind room s ts x e = let a = bind_ok e in let one : 1 ≤ room - 1 = named_declr_room n inner places laws (Some kind) (room - 1) s ts a.0 a.1 in omega (arith, one)
 
-  init_declr_high : (before : List Attr) (kind : Kind) (room : ℕ) → room < n → 2 ≤ room → Law false (init_declr_with inner before kind room) is_name_kind is_semicolon
+  init_declr_high : (before : List Attr) (kind : Kind) (room : ℕ) → room < n → 2 ≤ room
+      → Law false (init_declr_with inner before kind room) is_name_kind is_semicolon
   unfolding init_declr_with
   init_declr_high before kind room less two =
       bind_law false (named_declr inner (Some kind) (room - 1)) (released before kind room) is_name_kind is_semicolon is_semicolon
@@ -221,13 +230,15 @@ module _ (n : ℕ) (inner : Inner) (laws : Laws [] n inner) (places : InnerLaws 
       (released_law before kind room less two) (inr (λ kind h. h))
 
   -- with room for no name none is read
-  init_declr_low : (before : List Attr) (kind : Kind) (room : ℕ) → room < n → room < 2 → (s : HeldScopes) (ts : List Lexeme) → Good false (init_declr_with inner before kind room) is_semicolon s ts
+  init_declr_low : (before : List Attr) (kind : Kind) (room : ℕ) → room < n → room < 2
+      → (s : HeldScopes) (ts : List Lexeme) → Good false (init_declr_with inner before kind room) is_semicolon s ts
   unfolding init_declr_with
   init_declr_low before kind room less low s ts =
       never_behind false (named_declr inner (Some kind) (room - 1)) (released before kind room) stops_named is_semicolon (kinds.Punct puncts.Semicolon) refl s ts
       (λ k x e. let one : 1 ≤ room - 1 = named_declr_room n inner places laws (Some kind) (room - 1) s k x e in absurd (omega (arith, one, low))) (named_declr_good n inner places laws (Some kind) (room - 1) (omega (arith, less)) s ts)
 
-  next_declr_law : (kind : Kind) (room : ℕ) → room < n → 2 ≤ room → (token : ℕ) → Law false (next_init_declr inner kind room token) any is_semicolon
+  next_declr_law : (kind : Kind) (room : ℕ) → room < n → 2 ≤ room → (token : ℕ)
+      → Law false (next_init_declr inner kind room token) any is_semicolon
   unfolding next_init_declr
   next_declr_law kind room less two token =
       bind_law false (attrs_at room) (λ attrs. behind (init_declr_with inner attrs kind room) (λ d. ends (one_more d))) any is_name_kind is_semicolon (attrs_law false room any is_name_kind ((λ kind h. refl), name_attribute))
@@ -239,7 +250,8 @@ module _ (n : ℕ) (inner : Inner) (laws : Laws [] n inner) (places : InnerLaws 
   abbrev closed : List ℕ → SpecWords → CommaList DeclrItem ⊥ → Reader Declaration
   closed exts words ds = behind (token_at is_semicolon) (λ semi. ends (declaration exts words (init_declrs_from ds.items) semi))
 
-  closed_all : (exts : List ℕ) (words : SpecWords) (ds : CommaList DeclrItem ⊥) → Law false (closed exts words ds) is_semicolon any
+  closed_all : (exts : List ℕ) (words : SpecWords) (ds : CommaList DeclrItem ⊥)
+      → Law false (closed exts words ds) is_semicolon any
   closed_all exts words ds =
       token_then false is_semicolon (kinds.Punct puncts.Semicolon) is_semicolon any (λ semi. ends (declaration exts words (init_declrs_from ds.items) semi)) refl refl semicolon_end
       (λ semi. ends_law false (declaration exts words (init_declrs_from ds.items) semi) any any (λ kind h. h))
@@ -248,7 +260,8 @@ module _ (n : ℕ) (inner : Inner) (laws : Laws [] n inner) (places : InnerLaws 
   closed_shrinks exts words ds =
       behind_shrinks (token_at is_semicolon) (λ semi. ends (declaration exts words (init_declrs_from ds.items) semi)) (token_shrinks is_semicolon) (λ semi. ends_falls (declaration exts words (init_declrs_from ds.items) semi))
 
-  pub declrs_high : (exts : List ℕ) (words : SpecWords) (kind : Kind) (room : ℕ) (first : Reader DeclrItem) → room < n → 3 ≤ room → (s : HeldScopes) (ts : List Lexeme) → Good false first is_semicolon s ts →
+  pub declrs_high : (exts : List ℕ) (words : SpecWords) (kind : Kind) (room : ℕ) (first : Reader DeclrItem) → room < n
+      → 3 ≤ room → (s : HeldScopes) (ts : List Lexeme) → Good false first is_semicolon s ts →
       Good false (declrs_with inner exts words kind room first) any s ts
   unfolding declrs_with
   declrs_high exts words kind room first less three s ts g =
@@ -257,7 +270,8 @@ module _ (n : ℕ) (inner : Inner) (laws : Laws [] n inner) (places : InnerLaws 
       (next_declr_law kind (room - 1) (omega arith) (omega arith)) first s ts g)
       (λ x is. (closed_all exts words x.tree).good x.scopes x.rest) (inl (λ x y is e. closed_shrinks exts words x.tree x.scopes x.rest y e))
 
-  pub declrs_ready : (exts : List ℕ) (words : SpecWords) (kind : Kind) (room : ℕ) (first : Reader DeclrItem) (front : TokenKind → Bool) → room < n → 3 ≤ room → (s : HeldScopes) (at : ℕ) → Ready false first front is_semicolon s at →
+  pub declrs_ready : (exts : List ℕ) (words : SpecWords) (kind : Kind) (room : ℕ) (first : Reader DeclrItem) (front : TokenKind → Bool)
+      → room < n → 3 ≤ room → (s : HeldScopes) (at : ℕ) → Ready false first front is_semicolon s at →
       Ready false (declrs_with inner exts words kind room first) front any s at
   unfolding declrs_with
   declrs_ready exts words kind room first front less three s at r =
@@ -267,7 +281,8 @@ module _ (n : ℕ) (inner : Inner) (laws : Laws [] n inner) (places : InnerLaws 
       (λ ds scopes gives at. (closed_all exts words ds).ready scopes at)
 
   -- a first declarator that is never read is one behind which nothing is
-  declrs_low : (exts : List ℕ) (words : SpecWords) (kind : Kind) (room : ℕ) → room < n → room < 3 → (s : HeldScopes) (ts : List Lexeme) →
+  declrs_low : (exts : List ℕ) (words : SpecWords) (kind : Kind) (room : ℕ) → room < n → room < 3
+      → (s : HeldScopes) (ts : List Lexeme) →
       Good false (declrs_with inner exts words kind room (init_declr_with inner [] kind (room - 1))) any s ts
   unfolding declrs_with listed
   declrs_low exts words kind room less low s ts =
@@ -287,13 +302,15 @@ module _ (n : ℕ) (inner : Inner) (laws : Laws [] n inner) (places : InnerLaws 
 
   -- Behind the words.
 
-  pub bare_good : (exts : List ℕ) (words : SpecWords) (room : ℕ) (s : HeldScopes) (ts : List Lexeme) → is_semicolon (kind_at ts) ≡ true → Good false (bare_declaration inner exts words room) any s ts
+  pub bare_good : (exts : List ℕ) (words : SpecWords) (room : ℕ) (s : HeldScopes) (ts : List Lexeme)
+      → is_semicolon (kind_at ts) ≡ true → Good false (bare_declaration inner exts words room) any s ts
   unfolding bare_declaration
   bare_good exts words room s ts is =
       fits_good false (1 + specs_height words) room (behind take_one (λ semi. ends (declaration exts words (init_declrs_from []) semi))) any s ts
       (λ fit. take_behind false (λ semi. ends (declaration exts words (init_declrs_from []) semi)) any (λ semi. ends_law false (declaration exts words (init_declrs_from []) semi) any any (λ kind h. h)) s ts (semicolon_end (kind_at ts) is))
 
-  pub bare_ready : (exts : List ℕ) (words : SpecWords) (room : ℕ) → 1 + specs_height words ≤ room → (s : HeldScopes) (at : ℕ) → Ready false (bare_declaration inner exts words room) is_semicolon any s at
+  pub bare_ready : (exts : List ℕ) (words : SpecWords) (room : ℕ) → 1 + specs_height words ≤ room
+      → (s : HeldScopes) (at : ℕ) → Ready false (bare_declaration inner exts words room) is_semicolon any s at
   unfolding bare_declaration
   bare_ready exts words room fit s at =
       ready_fits false (1 + specs_height words) room (behind take_one (λ semi. ends (declaration exts words (init_declrs_from []) semi))) is_semicolon any s at fit
@@ -303,7 +320,8 @@ module _ (n : ℕ) (inner : Inner) (laws : Laws [] n inner) (places : InnerLaws 
   abbrev named_rest : List ℕ → SpecWords → ℕ → Reader Declaration
   named_rest exts words room = declrs_with inner exts words (declared_kind words) room (init_declr_with inner [] (declared_kind words) (room - 1))
 
-  named_good : (exts : List ℕ) (words : SpecWords) (room : ℕ) → room < n → (s : HeldScopes) (ts : List Lexeme) → Good false (named_rest exts words room) any s ts
+  named_good : (exts : List ℕ) (words : SpecWords) (room : ℕ) → room < n → (s : HeldScopes) (ts : List Lexeme)
+      → Good false (named_rest exts words room) any s ts
   named_good exts words room less s ts = by_room (nat_le 3 room) refl
     where
       by_room : (b : Bool) → nat_le 3 room ≡ b → Good false (named_rest exts words room) any s ts
@@ -344,10 +362,12 @@ module _ (n : ℕ) (inner : Inner) (laws : Laws [] n inner) (places : InnerLaws 
           none (t ∷ ts) e = absurd cc
       by_tokens s (t ∷ ts) = by_name (spelled_name t.kind) refl
         where
-          at_kind : (o : Option ℕ) → spelled_name t.kind ≡ o → (k : List Lexeme) → first_kind k ≡ Some t.kind → auto_one room s k ≡ auto_name inner o (room - 2) s k
+          at_kind : (o : Option ℕ) → spelled_name t.kind ≡ o → (k : List Lexeme) → first_kind k ≡ Some t.kind
+              → auto_one room s k ≡ auto_name inner o (room - 2) s k
           at_kind o is k e = ap (λ (o : Option ℕ). auto_name inner o (room - 2) s k) (ap spelled_name (kind_same k (t ∷ ts) e) ∙ is)
 
-          by_held : (name : ℕ) → spelled_name t.kind ≡ Some name → (o : Option HeldScopes) → at_name (Some Value) name s ≡ o → Good false (auto_one room) any s (t ∷ ts)
+          by_held : (name : ℕ) → spelled_name t.kind ≡ Some name → (o : Option HeldScopes)
+              → at_name (Some Value) name s ≡ o → Good false (auto_one room) any s (t ∷ ts)
           by_held name is None held = refused_here false (auto_one room) any s (t ∷ ts) Redeclared (λ k e. at_kind (Some name) is k e ∙ rw held refl)
           by_held name is (Some u) held =
               one_good false (auto_one room) any s u t ts (declr_name t.at name)
@@ -386,39 +406,48 @@ module _ (n : ℕ) (inner : Inner) (laws : Laws [] n inner) (places : InnerLaws 
         (λ token scopes given at. ready_ends false (base_name token) any any scopes at (λ kind h. h))));
   }
     where
-      taken : (s : HeldScopes) (ts : List Lexeme) (x : Found Declr) → base_taken s ts ≡ done x → length x.rest < length ts
+      taken : (s : HeldScopes) (ts : List Lexeme) (x : Found Declr) → base_taken s ts ≡ done x
+          → length x.rest < length ts
       taken s ts x e = let a = bind_ok e in let one = take_falls s ts a.0 a.1 in let same = left_is a.2 in omega (arith, one, same)
 
   auto_place_law : (typed : Bool) (room : ℕ) → 3 ≤ room → Law false (auto_place typed room) (auto_front typed) any
   auto_place_law true room three = base_law room three
   auto_place_law false room three = auto_one_law room three
 
-  auto_behind_of : (words : SpecWords) → has_auto words ≡ true → (kind : TokenKind) → auto_front (has_typedef_word (storage_words words)) kind ≡ true → behind_of words kind ≡ true
+  auto_behind_of : (words : SpecWords) → has_auto words ≡ true → (kind : TokenKind)
+      → auto_front (has_typedef_word (storage_words words)) kind ≡ true → behind_of words kind ≡ true
   auto_behind_of words is kind h = by_typedef (has_typedef_word (storage_words words)) refl h
     where
-      by_typedef : (typed : Bool) → has_typedef_word (storage_words words) ≡ typed → auto_front typed kind ≡ true → behind_of words kind ≡ true
+      by_typedef : (typed : Bool) → has_typedef_word (storage_words words) ≡ typed → auto_front typed kind ≡ true
+          → behind_of words kind ≡ true
       by_typedef true typed h = rw (is, typed) h
       by_typedef false typed h = rw (is, typed) (name_words kind h)
 
   -- Specifiers that end before each token that begins no word end before what stands behind them.
-  pub specs_widen : (known : SpecWords) (room : ℕ) → room < n → (s : HeldScopes) → Widens false (inner.specs Declaring known room) stops_specs behind_of s
+  pub specs_widen : (known : SpecWords) (room : ℕ) → room < n → (s : HeldScopes)
+      → Widens false (inner.specs Declaring known room) stops_specs behind_of s
   specs_widen known room less s tree scopes b reads k h = by_base (takes_base tree) refl h
     where
-      by_base : (base : Bool) → takes_base tree ≡ base → (if base then is_base_word (kind_at k) else behind_words (kind_at k)) ≡ true → inner.specs Declaring known room s (b ++ k) ≡ ends tree scopes k
+      by_base : (base : Bool) → takes_base tree ≡ base
+          → (if base then is_base_word (kind_at k) else behind_words (kind_at k)) ≡ true
+          → inner.specs Declaring known room s (b ++ k) ≡ ends tree scopes k
       by_base true is h = places.words.based Declaring known room less s b tree scopes reads is k h
       by_base false is h = reads k (words_specs (kind_at k) h)
 
-  pub here_widen : (room : ℕ) → room - 1 < n → (s : HeldScopes) → Widens false (specs_here inner Declaring room) stops_specs behind_of s
+  pub here_widen : (room : ℕ) → room - 1 < n → (s : HeldScopes)
+      → Widens false (specs_here inner Declaring room) stops_specs behind_of s
   unfolding specs_here
   here_widen room less s tree scopes [] reads k h = let wrong = reads (semi ∷ []) refl in absurd (by_begin (begins_role Declaring s (kinds.Punct puncts.Semicolon)) refl wrong)
     where
       by_begin : (b : Bool) → begins_role Declaring s (kinds.Punct puncts.Semicolon) ≡ b →
-          (if b then fits 2 room (semi ∷ []) (inner.specs Declaring no_words (room - 1) s (semi ∷ [])) else refuses Unexpected (semi ∷ [])) ≡ ends tree scopes (semi ∷ []) → ⊥
+          (if b then fits 2 room (semi ∷ []) (inner.specs Declaring no_words (room - 1) s (semi ∷ [])) else refuses Unexpected (semi ∷ [])) ≡ ends tree scopes (semi ∷ [])
+          → ⊥
       by_begin true is e = absurd cc
       by_begin false is e = absurd cc
   here_widen room less s tree scopes (t ∷ b) reads k h = by_begin (begins_role Declaring s t.kind) refl
     where
-      by_begin : (g : Bool) → begins_role Declaring s t.kind ≡ g → (if g then fits 2 room ((t ∷ b) ++ k) (inner.specs Declaring no_words (room - 1) s ((t ∷ b) ++ k)) else refuses Unexpected ((t ∷ b) ++ k)) ≡ ends tree scopes k
+      by_begin : (g : Bool) → begins_role Declaring s t.kind ≡ g
+          → (if g then fits 2 room ((t ∷ b) ++ k) (inner.specs Declaring no_words (room - 1) s ((t ∷ b) ++ k)) else refuses Unexpected ((t ∷ b) ++ k)) ≡ ends tree scopes k
       by_begin true is =
           let inside : (k : List Lexeme) → stops_specs (kind_at k) ≡ true → (2 ≤ room) × (inner.specs Declaring no_words (room - 1) s ((t ∷ b) ++ k) ≡ ends tree scopes k) =
           λ k stops. (let e = subst (λ (g : Bool). (if g then fits 2 room ((t ∷ b) ++ k) (inner.specs Declaring no_words (room - 1) s ((t ∷ b) ++ k)) else refuses Unexpected ((t ∷ b) ++ k)) ≡ ends tree scopes k) is (reads k stops) in
@@ -439,7 +468,8 @@ module _ (n : ℕ) (inner : Inner) (laws : Laws [] n inner) (places : InnerLaws 
     abbrev auto_released : Declr → List Attr → ℕ → Expr → Reader Declaration
     auto_released d attrs equal e s ts = auto_end d attrs equal e (release Value s) ts
 
-    auto_released_law : (d : Declr) (attrs : List Attr) (equal : ℕ) (e : Expr) → Law false (auto_released d attrs equal e) is_semicolon any
+    auto_released_law : (d : Declr) (attrs : List Attr) (equal : ℕ) (e : Expr)
+        → Law false (auto_released d attrs equal e) is_semicolon any
     auto_released_law d attrs equal e = record {
       good = λ s ts. good_from false (auto_end d attrs equal e) (release Value) any s ts (release_kept Value s) (l.good (release Value s) ts);
       ready = λ s at. ready_from false (auto_end d attrs equal e) (release Value) is_semicolon any s at (release_kept Value s) (l.ready (release Value s) at);
@@ -448,7 +478,8 @@ module _ (n : ℕ) (inner : Inner) (laws : Laws [] n inner) (places : InnerLaws 
         l : Law false (auto_end d attrs equal e) is_semicolon any
         l = token_then false is_semicolon (kinds.Punct puncts.Semicolon) is_semicolon any (λ semi. ends (auto_made d attrs equal e semi)) refl refl semicolon_end (λ semi. ends_law false (auto_made d attrs equal e semi) any any (λ kind h. h))
 
-    auto_released_shrinks : (d : Declr) (attrs : List Attr) (equal : ℕ) (e : Expr) → Shrinks (auto_released d attrs equal e)
+    auto_released_shrinks : (d : Declr) (attrs : List Attr) (equal : ℕ) (e : Expr)
+        → Shrinks (auto_released d attrs equal e)
     auto_released_shrinks d attrs equal e s ts x eq = behind_shrinks (token_at is_semicolon) (λ semi. ends (auto_made d attrs equal e semi)) (token_shrinks is_semicolon) (λ semi. ends_falls (auto_made d attrs equal e semi)) (release Value s) ts x eq
 
     auto_valued : Declr → List Attr → ℕ → Reader Declaration
@@ -494,7 +525,8 @@ module _ (n : ℕ) (inner : Inner) (laws : Laws [] n inner) (places : InnerLaws 
   abbrev plain_rest : List ℕ → SpecWords → ℕ → Reader Declaration
   plain_rest exts words room s ts = if is_semicolon (kind_at ts) then bare_declaration inner exts words room s ts else named_rest exts words room s ts
 
-  pub declaration_behind_good : (exts : List ℕ) (words : SpecWords) (room : ℕ) → room < n → AutoRoom words room → (s : HeldScopes) (ts : List Lexeme) → Good false (declaration_behind inner exts words room) any s ts
+  pub declaration_behind_good : (exts : List ℕ) (words : SpecWords) (room : ℕ) → room < n → AutoRoom words room
+      → (s : HeldScopes) (ts : List Lexeme) → Good false (declaration_behind inner exts words room) any s ts
   unfolding declaration_behind
   declaration_behind_good exts words room less auto s ts = by_auto (has_auto words) refl
     where
@@ -510,11 +542,14 @@ module _ (n : ℕ) (inner : Inner) (laws : Laws [] n inner) (places : InnerLaws 
   abbrev pub HasRoom : SpecWords → ℕ → Type 0
   HasRoom words room = (3 ≤ room) ⊎ (1 + specs_height words ≤ room)
 
-  pub declaration_behind_ready : (exts : List ℕ) (words : SpecWords) (room : ℕ) → room < n → AutoRoom words room → HasRoom words room → (s : HeldScopes) (at : ℕ) → Ready false (declaration_behind inner exts words room) (behind_of words) any s at
+  pub declaration_behind_ready : (exts : List ℕ) (words : SpecWords) (room : ℕ) → room < n → AutoRoom words room
+      → HasRoom words room → (s : HeldScopes) (at : ℕ)
+      → Ready false (declaration_behind inner exts words room) (behind_of words) any s at
   unfolding declaration_behind
   declaration_behind_ready exts words room less auto has s at = by_auto (has_auto words) refl has
     where
-      by_auto : (b : Bool) → has_auto words ≡ b → HasRoom words room → Ready false (declaration_behind inner exts words room) (behind_of words) any s at
+      by_auto : (b : Bool) → has_auto words ≡ b → HasRoom words room
+          → Ready false (declaration_behind inner exts words room) (behind_of words) any s at
       by_auto true is has =
           ready_before false (declaration_behind inner exts words room) (auto_front (has_typedef_word (storage_words words))) (behind_of words) any any s at (λ kind h. h) (auto_behind_of words is)
           (ready_as false (auto_behind inner exts words room) (declaration_behind inner exts words room) (auto_front (has_typedef_word (storage_words words))) any s at (λ k h. rw is refl)
@@ -541,7 +576,8 @@ module _ (n : ℕ) (inner : Inner) (laws : Laws [] n inner) (places : InnerLaws 
           let high = low same in
           inr (omega (arith, two, high))
 
-  pub specs_here_has : (room : ℕ) (s : HeldScopes) (ts : List Lexeme) (x : Found SpecWords) → specs_here inner Declaring room s ts ≡ done x → HasRoom x.tree room
+  pub specs_here_has : (room : ℕ) (s : HeldScopes) (ts : List Lexeme) (x : Found SpecWords)
+      → specs_here inner Declaring room s ts ≡ done x → HasRoom x.tree room
   unfolding specs_here
   specs_here_has room s ts x e =
       if_ok (begins_role Declaring s (kind_at ts)) e
@@ -549,7 +585,8 @@ module _ (n : ℕ) (inner : Inner) (laws : Laws [] n inner) (places : InnerLaws 
       words_room x.tree room r.0 (λ same. places.words.low Declaring no_words s ts x (subst (λ (m : ℕ). inner.specs Declaring no_words (m - 1) s ts ≡ done x) same r.1) (laws.words.shrinks Declaring (room - 1) s ts x r.1)))
       (λ is e. absurd cc)
 
-  pub specs_here_auto : (room : ℕ) (s : HeldScopes) (ts : List Lexeme) (x : Found SpecWords) → specs_here inner Declaring room s ts ≡ done x → AutoRoom x.tree room
+  pub specs_here_auto : (room : ℕ) (s : HeldScopes) (ts : List Lexeme) (x : Found SpecWords)
+      → specs_here inner Declaring room s ts ≡ done x → AutoRoom x.tree room
   unfolding specs_here
   specs_here_auto room s ts x e auto =
       if_ok (begins_role Declaring s (kind_at ts)) e
@@ -560,7 +597,8 @@ module _ (n : ℕ) (inner : Inner) (laws : Laws [] n inner) (places : InnerLaws 
       above : 2 ≤ room - 1 → 3 ≤ room
       above two = omega (arith, two)
 
-  pub declaration_good : (exts : List ℕ) (room : ℕ) → room < n → (s : HeldScopes) (ts : List Lexeme) → Good false (declaration_with inner exts room) any s ts
+  pub declaration_good : (exts : List ℕ) (room : ℕ) → room < n → (s : HeldScopes) (ts : List Lexeme)
+      → Good false (declaration_with inner exts room) any s ts
   unfolding declaration_with
   declaration_good exts room less s ts =
       bind_good_by false (specs_here inner Declaring room) (λ words. declaration_behind inner exts words room) stops_specs any behind_of s ts (here_widen room (omega (arith, less)) s)
@@ -570,7 +608,8 @@ module _ (n : ℕ) (inner : Inner) (laws : Laws [] n inner) (places : InnerLaws 
       (λ x is. declaration_behind_good exts x.tree room less (specs_here_auto room s ts x is) x.scopes x.rest)
       (inl (λ x y is e. declaration_behind_shrinks [] none_tokens n inner laws exts x.tree room x.scopes x.rest y e))
 
-  pub declaration_ready : (exts : List ℕ) (room : ℕ) → room < n → 2 ≤ room → (s : HeldScopes) (at : ℕ) → Ready false (declaration_with inner exts room) is_int any s at
+  pub declaration_ready : (exts : List ℕ) (room : ℕ) → room < n → 2 ≤ room → (s : HeldScopes) (at : ℕ)
+      → Ready false (declaration_with inner exts room) is_int any s at
   unfolding declaration_with
   declaration_ready exts room less two s at =
       let r = ready_weaker false (specs_here inner Declaring room) is_int stops_specs s at (specs_here_ready n inner places laws Declaring room (omega arith) two s at) in
@@ -586,13 +625,16 @@ module _ (n : ℕ) (inner : Inner) (laws : Laws [] n inner) (places : InnerLaws 
       (λ words. shrinks_falls (declaration_behind inner exts words room) (declaration_behind_shrinks [] none_tokens n inner laws exts words room))
 
   -- behind words that were read already: where more was read, these were within the room
-  known_has : (known : SpecWords) (room : ℕ) (s : HeldScopes) (ts : List Lexeme) (x : Found SpecWords) → inner.specs Declaring known (room - 1) s ts ≡ done x → length x.rest < length ts → HasRoom x.tree room
+  known_has : (known : SpecWords) (room : ℕ) (s : HeldScopes) (ts : List Lexeme) (x : Found SpecWords)
+      → inner.specs Declaring known (room - 1) s ts ≡ done x → length x.rest < length ts → HasRoom x.tree room
   known_has known room s ts x e less =
       let fit : specs_height known ≤ room - 1 = places.words.room Declaring known (room - 1) s ts x e less in
       let high : 1 ≤ specs_height known = specs_high known in
       words_room x.tree room (omega (arith, fit, high)) (λ same. places.words.low Declaring known s ts x (subst (λ (m : ℕ). inner.specs Declaring known (m - 1) s ts ≡ done x) same e) less)
 
-  known_auto : (known : SpecWords) (room : ℕ) → has_auto known ≡ false → (s : HeldScopes) (ts : List Lexeme) (x : Found SpecWords) → inner.specs Declaring known (room - 1) s ts ≡ done x → AutoRoom x.tree room
+  known_auto : (known : SpecWords) (room : ℕ) → has_auto known ≡ false
+      → (s : HeldScopes) (ts : List Lexeme) (x : Found SpecWords) → inner.specs Declaring known (room - 1) s ts ≡ done x
+      → AutoRoom x.tree room
   known_auto known room plain s ts x e auto =
       above (places.words.auto Declaring known (room - 1) s ts x (λ is. absurd (both known plain is)) e auto)
     where
@@ -602,7 +644,8 @@ module _ (n : ℕ) (inner : Inner) (laws : Laws [] n inner) (places : InnerLaws 
       above : 2 ≤ room - 1 → 3 ≤ room
       above two = omega (arith, two)
 
-  pub from_good : (known : SpecWords) (room : ℕ) → has_auto known ≡ false → room < n → (s : HeldScopes) (ts : List Lexeme) → Good false (declaration_from inner known room) any s ts
+  pub from_good : (known : SpecWords) (room : ℕ) → has_auto known ≡ false → room < n
+      → (s : HeldScopes) (ts : List Lexeme) → Good false (declaration_from inner known room) any s ts
   unfolding declaration_from
   from_good known room plain less s ts =
       bind_good_by false (inner.specs Declaring known (room - 1)) (λ words. declaration_behind inner [] words room) stops_specs any behind_of s ts (specs_widen known (room - 1) (omega (arith, less)) s)

@@ -74,7 +74,9 @@ abbrev of_declaration : Declaration → Item
 of_declaration d = decl_item (decl_declaration d)
 
 module _ (n : ℕ) (inner : Inner) (laws : Laws [] n inner) (places : InnerLaws n inner) (room : ℕ) (less : room < n) (high : 4 ≤ room) where
-  as_decl_shrinks : (r : Read Declaration) (ts : List Lexeme) (x : Found Item) → ((d : Found Declaration) → r ≡ done d → length d.rest < length ts) → as_decl r ≡ done x → length x.rest < length ts
+  as_decl_shrinks : (r : Read Declaration) (ts : List Lexeme) (x : Found Item)
+      → ((d : Found Declaration) → r ≡ done d → length d.rest < length ts) → as_decl r ≡ done x
+      → length x.rest < length ts
   as_decl_shrinks r ts x shrinks e =
       let a = bind_ok e in
       omega (arith, shrinks a.0 a.1, left_is a.2)
@@ -84,14 +86,19 @@ module _ (n : ℕ) (inner : Inner) (laws : Laws [] n inner) (places : InnerLaws 
   abbrev declared_with : List ℕ → SpecWords → Reader DeclrItem → Reader Item
   declared_with exts words first = behind (declrs_with inner exts words Value room first) (λ d. ends (of_declaration d))
 
-  declared_shrinks : (exts : List ℕ) (words : SpecWords) (first : Reader DeclrItem) → Falls first → Shrinks (declared_with exts words first)
+  declared_shrinks : (exts : List ℕ) (words : SpecWords) (first : Reader DeclrItem) → Falls first
+      → Shrinks (declared_with exts words first)
   declared_shrinks exts words first falls s ts x e = as_decl_shrinks _ ts x (λ d e. declrs_shrinks [] none_tokens n inner laws exts words Value room first falls s ts d e) e
 
-  declared_good : (exts : List ℕ) (words : SpecWords) (first : Reader DeclrItem) → Law false first is_semicolon is_semicolon → (s : HeldScopes) (ts : List Lexeme) → Good false (declared_with exts words first) any s ts
+  declared_good : (exts : List ℕ) (words : SpecWords) (first : Reader DeclrItem)
+      → Law false first is_semicolon is_semicolon → (s : HeldScopes) (ts : List Lexeme)
+      → Good false (declared_with exts words first) any s ts
   declared_good exts words first l s ts =
       mapped_good false (declrs_with inner exts words Value room first) of_declaration any s ts (declrs_high n inner laws places exts words Value room first less (omega (arith, high)) s ts (l.good s ts))
 
-  declared_ready : (exts : List ℕ) (words : SpecWords) (first : Reader DeclrItem) → Law false first is_semicolon is_semicolon → (s : HeldScopes) (at : ℕ) → Ready false (declared_with exts words first) is_semicolon any s at
+  declared_ready : (exts : List ℕ) (words : SpecWords) (first : Reader DeclrItem)
+      → Law false first is_semicolon is_semicolon → (s : HeldScopes) (at : ℕ)
+      → Ready false (declared_with exts words first) is_semicolon any s at
   declared_ready exts words first l s at =
       mapped_ready false (declrs_with inner exts words Value room first) of_declaration is_semicolon any s at (declrs_ready n inner laws places exts words Value room first is_semicolon less (omega (arith, high)) s at (l.ready s at))
 
@@ -104,7 +111,8 @@ module _ (n : ℕ) (inner : Inner) (laws : Laws [] n inner) (places : InnerLaws 
   plain_falls : (d : Declr) → Falls (plain_first d)
   plain_falls d = declr_behind_falls [] none_tokens n inner laws [] d (room - 1)
 
-  attrs_first_law : (d : Declr) (attrs : List Attr) → Law false (attrs_behind inner d attrs (room - 1)) is_semicolon is_semicolon
+  attrs_first_law : (d : Declr) (attrs : List Attr)
+      → Law false (attrs_behind inner d attrs (room - 1)) is_semicolon is_semicolon
   unfolding attrs_behind
   attrs_first_law d attrs =
       mapped_law false (some_init_with inner (room - 1)) (λ init. record { before = []; declr = d; label = None; attrs = attrs; init = init }) is_semicolon is_semicolon
@@ -121,20 +129,23 @@ module _ (n : ℕ) (inner : Inner) (laws : Laws [] n inner) (places : InnerLaws 
   abbrev function_of : List ℕ → SpecWords → Declr → List Attr → Block → HeldScopes → Item
   function_of exts words d attrs b t = function_item exts words d attrs b.opening b.items b.closing
 
-  function_shrinks : (exts : List ℕ) (words : SpecWords) (d : Declr) (attrs : List Attr) (closed : HeldScope) → Shrinks (function_with inner exts words d attrs closed room)
+  function_shrinks : (exts : List ℕ) (words : SpecWords) (d : Declr) (attrs : List Attr) (closed : HeldScope)
+      → Shrinks (function_with inner exts words d attrs closed room)
   unfolding function_with
   function_shrinks exts words d attrs closed s ts x e =
       let a = bind_ok e in
       omega (arith, block_body_shrinks [] none_tokens n inner laws (room - 1) _ _ _ a.1, left_is a.2)
 
-  function_good : (exts : List ℕ) (words : SpecWords) (d : Declr) (attrs : List Attr) (closed : HeldScope) (s : HeldScopes) (ts : List Lexeme) → is_open_brace (kind_at ts) ≡ true →
+  function_good : (exts : List ℕ) (words : SpecWords) (d : Declr) (attrs : List Attr) (closed : HeldScope) (s : HeldScopes) (ts : List Lexeme)
+      → is_open_brace (kind_at ts) ≡ true →
       Good false (function_with inner exts words d attrs closed room) any s ts
   unfolding function_with
   function_good exts words d attrs closed s ts is =
       good_weaker false (in_scope (λ s. closed) (block_body inner (room - 1)) (function_of exts words d attrs)) any s ts
       (own_good (λ s. closed) (block_body inner (room - 1)) (function_of exts words d attrs) any s ts (block_body_good n inner laws places (room - 1) (omega (arith, less)) (closed ∷ s) ts (open_brace_end (kind_at ts) is)))
 
-  function_ready : (exts : List ℕ) (words : SpecWords) (d : Declr) (attrs : List Attr) (closed : HeldScope) (s : HeldScopes) (at : ℕ) → Ready false (function_with inner exts words d attrs closed room) is_open_brace any s at
+  function_ready : (exts : List ℕ) (words : SpecWords) (d : Declr) (attrs : List Attr) (closed : HeldScope) (s : HeldScopes) (at : ℕ)
+      → Ready false (function_with inner exts words d attrs closed room) is_open_brace any s at
   unfolding function_with
   function_ready exts words d attrs closed s at =
       ready_weaker false (in_scope (λ s. closed) (block_body inner (room - 1)) (function_of exts words d attrs)) is_open_brace any s at
@@ -144,11 +155,13 @@ module _ (n : ℕ) (inner : Inner) (laws : Laws [] n inner) (places : InnerLaws 
   goes_on exts words d attrs s ts =
       if goes_on_declared (kind_at ts) then fits (2 + declr_height d) room ts (declared_with exts words (attrs_behind inner d attrs (room - 1)) s ts) else refuses Unexpected ts
 
-  goes_on_shrinks : (exts : List ℕ) (words : SpecWords) (d : Declr) (attrs : List Attr) → Shrinks (goes_on exts words d attrs)
+  goes_on_shrinks : (exts : List ℕ) (words : SpecWords) (d : Declr) (attrs : List Attr)
+      → Shrinks (goes_on exts words d attrs)
   goes_on_shrinks exts words d attrs s ts x e =
       if_ok (goes_on_declared (kind_at ts)) e (λ is e. declared_shrinks exts words (attrs_behind inner d attrs (room - 1)) (attrs_first_falls d attrs) s ts x (fits_ok (2 + declr_height d) room ts e).1) (λ is e. absurd cc)
 
-  function_or_not_law : (exts : List ℕ) (words : SpecWords) (d : Declr) (attrs : List Attr) (closed : HeldScope) → Law false (function_or_not inner exts words d attrs closed room) is_open_brace any
+  function_or_not_law : (exts : List ℕ) (words : SpecWords) (d : Declr) (attrs : List Attr) (closed : HeldScope)
+      → Law false (function_or_not inner exts words d attrs closed room) is_open_brace any
   unfolding function_or_not
   function_or_not_law exts words d attrs closed = record {
     good = λ s ts.
@@ -162,7 +175,8 @@ module _ (n : ℕ) (inner : Inner) (laws : Laws [] n inner) (places : InnerLaws 
         ready_as false (function_with inner exts words d attrs closed room) (function_or_not inner exts words d attrs closed room) is_open_brace any s at (λ k h. rw h refl) (function_ready exts words d attrs closed s at);
   }
 
-  function_or_not_shrinks : (exts : List ℕ) (words : SpecWords) (d : Declr) (attrs : List Attr) (closed : HeldScope) → Shrinks (function_or_not inner exts words d attrs closed room)
+  function_or_not_shrinks : (exts : List ℕ) (words : SpecWords) (d : Declr) (attrs : List Attr) (closed : HeldScope)
+      → Shrinks (function_or_not inner exts words d attrs closed room)
   unfolding function_or_not
   function_or_not_shrinks exts words d attrs closed s ts x e =
       if_ok (is_open_brace (kind_at ts)) e (λ is e. function_shrinks exts words d attrs closed s ts x e) (λ is e. goes_on_shrinks exts words d attrs s ts x e)
@@ -170,18 +184,21 @@ module _ (n : ℕ) (inner : Inner) (laws : Laws [] n inner) (places : InnerLaws 
   abbrev attrs_then : List ℕ → SpecWords → Declr → HeldScope → Reader Item
   attrs_then exts words d closed = behind (attrs_at room) (λ attrs. function_or_not inner exts words d attrs closed room)
 
-  attrs_then_law : (exts : List ℕ) (words : SpecWords) (d : Declr) (closed : HeldScope) → Law false (attrs_then exts words d closed) is_open_brace any
+  attrs_then_law : (exts : List ℕ) (words : SpecWords) (d : Declr) (closed : HeldScope)
+      → Law false (attrs_then exts words d closed) is_open_brace any
   attrs_then_law exts words d closed =
       bind_law false (attrs_at room) (λ attrs. function_or_not inner exts words d attrs closed room) is_open_brace is_open_brace any (attrs_law false room is_open_brace is_open_brace ((λ kind h. h), brace_attribute))
       (λ attrs. function_or_not_law exts words d attrs closed) (inl (λ attrs s ts y e. function_or_not_shrinks exts words d attrs closed s ts y e))
 
-  attrs_then_shrinks : (exts : List ℕ) (words : SpecWords) (d : Declr) (closed : HeldScope) → Shrinks (attrs_then exts words d closed)
+  attrs_then_shrinks : (exts : List ℕ) (words : SpecWords) (d : Declr) (closed : HeldScope)
+      → Shrinks (attrs_then exts words d closed)
   attrs_then_shrinks exts words d closed s ts x e =
       let a = bind_ok e in
       omega (arith, none_tokens.attrs_falls room _ _ _ a.1, function_or_not_shrinks exts words d a.0.tree closed _ _ _ a.2)
 
   -- behind a first declarator
-  behind_declr_law : (exts : List ℕ) (words : SpecWords) (d : Declr) (closed : Option HeldScope) → Law false (behind_declr inner exts words d closed room) stops_named any
+  behind_declr_law : (exts : List ℕ) (words : SpecWords) (d : Declr) (closed : Option HeldScope)
+      → Law false (behind_declr inner exts words d closed room) stops_named any
   unfolding behind_function
   behind_declr_law exts words d None = record {
     good = λ s ts. declared_good exts words (plain_first d) (plain_law d) s ts;
@@ -198,13 +215,15 @@ module _ (n : ℕ) (inner : Inner) (laws : Laws [] n inner) (places : InnerLaws 
         (ready_as false (attrs_then exts words d closed) (behind_function inner exts words d closed room) is_open_brace any s at (λ k h. rw (brace_asm (kind_at k) h) refl) ((attrs_then_law exts words d closed).ready s at));
   }
 
-  behind_declr_shrinks : (exts : List ℕ) (words : SpecWords) (d : Declr) (closed : Option HeldScope) → Shrinks (behind_declr inner exts words d closed room)
+  behind_declr_shrinks : (exts : List ℕ) (words : SpecWords) (d : Declr) (closed : Option HeldScope)
+      → Shrinks (behind_declr inner exts words d closed room)
   unfolding behind_function
   behind_declr_shrinks exts words d None s ts x e = declared_shrinks exts words (plain_first d) (plain_falls d) s ts x e
   behind_declr_shrinks exts words d (Some closed) s ts x e =
       if_ok (is_asm (kind_at ts)) e (λ is e. declared_shrinks exts words (plain_first d) (plain_falls d) s ts x (fits_ok (2 + declr_height d) room ts e).1) (λ is e. attrs_then_shrinks exts words d closed s ts x e)
 
-  -- Functions with a list of identifiers: declarations in the scope of the parameters, then the block, in which the function's name is
+  -- Functions with a list of identifiers: declarations in the scope of the parameters, then the block, in which the
+  -- function's name is
   -- declared. `{ }` completes them.
 
   not_open : (kind : TokenKind) → is_open_brace kind ≡ true → not (is_open_brace kind) ≡ false
@@ -256,26 +275,30 @@ module _ (n : ℕ) (inner : Inner) (laws : Laws [] n inner) (places : InnerLaws 
   abbrev old_body : List ℕ → SpecWords → Declr → List Attr → Olds → Reader Item
   old_body exts words d attrs o s ts = old_block exts words d attrs o (release Value s) ts
 
-  old_block_shrinks : (exts : List ℕ) (words : SpecWords) (d : Declr) (attrs : List Attr) (o : Olds) → Shrinks (old_block exts words d attrs o)
+  old_block_shrinks : (exts : List ℕ) (words : SpecWords) (d : Declr) (attrs : List Attr) (o : Olds)
+      → Shrinks (old_block exts words d attrs o)
   old_block_shrinks exts words d attrs o s ts x e =
       let a = bind_ok e in
       omega (arith, block_body_shrinks [] none_tokens n inner laws (room - 1) _ _ _ a.1, left_is a.2)
 
-  old_body_good : (exts : List ℕ) (words : SpecWords) (d : Declr) (attrs : List Attr) (o : Olds) (s : HeldScopes) (ts : List Lexeme) → is_open_brace (kind_at ts) ≡ true → Good false (old_body exts words d attrs o) any s ts
+  old_body_good : (exts : List ℕ) (words : SpecWords) (d : Declr) (attrs : List Attr) (o : Olds) (s : HeldScopes) (ts : List Lexeme)
+      → is_open_brace (kind_at ts) ≡ true → Good false (old_body exts words d attrs o) any s ts
   old_body_good exts words d attrs o s ts is =
       good_from false (old_block exts words d attrs o) (release Value) any s ts (release_kept Value s)
       (good_weaker false (old_block exts words d attrs o) any (release Value s) ts
       (own_good (λ s. o.closed) (block_body inner (room - 1)) (old_made exts words d attrs o) any (release Value s) ts
       (block_body_good n inner laws places (room - 1) (omega (arith, less)) (o.closed ∷ release Value s) ts (open_brace_end (kind_at ts) is))))
 
-  old_body_ready : (exts : List ℕ) (words : SpecWords) (d : Declr) (attrs : List Attr) (o : Olds) (s : HeldScopes) (at : ℕ) → Ready false (old_body exts words d attrs o) is_open_brace any s at
+  old_body_ready : (exts : List ℕ) (words : SpecWords) (d : Declr) (attrs : List Attr) (o : Olds) (s : HeldScopes) (at : ℕ)
+      → Ready false (old_body exts words d attrs o) is_open_brace any s at
   old_body_ready exts words d attrs o s at =
       ready_from false (old_block exts words d attrs o) (release Value) is_open_brace any s at (release_kept Value s)
       (ready_weaker false (old_block exts words d attrs o) is_open_brace any (release Value s) at
       (own_ready (λ s. o.closed) (block_body inner (room - 1)) (old_made exts words d attrs o) is_open_brace any (release Value s) at (block_body_ready n inner laws places (room - 1) (omega (arith, less)) (o.closed ∷ release Value s) at)))
 
   -- the declarations end at a brace alone
-  olds_open : (s : HeldScopes) (ts : List Lexeme) (x : Found Olds) → olds s ts ≡ done x → is_open_brace (kind_at x.rest) ≡ true
+  olds_open : (s : HeldScopes) (ts : List Lexeme) (x : Found Olds) → olds s ts ≡ done x
+      → is_open_brace (kind_at x.rest) ≡ true
   unfolding repeated
   olds_open s ts x e =
       let a = bind_ok e in
@@ -283,7 +306,8 @@ module _ (n : ℕ) (inner : Inner) (laws : Laws [] n inner) (places : InnerLaws 
       (row_turn_shrinks (λ kind. not (is_open_brace kind)) (old_declaration inner (room - 1)) (old_declaration_shrinks [] none_tokens n inner laws (room - 1))) [] (enter s) ts a.0 a.1 in
       subst (λ (x : Found Olds). is_open_brace (kind_at x.rest) ≡ true) (ok_is a.2) (by_test (kind_at a.0.rest) _ (is_open_brace (kind_at a.0.rest)) refl none)
     where
-      by_test : {A : Type 0} (k : TokenKind) (y : A) (b : Bool) → is_open_brace k ≡ b → (if not b then Some y else None) ≡ None → is_open_brace k ≡ true
+      by_test : {A : Type 0} (k : TokenKind) (y : A) (b : Bool) → is_open_brace k ≡ b
+          → (if not b then Some y else None) ≡ None → is_open_brace k ≡ true
       by_test k y true is e = is
       by_test k y false is e = absurd cc
 
@@ -296,14 +320,16 @@ module _ (n : ℕ) (inner : Inner) (laws : Laws [] n inner) (places : InnerLaws 
       let less : length a.0.rest ≤ length ts = repeated_falls (λ kind. not (is_open_brace kind)) (old_declaration inner (room - 1)) (old_declaration_shrinks [] none_tokens n inner laws (room - 1)) (enter s) ts a.0 a.1 in
       omega (arith, less, left_is a.2)
 
-  old_rest_shrinks : (exts : List ℕ) (words : SpecWords) (d : Declr) (attrs : List Attr) → Shrinks (old_rest exts words d attrs)
+  old_rest_shrinks : (exts : List ℕ) (words : SpecWords) (d : Declr) (attrs : List Attr)
+      → Shrinks (old_rest exts words d attrs)
   old_rest_shrinks exts words d attrs = falls_shrinks olds (old_body exts words d attrs) olds_falls (λ o s ts x e. old_block_shrinks exts words d attrs o (release Value s) ts x e)
 
   abbrev old_all : List ℕ → SpecWords → Declr → Reader Item
   old_all exts words d = behind (attrs_at room) (old_rest exts words d)
 
   -- the reader of such functions, written as one of declarations with their scope, and one of the block
-  old_is : (exts : List ℕ) (words : SpecWords) (d : Declr) (s : HeldScopes) (k : List Lexeme) → old_function_with inner exts words d room s k ≡ old_all exts words d s k
+  old_is : (exts : List ℕ) (words : SpecWords) (d : Declr) (s : HeldScopes) (k : List Lexeme)
+      → old_function_with inner exts words d room s k ≡ old_all exts words d s k
   unfolding old_function_with and_then
   old_is exts words d s k = by_attrs (attrs_at room s k)
     where
@@ -322,7 +348,8 @@ module _ (n : ℕ) (inner : Inner) (laws : Laws [] n inner) (places : InnerLaws 
       by_attrs (Ok attrs) = by_declarations attrs.tree (declarations (enter attrs.scopes) attrs.rest)
       by_attrs (Err e) = refl
 
-  old_law : (exts : List ℕ) (words : SpecWords) (d : Declr) → Law false (old_function_with inner exts words d room) is_open_brace any
+  old_law : (exts : List ℕ) (words : SpecWords) (d : Declr)
+      → Law false (old_function_with inner exts words d room) is_open_brace any
   old_law exts words d = record {
     good = λ s ts. good_as false (old_all exts words d) (old_function_with inner exts words d room) any s ts (λ k e. old_is exts words d s k) (inr (λ k e. old_is exts words d s k)) (all_law.good s ts);
     ready = λ s at. ready_as false (old_all exts words d) (old_function_with inner exts words d room) is_open_brace any s at (λ k h. old_is exts words d s k) (all_law.ready s at);
@@ -351,7 +378,8 @@ module _ (n : ℕ) (inner : Inner) (laws : Laws [] n inner) (places : InnerLaws 
   abbrev released_rest : List ℕ → SpecWords → Option HeldScope → Declr → Reader Item
   released_rest exts words closed d s ts = behind_declr inner exts words d closed room (release Value s) ts
 
-  released_law : (exts : List ℕ) (words : SpecWords) (closed : Option HeldScope) (d : Declr) → Law false (released_rest exts words closed d) stops_named any
+  released_law : (exts : List ℕ) (words : SpecWords) (closed : Option HeldScope) (d : Declr)
+      → Law false (released_rest exts words closed d) stops_named any
   released_law exts words closed d = record {
     good = λ s ts. good_from false (behind_declr inner exts words d closed room) (release Value) any s ts (release_kept Value s) ((behind_declr_law exts words d closed).good (release Value s) ts);
     ready = λ s at. ready_from false (behind_declr inner exts words d closed room) (release Value) stops_named any s at (release_kept Value s) ((behind_declr_law exts words d closed).ready (release Value s) at);
@@ -360,11 +388,13 @@ module _ (n : ℕ) (inner : Inner) (laws : Laws [] n inner) (places : InnerLaws 
   abbrev known_rest : List ℕ → SpecWords → Option HeldScope → Declr → Reader Item
   known_rest exts words closed d s ts = if lists_identifiers d then old_function_with inner exts words d room s ts else released_rest exts words closed d s ts
 
-  known_shrinks : (exts : List ℕ) (words : SpecWords) (closed : Option HeldScope) (d : Declr) → Shrinks (known_rest exts words closed d)
+  known_shrinks : (exts : List ℕ) (words : SpecWords) (closed : Option HeldScope) (d : Declr)
+      → Shrinks (known_rest exts words closed d)
   known_shrinks exts words closed d s ts x e =
       if_ok (lists_identifiers d) e (λ is e. old_shrinks exts words d s ts x e) (λ is e. behind_declr_shrinks exts words d closed (release Value s) ts x e)
 
-  known_law : (exts : List ℕ) (words : SpecWords) (closed : Option HeldScope) (d : Declr) → Law false (known_rest exts words closed d) stops_named any
+  known_law : (exts : List ℕ) (words : SpecWords) (closed : Option HeldScope) (d : Declr)
+      → Law false (known_rest exts words closed d) stops_named any
   known_law exts words closed d = by_list (lists_identifiers d) refl
     where
       by_list : (b : Bool) → lists_identifiers d ≡ b → Law false (known_rest exts words closed d) stops_named any
@@ -382,12 +412,14 @@ module _ (n : ℕ) (inner : Inner) (laws : Laws [] n inner) (places : InnerLaws 
   abbrev declr_rest : List ℕ → SpecWords → Declared → Reader Item
   declr_rest exts words d = behind (present d.declr) (known_rest exts words d.closed)
 
-  declr_rest_good : (exts : List ℕ) (words : SpecWords) (d : SomeDeclr) (closed : Option HeldScope) (s : HeldScopes) (ts : List Lexeme) → Good false (declr_rest exts words (record { declr = d; closed = closed })) any s ts
+  declr_rest_good : (exts : List ℕ) (words : SpecWords) (d : SomeDeclr) (closed : Option HeldScope) (s : HeldScopes) (ts : List Lexeme)
+      → Good false (declr_rest exts words (record { declr = d; closed = closed })) any s ts
   unfolding and_then
   declr_rest_good exts words no_declr closed s ts = refused_here false (declr_rest exts words (record { declr = no_declr; closed = closed })) any s ts Unexpected (λ k e. refl)
   declr_rest_good exts words (some_declr d) closed s ts = (known_law exts words closed d).good s ts
 
-  declr_rest_ready : (exts : List ℕ) (words : SpecWords) (d : SomeDeclr) (closed : Option HeldScope) (it : Declr) → d ≡ some_declr it → (s : HeldScopes) (at : ℕ) →
+  declr_rest_ready : (exts : List ℕ) (words : SpecWords) (d : SomeDeclr) (closed : Option HeldScope) (it : Declr)
+      → d ≡ some_declr it → (s : HeldScopes) (at : ℕ) →
       Ready false (declr_rest exts words (record { declr = d; closed = closed })) stops_named any s at
   unfolding and_then
   declr_rest_ready exts words no_declr closed it e s at = absurd cc
@@ -401,10 +433,12 @@ module _ (n : ℕ) (inner : Inner) (laws : Laws [] n inner) (places : InnerLaws 
       let less : length x.rest < length a.0.rest = known_shrinks exts words d.closed a.0.tree a.0.scopes a.0.rest x a.2 in
       omega (arith, same, less)
 
-  there : (s : HeldScopes) (ts : List Lexeme) (x : Found Declared) → inner.declr Named (Some Value) true (room - 2) s ts ≡ done x → (d : Declr) × (x.tree.declr ≡ some_declr d)
+  there : (s : HeldScopes) (ts : List Lexeme) (x : Found Declared)
+      → inner.declr Named (Some Value) true (room - 2) s ts ≡ done x → (d : Declr) × (x.tree.declr ≡ some_declr d)
   there s ts x e = places.declrs.there Named (Some Value) true (room - 2) s ts x e (laws.declrs.shrinks (Some Value) true (room - 2) s ts x e)
 
-  first_declr_good : (exts : List ℕ) (words : SpecWords) (s : HeldScopes) (ts : List Lexeme) → Good false (first_declr inner exts words room) any s ts
+  first_declr_good : (exts : List ℕ) (words : SpecWords) (s : HeldScopes) (ts : List Lexeme)
+      → Good false (first_declr inner exts words room) any s ts
   unfolding first_declr
   first_declr_good exts words s ts =
       bind_good false (inner.declr Named (Some Value) true (room - 2)) (declr_rest exts words) stops_named any s ts
@@ -414,7 +448,8 @@ module _ (n : ℕ) (inner : Inner) (laws : Laws [] n inner) (places : InnerLaws 
       (places.declrs.good Named (Some Value) true (room - 2) (omega (arith, less, high)) s ts) (λ x is. declr_rest_good exts words x.tree.declr x.tree.closed x.scopes x.rest)
       (inl (λ x y is e. declr_rest_shrinks exts words x.tree x.scopes x.rest y e))
 
-  first_declr_ready : (exts : List ℕ) (words : SpecWords) (s : HeldScopes) (at : ℕ) → Ready false (first_declr inner exts words room) is_name_kind any s at
+  first_declr_ready : (exts : List ℕ) (words : SpecWords) (s : HeldScopes) (at : ℕ)
+      → Ready false (first_declr inner exts words room) is_name_kind any s at
   unfolding first_declr
   first_declr_ready exts words s at =
       ready_bind false (inner.declr Named (Some Value) true (room - 2)) (declr_rest exts words) is_name_kind stops_named any s at
@@ -449,14 +484,17 @@ module _ (n : ℕ) (inner : Inner) (laws : Laws [] n inner) (places : InnerLaws 
   item_rest exts words s ts = if has_auto words then whole_declaration exts words s ts else plain_item exts words s ts
 
   -- at a semicolon this is the declaration itself
-  bare_is : (exts : List ℕ) (words : SpecWords) (s : HeldScopes) (k : List Lexeme) → has_auto words ≡ false → is_semicolon (kind_at k) ≡ true → plain_item exts words s k ≡ whole_declaration exts words s k
+  bare_is : (exts : List ℕ) (words : SpecWords) (s : HeldScopes) (k : List Lexeme) → has_auto words ≡ false
+      → is_semicolon (kind_at k) ≡ true → plain_item exts words s k ≡ whole_declaration exts words s k
   unfolding declaration_behind
   bare_is exts words s k off h = rw (off, h) refl
 
   plain_item_shrinks : (exts : List ℕ) (words : SpecWords) → has_auto words ≡ false → Shrinks (plain_item exts words)
   plain_item_shrinks exts words off s ts x e = by_semi (is_semicolon (kind_at ts)) refl
     where
-      by_typedef : (b : Bool) → (if b then whole_declaration exts words s ts else first_declr inner exts words room s ts) ≡ done x → length x.rest < length ts
+      by_typedef : (b : Bool)
+          → (if b then whole_declaration exts words s ts else first_declr inner exts words room s ts) ≡ done x
+          → length x.rest < length ts
       by_typedef true e = whole_shrinks exts words s ts x e
       by_typedef false e = first_declr_shrinks exts words s ts x e
 
@@ -467,17 +505,21 @@ module _ (n : ℕ) (inner : Inner) (laws : Laws [] n inner) (places : InnerLaws 
   item_rest_shrinks : (exts : List ℕ) (words : SpecWords) → Shrinks (item_rest exts words)
   item_rest_shrinks exts words s ts x e = if_ok (has_auto words) e (λ is e. whole_shrinks exts words s ts x e) (λ off e. plain_item_shrinks exts words off s ts x e)
 
-  whole_good : (exts : List ℕ) (words : SpecWords) → AutoRoom n inner laws places words room → (s : HeldScopes) (ts : List Lexeme) → Good false (whole_declaration exts words) any s ts
+  whole_good : (exts : List ℕ) (words : SpecWords) → AutoRoom n inner laws places words room
+      → (s : HeldScopes) (ts : List Lexeme) → Good false (whole_declaration exts words) any s ts
   whole_good exts words auto s ts = mapped_good false (declaration_behind inner exts words room) of_declaration any s ts (declaration_behind_good n inner laws places exts words room less auto s ts)
 
-  whole_ready : (exts : List ℕ) (words : SpecWords) → AutoRoom n inner laws places words room → (s : HeldScopes) (at : ℕ) → Ready false (whole_declaration exts words) (behind_of words) any s at
+  whole_ready : (exts : List ℕ) (words : SpecWords) → AutoRoom n inner laws places words room
+      → (s : HeldScopes) (at : ℕ) → Ready false (whole_declaration exts words) (behind_of words) any s at
   whole_ready exts words auto s at =
       mapped_ready false (declaration_behind inner exts words room) of_declaration (behind_of words) any s at (declaration_behind_ready n inner laws places exts words room less auto (inl (omega (arith, high))) s at)
 
-  plain_item_good : (exts : List ℕ) (words : SpecWords) → AutoRoom n inner laws places words room → has_auto words ≡ false → (s : HeldScopes) (ts : List Lexeme) → Good false (plain_item exts words) any s ts
+  plain_item_good : (exts : List ℕ) (words : SpecWords) → AutoRoom n inner laws places words room
+      → has_auto words ≡ false → (s : HeldScopes) (ts : List Lexeme) → Good false (plain_item exts words) any s ts
   plain_item_good exts words auto plain s ts = by_semi (is_semicolon (kind_at ts)) refl
     where
-      by_typedef : is_semicolon (kind_at ts) ≡ false → (b : Bool) → has_typedef_word (storage_words words) ≡ b → Good false (plain_item exts words) any s ts
+      by_typedef : is_semicolon (kind_at ts) ≡ false → (b : Bool) → has_typedef_word (storage_words words) ≡ b
+          → Good false (plain_item exts words) any s ts
       by_typedef off true is =
           good_choice false (whole_declaration exts words) (plain_item exts words) any s ts (λ k e. rw (kind_same k ts e, off, is) refl) (plain_item_shrinks exts words plain) (whole_good exts words auto s ts)
       by_typedef off false is =
@@ -489,30 +531,37 @@ module _ (n : ℕ) (inner : Inner) (laws : Laws [] n inner) (places : InnerLaws 
           (whole_good exts words auto s ts)
       by_semi false off = by_typedef off (has_typedef_word (storage_words words)) refl
 
-  item_rest_good : (exts : List ℕ) (words : SpecWords) → AutoRoom n inner laws places words room → (s : HeldScopes) (ts : List Lexeme) → Good false (item_rest exts words) any s ts
+  item_rest_good : (exts : List ℕ) (words : SpecWords) → AutoRoom n inner laws places words room
+      → (s : HeldScopes) (ts : List Lexeme) → Good false (item_rest exts words) any s ts
   item_rest_good exts words auto s ts = by_auto (has_auto words) refl
     where
       by_auto : (b : Bool) → has_auto words ≡ b → Good false (item_rest exts words) any s ts
       by_auto true is = good_as false (whole_declaration exts words) (item_rest exts words) any s ts (λ k e. rw is refl) (inr (λ k e. rw is refl)) (whole_good exts words auto s ts)
       by_auto false is = good_as false (plain_item exts words) (item_rest exts words) any s ts (λ k e. rw is refl) (inr (λ k e. rw is refl)) (plain_item_good exts words auto is s ts)
 
-  plain_item_ready : (exts : List ℕ) (words : SpecWords) → AutoRoom n inner laws places words room → has_auto words ≡ false → (s : HeldScopes) (at : ℕ) → Ready false (plain_item exts words) (behind_of words) any s at
+  plain_item_ready : (exts : List ℕ) (words : SpecWords) → AutoRoom n inner laws places words room
+      → has_auto words ≡ false → (s : HeldScopes) (at : ℕ)
+      → Ready false (plain_item exts words) (behind_of words) any s at
   plain_item_ready exts words auto plain s at = by_typedef (has_typedef_word (storage_words words)) refl
     where
-      typedef_is : has_typedef_word (storage_words words) ≡ true → (k : List Lexeme) → plain_item exts words s k ≡ whole_declaration exts words s k
+      typedef_is : has_typedef_word (storage_words words) ≡ true → (k : List Lexeme)
+          → plain_item exts words s k ≡ whole_declaration exts words s k
       typedef_is is k = by_semi (is_semicolon (kind_at k)) refl
         where
-          by_semi : (b : Bool) → is_semicolon (kind_at k) ≡ b → plain_item exts words s k ≡ whole_declaration exts words s k
+          by_semi : (b : Bool) → is_semicolon (kind_at k) ≡ b
+              → plain_item exts words s k ≡ whole_declaration exts words s k
           by_semi true h = bare_is exts words s k plain h
           by_semi false h = rw (h, is) refl
 
-      by_typedef : (b : Bool) → has_typedef_word (storage_words words) ≡ b → Ready false (plain_item exts words) (behind_of words) any s at
+      by_typedef : (b : Bool) → has_typedef_word (storage_words words) ≡ b
+          → Ready false (plain_item exts words) (behind_of words) any s at
       by_typedef true is = ready_as false (whole_declaration exts words) (plain_item exts words) (behind_of words) any s at (λ k h. typedef_is is k) (whole_ready exts words auto s at)
       by_typedef false is =
           ready_before false (plain_item exts words) is_name_kind (behind_of words) any any s at (λ kind h. h) (λ kind h. plain_behind_of words plain kind (name_words kind h))
           (ready_as false (first_declr inner exts words room) (plain_item exts words) is_name_kind any s at (λ k h. rw (name_semi (kind_at k) h, is) refl) (first_declr_ready exts words s at))
 
-  item_rest_ready : (exts : List ℕ) (words : SpecWords) → AutoRoom n inner laws places words room → (s : HeldScopes) (at : ℕ) → Ready false (item_rest exts words) (behind_of words) any s at
+  item_rest_ready : (exts : List ℕ) (words : SpecWords) → AutoRoom n inner laws places words room
+      → (s : HeldScopes) (at : ℕ) → Ready false (item_rest exts words) (behind_of words) any s at
   item_rest_ready exts words auto s at = by_auto (has_auto words) refl
     where
       by_auto : (b : Bool) → has_auto words ≡ b → Ready false (item_rest exts words) (behind_of words) any s at
@@ -574,13 +623,15 @@ module _ (n : ℕ) (inner : Inner) (laws : Laws [] n inner) (places : InnerLaws 
       shrinks : Shrinks (item_with inner room)
       shrinks = item_shrinks [] none_tokens n inner laws room
 
-      by_assert : is_semicolon (kind_at ts) ≡ false → is_asm (kind_at ts) ≡ false → (c : Bool) → is_static_assert (kind_at ts) ≡ c → Good false (item_with inner room) any s ts
+      by_assert : is_semicolon (kind_at ts) ≡ false → is_asm (kind_at ts) ≡ false → (c : Bool)
+          → is_static_assert (kind_at ts) ≡ c → Good false (item_with inner room) any s ts
       by_assert a b true is =
           good_choice false (λ s ts. fits 1 room ts (behind assert_at (λ it. ends (decl_item (decl_assert it))) s ts)) (item_with inner room) any s ts (λ k e. rw (kind_same k ts e, a, b, is) refl) shrinks
           (fits_good false 1 room (behind assert_at (λ it. ends (decl_item (decl_assert it)))) any s ts (λ fit. mapped_good false assert_at (λ it. decl_item (decl_assert it)) any s ts ((assert_law false).good s ts)))
       by_assert a b false is = good_choice false (declared_item inner room) (item_with inner room) any s ts (λ k e. rw (kind_same k ts e, a, b, is) refl) shrinks (declared_item_good s ts)
 
-      by_asm : is_semicolon (kind_at ts) ≡ false → (b : Bool) → is_asm (kind_at ts) ≡ b → Good false (item_with inner room) any s ts
+      by_asm : is_semicolon (kind_at ts) ≡ false → (b : Bool) → is_asm (kind_at ts) ≡ b
+          → Good false (item_with inner room) any s ts
       by_asm a true is =
           good_choice false (λ s ts. fits 1 room ts (behind take_one asm_rest s ts)) (item_with inner room) any s ts (λ k e. rw (kind_same k ts e, a, is) refl) shrinks
           (fits_good false 1 room (behind take_one asm_rest) any s ts (λ fit. take_behind false asm_rest any asm_rest_law s ts (asm_end (kind_at ts) is)))

@@ -103,7 +103,8 @@ start_name kind name e = absurd cc
 
 -- A part in a scope of its own.
 
-pub own_law : {A : Type 0} (read : Reader A) (front stops : TokenKind → Bool) → Law false read front stops → Law true (in_own read) front stops
+pub own_law : {A : Type 0} (read : Reader A) (front stops : TokenKind → Bool) → Law false read front stops
+    → Law true (in_own read) front stops
 own_law read front stops l = record {
   good = λ s ts. own_good (λ s. new_scope (is_wide s)) read (λ x t. x) stops s ts (l.good (enter s) ts);
   ready = λ s at. own_ready (λ s. new_scope (is_wide s)) read (λ x t. x) front stops s at (l.ready (enter s) at);
@@ -117,7 +118,8 @@ own_falls read falls s ts x e =
     omega (arith, one, two)
 
 module _ (n : ℕ) (inner : Inner) (laws : Laws [] n inner) (places : InnerLaws n inner) where
-  value_law : (reach : Reach) (room : ℕ) → room < suc n → 2 ≤ room → (fewer : TokenKind → Bool) → ((kind : TokenKind) → fewer kind ≡ true → stops_expr reach kind ≡ true) →
+  value_law : (reach : Reach) (room : ℕ) → room < suc n → 2 ≤ room → (fewer : TokenKind → Bool)
+      → ((kind : TokenKind) → fewer kind ≡ true → stops_expr reach kind ≡ true) →
       Law false (inner.expr reach nothing (room - 1)) any fewer
   value_law reach room less two fewer h = law_weaker false (inner.expr reach nothing (room - 1)) any fewer (expr_law n inner laws places reach room less two any fewer (λ kind h. refl) h)
 
@@ -135,7 +137,8 @@ module _ (n : ℕ) (inner : Inner) (laws : Laws [] n inner) (places : InnerLaws 
   part_falls room = own_falls (inner.stmt room) (shrinks_falls (inner.stmt room) (laws.stmts.shrinks room))
 
   -- [expr], before a token that may stand behind one
-  some_expr_law : (test : TokenKind → Bool) → ((kind : TokenKind) → test kind ≡ true → stops_whole kind ≡ true) → (room : ℕ) → room < n → (keep : Bool) → Law keep (some_expr_with inner test room) any test
+  some_expr_law : (test : TokenKind → Bool) → ((kind : TokenKind) → test kind ≡ true → stops_whole kind ≡ true)
+      → (room : ℕ) → room < n → (keep : Bool) → Law keep (some_expr_with inner test room) any test
   unfolding some_expr_with
   some_expr_law test whole room less keep = record {
     good = λ s ts.
@@ -152,7 +155,8 @@ module _ (n : ℕ) (inner : Inner) (laws : Laws [] n inner) (places : InnerLaws 
       if_ok (test (kind_at ts)) e (λ is e. ends_falls no_expr s ts x e)
       (λ is e. behind_falls (inner.expr Whole nothing room) (λ e. ends (some_expr e)) (shrinks_falls (inner.expr Whole nothing room) (laws.exprs.shrinks Whole nothing room)) (λ e. ends_falls (some_expr e)) s ts x e)
 
-  case_good : (room : ℕ) → room < suc n → (s : HeldScopes) (ts : List Lexeme) → is_end (kind_at ts) ≡ false → Good true (case_with inner room) stops_stmt s ts
+  case_good : (room : ℕ) → room < suc n → (s : HeldScopes) (ts : List Lexeme) → is_end (kind_at ts) ≡ false
+      → Good true (case_with inner room) stops_stmt s ts
   unfolding case_with value_behind range_behind and_then
   case_good room less s ts known = fits_good true 2 room (behind take_one all) stops_stmt s ts (λ fit. take_behind true all stops_stmt (all_law fit) s ts known)
     where
@@ -175,14 +179,16 @@ module _ (n : ℕ) (inner : Inner) (laws : Laws [] n inner) (places : InnerLaws 
       range_last : ℕ → Expr → ℕ → Expr → ℕ → Reader Stmt
       range_last keyword first dots e colon = behind (inner.stmt (room - 1)) (λ t. ends (case_range keyword first dots e colon t))
 
-      range_last_falls : (keyword : ℕ) (first : Expr) (dots : ℕ) (e : Expr) (colon : ℕ) → Falls (range_last keyword first dots e colon)
+      range_last_falls : (keyword : ℕ) (first : Expr) (dots : ℕ) (e : Expr) (colon : ℕ)
+          → Falls (range_last keyword first dots e colon)
       range_last_falls keyword first dots e colon =
           behind_falls (inner.stmt (room - 1)) (λ t. ends (case_range keyword first dots e colon t)) (shrinks_falls (inner.stmt (room - 1)) (laws.stmts.shrinks (room - 1))) (λ t. ends_falls (case_range keyword first dots e colon t))
 
       range_rest : ℕ → Expr → ℕ → Reader Stmt
       range_rest keyword first dots = behind (inner.expr Conditional nothing (room - 1)) (λ e. behind (token_at is_colon) (range_last keyword first dots e))
 
-      range_law : 2 ≤ room → (keyword : ℕ) (first : Expr) (dots : ℕ) → Law true (range_rest keyword first dots) any stops_stmt
+      range_law : 2 ≤ room → (keyword : ℕ) (first : Expr) (dots : ℕ)
+          → Law true (range_rest keyword first dots) any stops_stmt
       range_law two keyword first dots =
           closed_law true (inner.expr Conditional nothing (room - 1)) is_colon (kinds.Punct puncts.Colon) any stops_stmt (range_last keyword first dots)
           (expr_law n inner laws places Conditional room less two any is_colon (λ kind h. refl) (λ kind h. whole_operand kind (colon_whole kind h))) refl colon_end
@@ -221,7 +227,8 @@ module _ (n : ℕ) (inner : Inner) (laws : Laws [] n inner) (places : InnerLaws 
           (expr_law n inner laws places Conditional room less two any is_colon (λ kind h. refl) (λ kind h. whole_operand kind (colon_whole kind h))) (rest_law two keyword)
           (inl (λ e s ts y eq. rest_shrinks keyword e s ts y eq))
 
-  default_good : (room : ℕ) → room < suc n → (s : HeldScopes) (ts : List Lexeme) → is_end (kind_at ts) ≡ false → Good true (default_with inner room) stops_stmt s ts
+  default_good : (room : ℕ) → room < suc n → (s : HeldScopes) (ts : List Lexeme) → is_end (kind_at ts) ≡ false
+      → Good true (default_with inner room) stops_stmt s ts
   unfolding default_with
   default_good room less s ts known = fits_good true 2 room (behind take_one all) stops_stmt s ts (λ fit. take_behind true all stops_stmt (all_law fit) s ts known)
     where
@@ -263,20 +270,24 @@ module _ (n : ℕ) (inner : Inner) (laws : Laws [] n inner) (places : InnerLaws 
       (λ is e. ends_falls no_else s ts x e)
 
   -- a condition in parentheses, and what stands behind it
-  headed_law : {A : Type 0} (room : ℕ) → room < suc n → 2 ≤ room → (stops : TokenKind → Bool) (f : ℕ → Expr → ℕ → Reader A) → ((opening : ℕ) (e : Expr) (closing : ℕ) → Law false (f opening e closing) any stops) →
+  headed_law : {A : Type 0} (room : ℕ) → room < suc n → 2 ≤ room
+      → (stops : TokenKind → Bool) (f : ℕ → Expr → ℕ → Reader A)
+      → ((opening : ℕ) (e : Expr) (closing : ℕ) → Law false (f opening e closing) any stops) →
       ((opening : ℕ) (e : Expr) (closing : ℕ) → Falls (f opening e closing)) →
       Law false (behind (token_at is_open_paren) (λ opening. behind (inner.expr Whole nothing (room - 1)) (λ e. behind (token_at is_close_paren) (f opening e)))) any stops
   headed_law room less two stops f lf falls =
       token_then false is_open_paren (kinds.Punct puncts.OpenParen) any stops (λ opening. behind (inner.expr Whole nothing (room - 1)) (λ e. behind (token_at is_close_paren) (f opening e))) refl refl open_paren_end
       (λ opening. closed_law false (inner.expr Whole nothing (room - 1)) is_close_paren (kinds.Punct puncts.CloseParen) any stops (f opening) (value_law Whole room less two is_close_paren close_paren_whole) refl close_paren_end (lf opening) (falls opening))
 
-  headed_falls : {A : Type 0} (room : ℕ) (f : ℕ → Expr → ℕ → Reader A) → ((opening : ℕ) (e : Expr) (closing : ℕ) → Falls (f opening e closing)) →
+  headed_falls : {A : Type 0} (room : ℕ) (f : ℕ → Expr → ℕ → Reader A)
+      → ((opening : ℕ) (e : Expr) (closing : ℕ) → Falls (f opening e closing)) →
       Falls (behind (token_at is_open_paren) (λ opening. behind (inner.expr Whole nothing (room - 1)) (λ e. behind (token_at is_close_paren) (f opening e))))
   headed_falls room f falls =
       behind_falls (token_at is_open_paren) (λ opening. behind (inner.expr Whole nothing (room - 1)) (λ e. behind (token_at is_close_paren) (f opening e))) (shrinks_falls (token_at is_open_paren) (token_shrinks is_open_paren))
       (λ opening. closed_falls (inner.expr Whole nothing (room - 1)) is_close_paren (f opening) (shrinks_falls (inner.expr Whole nothing (room - 1)) (laws.exprs.shrinks Whole nothing (room - 1))) (falls opening))
 
-  if_good_inside : (room : ℕ) → room < suc n → 2 ≤ room → (s : HeldScopes) (ts : List Lexeme) → is_end (kind_at ts) ≡ false → Good false (if_inside inner room) stops_stmt s ts
+  if_good_inside : (room : ℕ) → room < suc n → 2 ≤ room → (s : HeldScopes) (ts : List Lexeme)
+      → is_end (kind_at ts) ≡ false → Good false (if_inside inner room) stops_stmt s ts
   unfolding if_inside
   if_good_inside room less two s ts known = take_behind false all stops_stmt all_law s ts known
     where
@@ -297,7 +308,9 @@ module _ (n : ℕ) (inner : Inner) (laws : Laws [] n inner) (places : InnerLaws 
           (λ opening e closing. behind_falls (part_with inner (room - 1)) (rest keyword opening e closing) (part_falls (room - 1))
           (λ t. behind_falls (some_else_with inner (room - 1)) (λ other. ends (if_stmt keyword opening e closing t other)) (else_falls (room - 1)) (λ other. ends_falls (if_stmt keyword opening e closing t other))))
 
-  headed_good : (make : ℕ → ℕ → Expr → ℕ → Stmt → Stmt) (room : ℕ) → room < suc n → 2 ≤ room → (s : HeldScopes) (ts : List Lexeme) → is_end (kind_at ts) ≡ false → Good false (headed_inside inner make room) stops_stmt s ts
+  headed_good : (make : ℕ → ℕ → Expr → ℕ → Stmt → Stmt) (room : ℕ) → room < suc n → 2 ≤ room
+      → (s : HeldScopes) (ts : List Lexeme) → is_end (kind_at ts) ≡ false
+      → Good false (headed_inside inner make room) stops_stmt s ts
   unfolding headed_inside
   headed_good make room less two s ts known = take_behind false all stops_stmt all_law s ts known
     where
@@ -312,7 +325,8 @@ module _ (n : ℕ) (inner : Inner) (laws : Laws [] n inner) (places : InnerLaws 
           headed_law room less two stops_stmt (last keyword) (λ opening e closing. mapped_law false (part_with inner (room - 1)) (make keyword opening e closing) any stops_stmt (part_law room less two))
           (λ opening e closing. behind_falls (part_with inner (room - 1)) (λ t. ends (make keyword opening e closing t)) (part_falls (room - 1)) (λ t. ends_falls (make keyword opening e closing t)))
 
-  do_good : (room : ℕ) → room < suc n → 2 ≤ room → (s : HeldScopes) (ts : List Lexeme) → is_end (kind_at ts) ≡ false → Good false (do_inside inner room) stops_stmt s ts
+  do_good : (room : ℕ) → room < suc n → 2 ≤ room → (s : HeldScopes) (ts : List Lexeme) → is_end (kind_at ts) ≡ false
+      → Good false (do_inside inner room) stops_stmt s ts
   unfolding do_inside
   do_good room less two s ts known = take_behind false all stops_stmt all_law s ts known
     where
@@ -325,7 +339,8 @@ module _ (n : ℕ) (inner : Inner) (laws : Laws [] n inner) (places : InnerLaws 
       all : ℕ → Reader Stmt
       all keyword = behind (part_with inner (room - 1)) (λ t. behind (token_at is_while) (test keyword t))
 
-      last_falls : (keyword : ℕ) (t : Stmt) (keyword2 opening : ℕ) (e : Expr) (closing : ℕ) → Falls (last keyword t keyword2 opening e closing)
+      last_falls : (keyword : ℕ) (t : Stmt) (keyword2 opening : ℕ) (e : Expr) (closing : ℕ)
+          → Falls (last keyword t keyword2 opening e closing)
       last_falls keyword t keyword2 opening e closing =
           behind_falls (token_at is_semicolon) (λ semi. ends (do_stmt keyword t keyword2 opening e closing semi)) (shrinks_falls (token_at is_semicolon) (token_shrinks is_semicolon)) (λ semi. ends_falls (do_stmt keyword t keyword2 opening e closing semi))
 
@@ -340,7 +355,8 @@ module _ (n : ℕ) (inner : Inner) (laws : Laws [] n inner) (places : InnerLaws 
 
   -- What a `for` begins with.
 
-  start_value_good : (begun : Begun) (room : ℕ) → room < n → (s : HeldScopes) (ts : List Lexeme) → Good false (start_value_with inner begun room) any s ts
+  start_value_good : (begun : Begun) (room : ℕ) → room < n → (s : HeldScopes) (ts : List Lexeme)
+      → Good false (start_value_with inner begun room) any s ts
   unfolding start_value_with
   start_value_good begun room less s ts =
       bind_good false (inner.expr Whole begun room) rest is_semicolon any s ts (λ e scopes gives at. (rest_law e).ready scopes at)
@@ -362,7 +378,8 @@ module _ (n : ℕ) (inner : Inner) (laws : Laws [] n inner) (places : InnerLaws 
   abbrev declared_start : List ℕ → ℕ → Reader ForStart
   declared_start exts room = behind (declaration_with inner exts room) (λ d. ends (start_declaration d))
 
-  declared_start_good : (exts : List ℕ) (room : ℕ) → room < n → (s : HeldScopes) (ts : List Lexeme) → Good false (declared_start exts room) any s ts
+  declared_start_good : (exts : List ℕ) (room : ℕ) → room < n → (s : HeldScopes) (ts : List Lexeme)
+      → Good false (declared_start exts room) any s ts
   declared_start_good exts room less s ts = mapped_good false (declaration_with inner exts room) start_declaration any s ts (declaration_good n inner laws places exts room less s ts)
 
   declared_start_shrinks : (exts : List ℕ) (room : ℕ) → Shrinks (declared_start exts room)
@@ -371,7 +388,8 @@ module _ (n : ℕ) (inner : Inner) (laws : Laws [] n inner) (places : InnerLaws 
   abbrev start_by_specs : List ℕ → Begun → ℕ → Reader ForStart
   start_by_specs exts begun room s ts = if begins_specs s (kind_at ts) then declared_start exts room s ts else start_value_with inner begun room s ts
 
-  start_by_specs_good : (exts : List ℕ) (begun : Begun) (room : ℕ) → room < n → (s : HeldScopes) (ts : List Lexeme) → Good false (start_by_specs exts begun room) any s ts
+  start_by_specs_good : (exts : List ℕ) (begun : Begun) (room : ℕ) → room < n → (s : HeldScopes) (ts : List Lexeme)
+      → Good false (start_by_specs exts begun room) any s ts
   start_by_specs_good exts begun room less s ts =
       if_good false begins_specs (declared_start exts room) (start_value_with inner begun room) any s ts (λ is. declared_start_good exts room less s ts) (λ is. start_value_good begun room less s ts)
       (λ is. inl (λ x e. declared_start_shrinks exts room s ts x e)) (λ is. inl (λ x e. start_value_shrinks begun room s ts x e))
@@ -380,7 +398,8 @@ module _ (n : ℕ) (inner : Inner) (laws : Laws [] n inner) (places : InnerLaws 
   start_by_specs_shrinks exts begun room s ts x e =
       if_ok (begins_specs s (kind_at ts)) e (λ is e. declared_start_shrinks exts room s ts x e) (λ is e. start_value_shrinks begun room s ts x e)
 
-  extended_start_good : (room : ℕ) → room < n → (s : HeldScopes) (ts : List Lexeme) → Good false (extended_start inner room) any s ts
+  extended_start_good : (room : ℕ) → room < n → (s : HeldScopes) (ts : List Lexeme)
+      → Good false (extended_start inner room) any s ts
   unfolding extended_start
   extended_start_good room less s ts =
       bind_good false (extensions_at room) (λ exts. start_by_specs exts (extensions exts) room) is_int any s ts
@@ -422,7 +441,8 @@ module _ (n : ℕ) (inner : Inner) (laws : Laws [] n inner) (places : InnerLaws 
     ready = λ s at. record { more = kinds.Punct puncts.Semicolon ∷ []; tree = start_value no_expr at; scopes = s; keeps = kept_refl false s; begins = λ k h. refl; reads = λ k h. refl };
   }
 
-  for_good : (room : ℕ) → room < suc n → 2 ≤ room → (s : HeldScopes) (ts : List Lexeme) → is_end (kind_at ts) ≡ false → Good false (for_inside inner room) stops_stmt s ts
+  for_good : (room : ℕ) → room < suc n → 2 ≤ room → (s : HeldScopes) (ts : List Lexeme) → is_end (kind_at ts) ≡ false
+      → Good false (for_inside inner room) stops_stmt s ts
   unfolding for_inside
   for_good room less two s ts known = take_behind false all stops_stmt all_law s ts known
     where
@@ -438,7 +458,8 @@ module _ (n : ℕ) (inner : Inner) (laws : Laws [] n inner) (places : InnerLaws 
       all : ℕ → Reader Stmt
       all keyword = behind (token_at is_open_paren) (λ opening. behind (for_start_with inner (room - 1)) (tests keyword opening))
 
-      last_falls : (keyword opening : ℕ) (start : ForStart) (e : SomeExpr) (semi : ℕ) (e2 : SomeExpr) (closing : ℕ) → Falls (last keyword opening start e semi e2 closing)
+      last_falls : (keyword opening : ℕ) (start : ForStart) (e : SomeExpr) (semi : ℕ) (e2 : SomeExpr) (closing : ℕ)
+          → Falls (last keyword opening start e semi e2 closing)
       last_falls keyword opening start e semi e2 closing =
           behind_falls (part_with inner (room - 1)) (λ t. ends (for_stmt keyword opening start e semi e2 closing t)) (part_falls (room - 1)) (λ t. ends_falls (for_stmt keyword opening start e semi e2 closing t))
 
@@ -457,7 +478,8 @@ module _ (n : ℕ) (inner : Inner) (laws : Laws [] n inner) (places : InnerLaws 
 
   -- Jumps and the rest.
 
-  goto_good : (room : ℕ) → room < suc n → (s : HeldScopes) (ts : List Lexeme) → is_end (kind_at ts) ≡ false → Good true (goto_with inner room) stops_stmt s ts
+  goto_good : (room : ℕ) → room < suc n → (s : HeldScopes) (ts : List Lexeme) → is_end (kind_at ts) ≡ false
+      → Good true (goto_with inner room) stops_stmt s ts
   unfolding goto_with goto_value_with goto_name and_then
   goto_good room less s ts known = fits_good true 1 room (behind take_one all) stops_stmt s ts (λ fit. take_behind true all stops_stmt all_law s ts known)
     where
@@ -510,14 +532,16 @@ module _ (n : ℕ) (inner : Inner) (laws : Laws [] n inner) (places : InnerLaws 
             (ready_as true (label_part keyword) (all keyword) is_name_kind stops_stmt s at (λ k h. rw (second_off (is_wide s) (is_star (kind_at k)) (name_no_star (kind_at k) h)) refl) ((label_part_law keyword).ready s at));
       }
 
-  jump_good : (make : ℕ → ℕ → Stmt) (room : ℕ) (s : HeldScopes) (ts : List Lexeme) → is_end (kind_at ts) ≡ false → Good true (jump_with inner make room) stops_stmt s ts
+  jump_good : (make : ℕ → ℕ → Stmt) (room : ℕ) (s : HeldScopes) (ts : List Lexeme) → is_end (kind_at ts) ≡ false
+      → Good true (jump_with inner make room) stops_stmt s ts
   unfolding jump_with
   jump_good make room s ts known =
       fits_good true 1 room (behind take_one (λ keyword. behind (token_at is_semicolon) (λ semi. ends (make keyword semi)))) stops_stmt s ts
       (λ fit. take_behind true (λ keyword. behind (token_at is_semicolon) (λ semi. ends (make keyword semi))) stops_stmt
       (λ keyword. token_then true is_semicolon (kinds.Punct puncts.Semicolon) any stops_stmt (λ semi. ends (make keyword semi)) refl refl semicolon_end (λ semi. ends_law true (make keyword semi) any stops_stmt (λ kind h. refl))) s ts known)
 
-  return_good : (room : ℕ) → room < suc n → (s : HeldScopes) (ts : List Lexeme) → is_end (kind_at ts) ≡ false → Good true (return_with inner room) stops_stmt s ts
+  return_good : (room : ℕ) → room < suc n → (s : HeldScopes) (ts : List Lexeme) → is_end (kind_at ts) ≡ false
+      → Good true (return_with inner room) stops_stmt s ts
   unfolding return_with
   return_good room less s ts known = fits_good true 1 room (behind take_one all) stops_stmt s ts (λ fit. take_behind true all stops_stmt (all_law fit) s ts known)
     where
@@ -529,7 +553,8 @@ module _ (n : ℕ) (inner : Inner) (laws : Laws [] n inner) (places : InnerLaws 
           closed_law true (some_expr_with inner is_semicolon (room - 1)) is_semicolon (kinds.Punct puncts.Semicolon) any stops_stmt (λ e semi. ends (return_stmt keyword e semi))
           (some_expr_law is_semicolon semicolon_whole (room - 1) (omega arith) true) refl semicolon_end (λ e semi. ends_law true (return_stmt keyword e semi) any stops_stmt (λ kind h. refl)) (λ e semi. ends_falls (return_stmt keyword e semi))
 
-  asm_good : (room : ℕ) (s : HeldScopes) (ts : List Lexeme) → is_end (kind_at ts) ≡ false → Good true (asm_with inner room) stops_stmt s ts
+  asm_good : (room : ℕ) (s : HeldScopes) (ts : List Lexeme) → is_end (kind_at ts) ≡ false
+      → Good true (asm_with inner room) stops_stmt s ts
   unfolding asm_with
   asm_good room s ts known = fits_good true 1 room (behind take_one all) stops_stmt s ts (λ fit. take_behind true all stops_stmt all_law s ts known)
     where
@@ -596,14 +621,16 @@ module _ (n : ℕ) (inner : Inner) (laws : Laws [] n inner) (places : InnerLaws 
         else if names_type s name then refuses Unexpected (behind_first ts)
         else expr_stmt_with inner nothing room s ts
 
-    named_same : (t : Lexeme) → t.kind ≡ kinds.Name name → (ts : List Lexeme) (s : HeldScopes) (k : List Lexeme) → first_kind k ≡ first_kind (t ∷ ts) → named_choice s k ≡ behind take_one choice s k
+    named_same : (t : Lexeme) → t.kind ≡ kinds.Name name → (ts : List Lexeme) (s : HeldScopes) (k : List Lexeme)
+        → first_kind k ≡ first_kind (t ∷ ts) → named_choice s k ≡ behind take_one choice s k
     unfolding label_with and_then
     named_same t is ts s [] e = absurd cc
     named_same t is ts s (u ∷ us) e =
         let same : u.kind ≡ t.kind = cc in
         ap (λ (u : Lexeme). named_choice s (u ∷ us)) (ap (λ (kind : TokenKind). record { kind = kind; at = u.at }) (same ∙ is))
 
-    named_choice_good : (s : HeldScopes) (t : Lexeme) (ts : List Lexeme) → t.kind ≡ kinds.Name name → Good true named_choice stops_stmt s (t ∷ ts)
+    named_choice_good : (s : HeldScopes) (t : Lexeme) (ts : List Lexeme) → t.kind ≡ kinds.Name name
+        → Good true named_choice stops_stmt s (t ∷ ts)
     named_choice_good s t ts is =
         good_as true (behind take_one choice) named_choice stops_stmt s (t ∷ ts) (named_same t is ts s) (inl (λ x e. behind_shrinks take_one choice take_shrinks choice_falls s (t ∷ ts) x e))
         (take_behind true choice stops_stmt choice_law s (t ∷ ts) (ap is_end is))
@@ -613,7 +640,8 @@ module _ (n : ℕ) (inner : Inner) (laws : Laws [] n inner) (places : InnerLaws 
             if_ok (is_colon (kind_at k)) e (λ is e. shrinks_falls (label_rest n inner laws places room (identifier_of at name)) (label_shrinks n inner laws places room (identifier_of at name)) s k x e)
             (λ is e. shrinks_falls (other_choice at) (other_shrinks at) s k x e)
 
-  named_good : (name room : ℕ) → room < suc n → (s : HeldScopes) (ts : List Lexeme) → stmt_start (kind_at ts) ≡ starts.Name name → Good true (named_stmt inner name room) stops_stmt s ts
+  named_good : (name room : ℕ) → room < suc n → (s : HeldScopes) (ts : List Lexeme)
+      → stmt_start (kind_at ts) ≡ starts.Name name → Good true (named_stmt inner name room) stops_stmt s ts
   unfolding named_stmt
   named_good name room less s [] is = absurd cc
   named_good name room less s (t ∷ ts) is =
@@ -621,7 +649,8 @@ module _ (n : ℕ) (inner : Inner) (laws : Laws [] n inner) (places : InnerLaws 
       else if names_type s name then refuses Unexpected (behind_first ts)
       else expr_stmt_with inner nothing room s ts) stops_stmt s (t ∷ ts) (λ fit. named_choice_good name room (omega (arith, less, fit)) fit s t ts (start_name t.kind name is))
 
-  value_good : (room : ℕ) → room < suc n → (s : HeldScopes) (ts : List Lexeme) → Good true (stmt_by inner starts.Value room) stops_stmt s ts
+  value_good : (room : ℕ) → room < suc n → (s : HeldScopes) (ts : List Lexeme)
+      → Good true (stmt_by inner starts.Value room) stops_stmt s ts
   unfolding stmt_by
   value_good room less s ts =
       if_good true begins_expr (λ s ts. fits 2 room ts (expr_stmt_with inner nothing room s ts)) (λ s ts. refuses Unexpected ts) stops_stmt s ts
@@ -631,10 +660,13 @@ module _ (n : ℕ) (inner : Inner) (laws : Laws [] n inner) (places : InnerLaws 
       (λ is. inl (λ x e. expr_stmt_shrinks n inner laws places nothing room s ts x (fits_ok 2 room ts e).1)) (λ is. inl (λ x e. absurd cc))
 
   -- in a scope of its own
-  own_stmt : (read : Reader Stmt) (room : ℕ) (s : HeldScopes) (ts : List Lexeme) → (2 ≤ room → Good false read stops_stmt (enter s) ts) → Good true (λ s ts. fits 2 room ts (in_own read s ts)) stops_stmt s ts
+  own_stmt : (read : Reader Stmt) (room : ℕ) (s : HeldScopes) (ts : List Lexeme)
+      → (2 ≤ room → Good false read stops_stmt (enter s) ts)
+      → Good true (λ s ts. fits 2 room ts (in_own read s ts)) stops_stmt s ts
   own_stmt read room s ts g = fits_good true 2 room (in_own read) stops_stmt s ts (λ fit. own_good (λ s. new_scope (is_wide s)) read (λ x t. x) stops_stmt s ts (g fit))
 
-  stmt_by_good : (start : StmtStart) (room : ℕ) → room < suc n → (s : HeldScopes) (ts : List Lexeme) → stmt_start (kind_at ts) ≡ start → Good true (stmt_by inner start room) stops_stmt s ts
+  stmt_by_good : (start : StmtStart) (room : ℕ) → room < suc n → (s : HeldScopes) (ts : List Lexeme)
+      → stmt_start (kind_at ts) ≡ start → Good true (stmt_by inner start room) stops_stmt s ts
   unfolding stmt_by
   stmt_by_good starts.Block room less s ts is =
       mapped_good true (block_with inner room) (λ b. block b.opening b.items b.closing) stops_stmt s ts
@@ -658,13 +690,15 @@ module _ (n : ℕ) (inner : Inner) (laws : Laws [] n inner) (places : InnerLaws 
   stmt_by_good starts.Asm room less s ts is = asm_good room s ts (start_no_end (kind_at ts) (ap begins_stmt is))
   stmt_by_good starts.Value room less s ts is = value_good room less s ts
 
-  stmt_good : (room : ℕ) → room < suc n → (s : HeldScopes) (ts : List Lexeme) → Good true (stmt_with inner room) stops_stmt s ts
+  stmt_good : (room : ℕ) → room < suc n → (s : HeldScopes) (ts : List Lexeme)
+      → Good true (stmt_with inner room) stops_stmt s ts
   unfolding stmt_with
   stmt_good room less s ts =
       good_choice true (stmt_by inner (stmt_start (kind_at ts)) room) (stmt_with inner room) stops_stmt s ts (λ k e. ap (λ (kind : TokenKind). stmt_by inner (stmt_start kind) room s k) (kind_same k ts e))
       (stmt_shrinks [] none_tokens n inner laws room) (stmt_by_good (stmt_start (kind_at ts)) room less s ts refl)
 
-  stmt_ready : (room : ℕ) → room < suc n → 1 ≤ room → (s : HeldScopes) (at : ℕ) → Ready true (stmt_with inner room) is_semicolon stops_stmt s at
+  stmt_ready : (room : ℕ) → room < suc n → 1 ≤ room → (s : HeldScopes) (at : ℕ)
+      → Ready true (stmt_with inner room) is_semicolon stops_stmt s at
   unfolding stmt_with stmt_by and_then
   stmt_ready room less one s at = record {
     more = kinds.Punct puncts.Semicolon ∷ [];

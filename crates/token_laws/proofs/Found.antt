@@ -23,13 +23,13 @@ use Rattle.name_rules.specs.Linking.{link_of, has_earlier, faults_in}
 use Rattle.name_rules.specs.Uses.{use_at, text_type}
 use Rattle.name_rules.specs.Values.{value, points_to_function, takes, lacks_member, is_no_pointer, Shape, address, is_base_value, pick_shape, is_fresh_pick}
 use Rattle.name_rules.specs.Checks.{wants_place, is_star, call_faults}
-use Rattle.shape_steps.specs.State.{State, shape_at, value_at, is_zero_at, type_at, type_of_operand, first_operand, operands_below, first_braces}
-use Rattle.shape_steps.specs.Steps.{designated, chosen, step, expr_step}
-use Rattle.shape_steps.specs.OpFaults.{expr_op_faults, form_op_faults, init_op_faults, op_faults}
-use Rattle.shape_steps.specs.Found.{faults_found}
+use Rattle.name_rules.specs.ShapeSteps.State.{State, shape_at, value_at, is_zero_at, type_at, type_of_operand, first_operand, operands_below, first_braces}
+use Rattle.name_rules.specs.ShapeSteps.Steps.{designated, chosen, step, expr_step}
+use Rattle.name_rules.specs.ShapeSteps.OpFaults.{expr_op_faults, form_op_faults, init_op_faults, op_faults}
+use Rattle.name_rules.specs.ShapeSteps.Found.{faults_found}
 use Rattle.row_rules.specs.Starting.{Start, fresh, some_fresh, declared_start, some_declared_start, instance, use_by_role, some_use_start, use_start, some_place, is_some_pointer, is_fresh_binary, is_fresh_prefix, prefix_starts, fresh_where, Having, with_skeleton, of_function, without_skeleton, had_name}
-use Rattle.row_steps.specs.Rounds.{Rounds, naming, left, round_step}
-use Rattle.row_steps.specs.Starting.{around, naming_has, selected_among, expr_op_starts, form_op_starts, init_op_starts, spec_op_starts, declr_op_starts, op_starts, starts_found}
+use Rattle.row_rules.specs.RowSteps.Rounds.{Rounds, naming, left, round_step}
+use Rattle.row_rules.specs.RowSteps.Starting.{around, naming_has, selected_among, expr_op_starts, form_op_starts, init_op_starts, spec_op_starts, declr_op_starts, op_starts, starts_found}
 use Rattle.token_laws.specs.Ops.{op_tokens, expr_tokens, form_tokens, init_tokens}
 use Rattle.token_laws.proofs.Texts.{AllIn, AllOps}
 use Rattle.token_laws.proofs.Types.{FaultsOk, BodiesOk, faults_append, fault_ok, Sound, SomeDeclaredOk, declared_there}
@@ -62,7 +62,8 @@ module _ (S : Place → Type 0) (u : Spelling) (s : Names) where
       (fault_ok S (not (points_to_function t)) (place u token) not_function is)
       (fault_ok S (not (takes t n)) (place u token) argument_count is)
 
-  expr_at : (st : State) (op : ExprOp) → AllIn (λ n. S (place u n)) (expr_tokens op) → FaultsOk S (expr_op_faults u s st op)
+  expr_at : (st : State) (op : ExprOp) → AllIn (λ n. S (place u n)) (expr_tokens op)
+      → FaultsOk S (expr_op_faults u s st op)
   expr_at st (exprs.Name is_called token name) is = tt
   expr_at st (exprs.Number token) is = tt
   expr_at st (exprs.Char token) is = tt
@@ -91,7 +92,8 @@ module _ (S : Place → Type 0) (u : Spelling) (s : Names) where
       fault_ok S (lacks_member s.aggregates (value_at 0 st) (u.key name)) (place u member) no_member is.1.0
   expr_at st (exprs.Label token) is = tt
 
-  form_at : (st : State) (op : FormOp) → AllIn (λ n. S (place u n)) (form_tokens op) → FaultsOk S (form_op_faults u s st op)
+  form_at : (st : State) (op : FormOp) → AllIn (λ n. S (place u n)) (form_tokens op)
+      → FaultsOk S (form_op_faults u s st op)
   form_at st (forms.Cast token last) is = tt
   form_at st (forms.Sizeof token) is = tt
   form_at st (forms.StmtExpr has_value token) is = tt
@@ -108,7 +110,8 @@ module _ (S : Place → Type 0) (u : Spelling) (s : Names) where
   form_at st (forms.Choose token) is = tt
   form_at st (forms.Generic token count) is = tt
 
-  init_at : (st : State) (op : InitOp) → AllIn (λ n. S (place u n)) (init_tokens op) → FaultsOk S (init_op_faults u s st op)
+  init_at : (st : State) (op : InitOp) → AllIn (λ n. S (place u n)) (init_tokens op)
+      → FaultsOk S (init_op_faults u s st op)
   init_at st (inits.Value first last) is = tt
   init_at st inits.Begin is = tt
   init_at st inits.Rule is = tt
@@ -131,7 +134,8 @@ module _ (S : Place → Type 0) (u : Spelling) (s : Names) where
   op_at st (ops.Declr op) is = tt
   op_at st (ops.Stmt op) is = tt
 
-  pub faults_at : (st : State) (tape : List Op) → AllOps (λ n. S (place u n)) tape → FaultsOk S (faults_found u s st tape)
+  pub faults_at : (st : State) (tape : List Op) → AllOps (λ n. S (place u n)) tape
+      → FaultsOk S (faults_found u s st tape)
   faults_at st [] is = tt
   faults_at st (op ∷ tape) is =
       faults_append S (op_faults u s st op) (faults_found u s (step u s st op) tape) (op_at st op is.0)
@@ -201,7 +205,8 @@ module _ (S : Place → Type 0) (u : Spelling) (s : Names) where
   use_there r token missing is = tt
 
 module _ (S : Place → Type 0) (u : Spelling) (s : Names) (names : Sound S s) where
-  name_there : (f : Option Place) (token : ℕ) → StartsAt S (some_declared_start s f (declared_at s.declared (place u token)))
+  name_there : (f : Option Place) (token : ℕ)
+      → StartsAt S (some_declared_start s f (declared_at s.declared (place u token)))
   name_there f token =
       some_there S u s f (declared_at s.declared (place u token)) (declared_there S s.declared (place u token) names.declared)
 

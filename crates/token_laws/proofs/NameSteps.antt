@@ -21,8 +21,8 @@ use Rattle.name_rules.specs.Values.{value}
 use Rattle.name_rules.specs.Pieces.{with_words, decayed, piece_of, to_pointer, to_function, types_in}
 use Rattle.name_rules.specs.Declaring.{use_by, tag_used, tag_begun, untagged_begun, untagged_number, has_word}
 use Rattle.name_rules.specs.Identifiers.{Olds, is_unknown, old_types}
-use Rattle.name_steps.specs.State.{Specifiers, OpenBody, OpenDeclaration, OpenParameters, OpenPart, State, with_names, no_specifiers, no_declaration, no_body, no_parameters, no_part, innermost_or, with_innermost, without_innermost}
-use Rattle.name_steps.specs.Steps.{declaration, body, parameters, part_begun, part, shape_of_part, part_ended, bare_or_base, type_or, ellipsis_where, specifier_step, olds, with_olds, name_ended, name_declared, declarator_step, expression_step, statement_step, body_entered_by, is_counted, is_plain, names_step, step, run}
+use Rattle.name_rules.specs.NameSteps.State.{Specifiers, OpenBody, OpenDeclaration, OpenParameters, OpenPart, State, with_names, no_specifiers, no_declaration, no_body, no_parameters, no_part, innermost_or, with_innermost, without_innermost}
+use Rattle.name_rules.specs.NameSteps.Steps.{declaration, body, parameters, part_begun, part, shape_of_part, part_ended, bare_or_base, type_or, ellipsis_where, specifier_step, olds, with_olds, name_ended, name_declared, declarator_step, expression_step, statement_step, body_entered_by, is_counted, is_plain, names_step, step, run}
 use Rattle.token_laws.proofs.Texts.{AllIn, AllOps}
 use Rattle.token_laws.specs.Ops.{op_tokens, expr_tokens, spec_tokens, declr_tokens}
 use Rattle.token_laws.proofs.Types.{AllWords, Ok, ListOk, words_append, words_are, worded, decayed_ok, bare_ok, pieced, listed, list_append, tagged, DeclaredOk, SomeDeclaredOk, TypesNamedOk, fault_ok, Sound, NamedAt, meant, type_by_ok}

@@ -122,12 +122,14 @@ module _ {S : Place → Type 0} where
     bodies = h.bodies;
   }
 
-  pub type_named_there : (at : Place) (t : CType) → S at → Ok S t → {s : Names} → Sound S s → Sound S (type_named at t s)
+  pub type_named_there : (at : Place) (t : CType) → S at → Ok S t → {s : Names} → Sound S s
+      → Sound S (type_named at t s)
   type_named_there at t is ok h = sized_there at t is (types_there at t ok h)
 
   -- tags
 
-  new_there : (u : Spelling) (kind : TagKind) (token tag : ℕ) {s : Names} → Sound S s → Sound S (new_tag u kind token tag s)
+  new_there : (u : Spelling) (kind : TagKind) (token tag : ℕ) {s : Names} → Sound S s
+      → Sound S (new_tag u kind token tag s)
   new_there u kind token tag {s} h =
       tag_there kind (u.key tag) (length s.aggregates) (aggregate_there kind (place u token) h)
 
@@ -217,7 +219,8 @@ module _ {S : Place → Type 0} where
   either true h i = h
   either false h i = i
 
-  declared_by_there : (words : List Keyword) (at : Place) (name : ℕ) (t : CType) → S at → Ok S t → {s : Names} → Sound S s →
+  declared_by_there : (words : List Keyword) (at : Place) (name : ℕ) (t : CType) → S at → Ok S t → {s : Names}
+      → Sound S s →
       Sound S (declared_by words at name t s)
   declared_by_there words at name t is ok {s} h =
       either (has_word keywords.Typedef words) (declared_typedef_there at name t is ok h)

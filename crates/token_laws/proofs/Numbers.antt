@@ -3,7 +3,7 @@ use Rattle.std.proofs.Common.{◌≡◌, ℕ, suc, ◌<◌, Bool, true, false, L
 use Rattle.std.proofs.lemmas.Bool.{eqb-true}
 use Rattle.std.specs.Prelude.{if◌then◌else◌}
 use Rattle.c_tree.specs.declared.lexeme.Lexeme.{Lexeme}
-use Rattle.key_laws.specs.Differing.{has_number, AreNumbered}
+use Rattle.row_laws.specs.KeyLaws.Differing.{has_number, AreNumbered}
 use Rattle.token_laws.specs.Tokens.{AreCounted, CountedAreRead}
 
 no_number : (n m : ℕ) (k : List Lexeme) → n < m → AreCounted m k → has_number n k ≡ false

@@ -26,7 +26,8 @@ module _ (S : Place → Type 0) (u : Spelling) where
   olds_append [] ys h i = i
   olds_append (x ∷ xs) ys h i = (h.0, olds_append xs ys h.1 i)
 
-  pub identified_there : (token name : ℕ) (it : Olds) → S (place u token) → BothOk it → BothOk (identified u token name it)
+  pub identified_there : (token name : ℕ) (it : Olds) → S (place u token) → BothOk it
+      → BothOk (identified u token name it)
   identified_there token name it is h = record {
     list = by (has_identifier (u.key name) it.list);
     names = faults_there (fault_where (has_identifier (u.key name) it.list) (place u token) defined_twice)
@@ -53,7 +54,8 @@ module _ (S : Place → Type 0) (u : Spelling) where
   changed_there t (it ∷ its) zero ok h = (typed_there t it ok h.0, h.1)
   changed_there t (it ∷ its) (suc i) ok h = (h.0, changed_there t its i ok h.1)
 
-  old_there : (own : Option Place) (it : Named) (t : CType) (i : Option ℕ) (olds : Olds) → S (place u it.token) → Ok S t →
+  old_there : (own : Option Place) (it : Named) (t : CType) (i : Option ℕ) (olds : Olds) → S (place u it.token)
+      → Ok S t →
       BothOk olds → BothOk (old_declared u own it t i olds)
   old_there own it t None olds is ok h = record {
     list = h.list;
@@ -68,7 +70,8 @@ module _ (S : Place → Type 0) (u : Spelling) where
             (fault_ok S fails (place u it.token) defined_twice is) h.names);
       }
 
-  pub old_declared_there : (own : Option Place) (it : Option Named) (t : CType) (olds : Olds) → NamedAt S u it → Ok S t →
+  pub old_declared_there : (own : Option Place) (it : Option Named) (t : CType) (olds : Olds) → NamedAt S u it
+      → Ok S t →
       BothOk olds → BothOk (old_declared_some u own it t olds)
   old_declared_there own None t olds is ok h = h
   old_declared_there own (Some it) t olds is ok h =

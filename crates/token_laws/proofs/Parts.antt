@@ -56,7 +56,8 @@ module _ (P : ℕ → Type 0) where
   SomeAt None = Unit {0}
   SomeAt (Some tag) = P tag.token
 
-  pub tag_ops : (is_alone : Bool) (kind : TagKind) (tag : Option Identifier) → SomeAt tag → Holds P (tag_tape is_alone kind tag)
+  pub tag_ops : (is_alone : Bool) (kind : TagKind) (tag : Option Identifier) → SomeAt tag
+      → Holds P (tag_tape is_alone kind tag)
   tag_ops is_alone kind None h = empty
   tag_ops true kind (Some tag) h = one (h, tt)
   tag_ops false kind (Some tag) h = one (h, tt)
@@ -98,7 +99,8 @@ module _ {P : ℕ → Type 0} {F : Type 0} where
   tag_covers None h = h tt
   tag_covers (Some tag) h = head h
 
-  pub words_skip : (words : List Word) {xs : List Op} {t k : List Lexeme} → Covers P F xs t k → Covers P F xs (words_text words t) k
+  pub words_skip : (words : List Word) {xs : List Op} {t k : List Lexeme} → Covers P F xs t k
+      → Covers P F xs (words_text words t) k
   words_skip [] h = h
   words_skip (word ∷ words) h = skip (words_skip words h)
 
@@ -117,12 +119,14 @@ module _ {P : ℕ → Type 0} {F : Type 0} where
   extensions_skip [] h = h
   extensions_skip (token ∷ tokens) h = skip (extensions_skip tokens h)
 
-  pub texts_skip : (tokens : List ℕ) {xs : List Op} {t k : List Lexeme} → Covers P F xs t k → Covers P F xs (texts_text tokens t) k
+  pub texts_skip : (tokens : List ℕ) {xs : List Op} {t k : List Lexeme} → Covers P F xs t k
+      → Covers P F xs (texts_text tokens t) k
   texts_skip [] h = h
   texts_skip (token ∷ tokens) h = skip (texts_skip tokens h)
 
   module _ (all : List Lexeme) where
-    pub group_skip : (group : Group) {xs : List Op} {t k : List Lexeme} → Covers P F xs t k → Covers P F xs (group_text all group t) k
+    pub group_skip : (group : Group) {xs : List Op} {t k : List Lexeme} → Covers P F xs t k
+        → Covers P F xs (group_text all group t) k
     group_skip group h = skips (tokens_between all group.first group.last) h
 
     pub attrs_skip : (attrs : List Attr) {xs : List Op} {t k : List Lexeme} → Covers P F xs t k →
@@ -135,7 +139,8 @@ module _ {P : ℕ → Type 0} {F : Type 0} where
     label_skip None h = h
     label_skip (Some label) h = skip (group_skip label.group h)
 
-    pub assert_skip : (it : Assert) {xs : List Op} {t k : List Lexeme} → Covers P F xs t k → Covers P F xs (assert_text all it t) k
+    pub assert_skip : (it : Assert) {xs : List Op} {t k : List Lexeme} → Covers P F xs t k
+        → Covers P F xs (assert_text all it t) k
     assert_skip it h = skip (group_skip it.group (skip h))
 
 -- identifiers of a list

@@ -86,7 +86,8 @@ module _ (S : Span → Type 0) (w : World) where
 
   -- words of types
 
-  level_words : (is_ref_level : Bool) (ws : Words) → AllWords (AtWord S) ws → AllWords (AtWord S) (words_of_level w is_ref_level ws)
+  level_words : (is_ref_level : Bool) (ws : Words) → AllWords (AtWord S) ws
+      → AllWords (AtWord S) (words_of_level w is_ref_level ws)
   level_words true [] h = tt
   level_words false [] h = tt
   level_words true (p ∷ ps) h = by (is_reference_word w p) (level_words true ps h.1)
@@ -167,7 +168,8 @@ module _ (S : Span → Type 0) (w : World) where
   marked_stand None a is = tt
   marked_stand (Some m) a is = alone_stand S m (word_span a.word) (links_of_entry (entry_at w m) m a.variable) is
 
-  annotations_stand : (annotations : List Annotation) → Noted annotations → Stand S (annotation_constraints w annotations)
+  annotations_stand : (annotations : List Annotation) → Noted annotations
+      → Stand S (annotation_constraints w annotations)
   annotations_stand [] h = tt
   annotations_stand (a ∷ others) h =
       lists_stand S (marked w (w.mark a.word) a) (annotation_constraints w others)
@@ -289,7 +291,8 @@ module _ (S : Span → Type 0) (w : World) where
       (into_members_stand ways skeletons where_ n own is)
 
   mutual
-    formed_in_stand : (ways : Ways) (skeletons : List Numbered) (all : List Aggregate) (where_ : Span) (s : Skel) → S where_ →
+    formed_in_stand : (ways : Ways) (skeletons : List Numbered) (all : List Aggregate) (where_ : Span) (s : Skel)
+        → S where_ →
         Stand S (formed_in ways skeletons all where_ s)
     formed_in_stand ways skeletons all where_ (flat v (kinds.Struct n)) is =
         into_members_stand ways skeletons where_ v (own_of all n) is
@@ -318,7 +321,8 @@ module _ (S : Span → Type 0) (w : World) where
   pub formed_here_stand : (token : ℕ) → S (span w token token) → Stand S (formed_here w token)
   formed_here_stand token is = formed_stand (span w token token) (own w token) is
 
-  pub chosen_stand : (first last : Bool) (a b t : Skel) (where_ : Span) → S where_ → Stand S (chosen w first last a b t where_)
+  pub chosen_stand : (first last : Bool) (a b t : Skel) (where_ : Span) → S where_
+      → Stand S (chosen w first last a b t where_)
   chosen_stand first last a b t where_ is =
       none_where S (first || last) _
       (lists_stand S (formed w where_ t) (branched w a b t where_) (formed_stand where_ t is)

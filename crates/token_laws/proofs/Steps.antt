@@ -1,4 +1,5 @@
--- The constraints that are found along a tape stand at good spans, where each two tokens that the tape carries are the ends of one.
+-- The constraints that are found along a tape stand at good spans, where each two tokens that the tape carries are the
+-- ends of one.
 use Rattle.std.proofs.Common.{ℕ, zero, suc, Bool, true, false, List, [], ◌∷◌, Option, None, Some}
 use Rattle.std.specs.Prelude.{◌&&◌, drop, if◌then◌else◌}
 use Rattle.qual_base.specs.declared.places.Span.{Span}
@@ -20,19 +21,19 @@ use Rattle.flow_graph.specs.declared.constraint.Constraint.{Constraint}
 use Rattle.name_rules.specs.Checks.{is_star}
 use Rattle.name_rules.specs.Uses.{use_at}
 use Rattle.qual_types.specs.Skel.{Skel, root, param_at}
-use Rattle.shape_steps.specs.State.{declared_last}
-use Rattle.shape_steps.specs.Steps.{twice}
+use Rattle.name_rules.specs.ShapeSteps.State.{declared_last}
+use Rattle.name_rules.specs.ShapeSteps.Steps.{twice}
 use Rattle.row_rules.specs.Worlds.{World, at, all_lattices, span}
 use Rattle.row_rules.specs.Annotations.{parameters, further}
 use Rattle.row_rules.specs.Vals.{is_ref, own, is_carrying, left_of}
 use Rattle.row_rules.specs.Vals as vals
 use Rattle.row_rules.specs.Forming.{formed}
 use Rattle.row_rules.specs.Rows.{annotating_some, annotating_place, formed_here}
-use Rattle.row_steps.specs.Rounds.{naming, is_quiet}
-use Rattle.row_steps.specs.State.{Operand, expression, named_type, State, nothing, first_operand, val_of_operand, is_zero_operand, type_of_operand, val_at, value_at, is_zero_at, type_at, depth_below, operands_below, first_braces}
-use Rattle.row_steps.specs.Steps.{target_in, initialised_by, carrying, chosen, selected, expr_step, form_step, init_step, spec_step, declr_step, stmt_step, step}
-use Rattle.row_steps.specs.OpRows.{function_skeleton, naming_row, into_target, called_at, expr_row, form_row, init_row, spec_row, declr_row, stmt_row, loud_row, op_row}
-use Rattle.row_steps.specs.Found.{rows_found}
+use Rattle.row_rules.specs.RowSteps.Rounds.{naming, is_quiet}
+use Rattle.row_rules.specs.RowSteps.State.{Operand, expression, named_type, State, nothing, first_operand, val_of_operand, is_zero_operand, type_of_operand, val_at, value_at, is_zero_at, type_at, depth_below, operands_below, first_braces}
+use Rattle.row_rules.specs.RowSteps.Steps.{target_in, initialised_by, carrying, chosen, selected, expr_step, form_step, init_step, spec_step, declr_step, stmt_step, step}
+use Rattle.row_rules.specs.RowSteps.OpRows.{function_skeleton, naming_row, into_target, called_at, expr_row, form_row, init_row, spec_row, declr_row, stmt_row, loud_row, op_row}
+use Rattle.row_rules.specs.RowSteps.Found.{rows_found}
 use Rattle.token_laws.specs.Ops.{op_tokens, expr_tokens, form_tokens, init_tokens, spec_tokens, stmt_tokens}
 use Rattle.token_laws.proofs.Texts.{AllIn, AllOps}
 use Rattle.token_laws.proofs.Types.{SomeOk, Sound, named_there}
@@ -68,7 +69,8 @@ module _ (S : Span → Type 0) (A : ℕ → Type 0) (w : World) (pair : (a b : �
   below_ok : (st : State) → OperandsOk st.operands → OperandsOk (operands_below st)
   below_ok st h = fewer (depth_below st) st.operands h
 
-  type_below : (st : State) → OperandsOk st.operands → SomeOk (AtWord S) (type_of_operand (first_operand (operands_below st)))
+  type_below : (st : State) → OperandsOk st.operands
+      → SomeOk (AtWord S) (type_of_operand (first_operand (operands_below st)))
   type_below st h = type_ok (first_operand (operands_below st)) (first_ok (operands_below st) (below_ok st h))
 
   -- the operands behind an op
@@ -232,7 +234,8 @@ module _ (S : Span → Type 0) (A : ℕ → Type 0) (w : World) (pair : (a b : �
   expr_stand st (exprs.Dot token member name) is = tt
   expr_stand st (exprs.Label token) is = formed_here_stand S w token (pair token token is.0 is.0)
 
-  form_stand : (st : State) (op : FormOp) → AllIn A (form_tokens op) → OperandsOk st.operands → Stand S (form_row w st op)
+  form_stand : (st : State) (op : FormOp) → AllIn A (form_tokens op) → OperandsOk st.operands
+      → Stand S (form_row w st op)
   form_stand st (forms.Cast token last) is h =
       cast_stand S w (type_at 1 st) (is_zero_at 0 st) (value_at 0 st) (own w token) (span w token last) (type_there 1 st h)
       (pair token last is.0 is.1.0)
@@ -261,7 +264,8 @@ module _ (S : Span → Type 0) (A : ℕ → Type 0) (w : World) (pair : (a b : �
       picked_stand S w (left_of (selected w token 0 count st)) (own w token) (span w token token)
       (pair token token is.0 is.0)
 
-  init_stand : (st : State) (op : InitOp) → AllIn A (init_tokens op) → OperandsOk st.operands → Stand S (init_row w st op)
+  init_stand : (st : State) (op : InitOp) → AllIn A (init_tokens op) → OperandsOk st.operands
+      → Stand S (init_row w st op)
   init_stand st (inits.Value first last) is h =
       target_stand (initialised_by w (declared_last st.declarations)) (first_operand st.operands) (span w first last)
       (pair first last is.0 is.1.0)

@@ -31,7 +31,8 @@ pub record Gone (P : ℕ → Type 0) (F : Type 0) (tape : List Op) (k : List Lex
   pub facts : F
   pub rest : AllAt P k
 
--- Where it is so of each token of a text, it is of those that the ops of a tape carry and of those of `k`, and these are facts.
+-- Where it is so of each token of a text, it is of those that the ops of a tape carry and of those of `k`, and these
+-- are facts.
 pub record Covers (P : ℕ → Type 0) (F : Type 0) (tape : List Op) (text k : List Lexeme) : Type 0 where
   pub goes : AllAt P text → Gone P F tape k
 
@@ -70,7 +71,8 @@ module _ {P : ℕ → Type 0} where
       Covers P F xs (it ∷ t) k
   head p = record { goes = λ h. (p h.0).goes h.1 }
 
-  pub skip : {F : Type 0} {it : Lexeme} {xs : List Op} {t k : List Lexeme} → Covers P F xs t k → Covers P F xs (it ∷ t) k
+  pub skip : {F : Type 0} {it : Lexeme} {xs : List Op} {t k : List Lexeme} → Covers P F xs t k
+      → Covers P F xs (it ∷ t) k
   skip p = record { goes = λ h. p.goes h.1 }
 
   pub skips : {F : Type 0} (front : List Lexeme) {xs : List Op} {t k : List Lexeme} → Covers P F xs t k →
@@ -91,7 +93,8 @@ module _ {P : ℕ → Type 0} where
         record { ops = a.ops; facts = (a.facts, b.facts); rest = b.rest });
   }
 
-  pub past : {F G : Type 0} {xs : List Op} {t m k : List Lexeme} → Covers P F xs t m → Covers P G [] m k → Covers P F xs t k
+  pub past : {F G : Type 0} {xs : List Op} {t m k : List Lexeme} → Covers P F xs t m → Covers P G [] m k
+      → Covers P F xs t k
   past p q = so (trail p q) (λ f. f.0)
 
   -- a token behind it
@@ -101,7 +104,8 @@ module _ {P : ℕ → Type 0} where
     goes = λ h. (let a = p.goes h in record { ops = a.ops; facts = (a.facts, a.rest.0); rest = a.rest.1 });
   }
 
-  pub ends : {F : Type 0} {it : Lexeme} {xs : List Op} {t k : List Lexeme} → Covers P F xs t (it ∷ k) → Covers P F xs t k
+  pub ends : {F : Type 0} {it : Lexeme} {xs : List Op} {t k : List Lexeme} → Covers P F xs t (it ∷ k)
+      → Covers P F xs t k
   ends p = record { goes = λ h. (let a = p.goes h in record { ops = a.ops; facts = a.facts; rest = a.rest.1 }) }
 
   -- ops behind it and before it
@@ -111,10 +115,12 @@ module _ {P : ℕ → Type 0} where
     goes = λ h. (let a = p.goes h in record { ops = both a.ops (f a.facts); facts = a.facts; rest = a.rest });
   }
 
-  pub mute : {F : Type 0} {xs ys : List Op} {t k : List Lexeme} → Covers P F xs t k → Holds P ys → Covers P F (xs ++ ys) t k
+  pub mute : {F : Type 0} {xs ys : List Op} {t k : List Lexeme} → Covers P F xs t k → Holds P ys
+      → Covers P F (xs ++ ys) t k
   mute p o = put p (λ f. o)
 
-  pub set : {F : Type 0} {xs ys : List Op} {t k : List Lexeme} → Holds P xs → Covers P F ys t k → Covers P F (xs ++ ys) t k
+  pub set : {F : Type 0} {xs ys : List Op} {t k : List Lexeme} → Holds P xs → Covers P F ys t k
+      → Covers P F (xs ++ ys) t k
   set o p = record {
     goes = λ h. (let a = p.goes h in record { ops = both o a.ops; facts = a.facts; rest = a.rest });
   }

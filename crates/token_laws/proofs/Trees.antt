@@ -73,7 +73,8 @@ module _ {P : ℕ → Type 0} (all : List Lexeme) (element : (n : ℕ) → IsEle
         last = subst P it.is (at_last P it.last it.front k (subst (AllAt P) it.spelled h));
       }
 
-  with_ends : (e : Expr) → IsExpr all e → {F : Type 0} {xs : List Op} {k : List Lexeme} → Covers P F xs (expr_text all e k) k →
+  with_ends : (e : Expr) → IsExpr all e → {F : Type 0} {xs : List Op} {k : List Lexeme}
+      → Covers P F xs (expr_text all e k) k →
       Covers P (Ends P e) xs (expr_text all e k) k
   with_ends e is {k = k} p = record {
     goes = λ h. (let a = p.goes h in record { ops = a.ops; facts = ends_of e is k h; rest = a.rest });
@@ -175,13 +176,15 @@ module _ {P : ℕ → Type 0} (all : List Lexeme) (element : (n : ℕ) → IsEle
     assocs_cover no_assocs h = nothing
     assocs_cover (more_assocs x xs) h = skip (done (join (assoc_covers x h.0) (assocs_cover xs h.1)))
 
-    assoc_covers : (x : Assoc) → IsAssoc all x → {k : List Lexeme} → Covers P (Unit {0}) (assoc_tape x) (assoc_text all x k) k
+    assoc_covers : (x : Assoc) → IsAssoc all x → {k : List Lexeme}
+        → Covers P (Unit {0}) (assoc_tape x) (assoc_text all x k) k
     assoc_covers (typed_assoc ws d colon e) h =
         done (join (ends (type_name_covers ws h.0 (words_cover ws (type_words all ws h.1) false)
         (some_declr_covers d (abstract_is all d h.2)))) (expr_covers e h.3 false false))
     assoc_covers (default_assoc keyword colon e) h = skip (skip (done (set (one tt) (expr_covers e h.0 false false))))
 
-    operator_covers : (op : Operator) → IsMiddle all op → (token : ℕ) (e e2 : Expr) → {xs ys : List Op} {t m k : List Lexeme} →
+    operator_covers : (op : Operator) → IsMiddle all op → (token : ℕ) (e e2 : Expr)
+        → {xs ys : List Op} {t m k : List Lexeme} →
         Covers P (Ends P e) xs t (operator_text all op token m) → Covers P (Ends P e2) ys m k →
         Covers P (Unit {0}) (xs ++ middle_tape op ++ ys ++ operator_tape op token (first_token e) (last_token e2)) t k
     operator_covers comma h token e e2 p q = done (put (join (join (ended p) nothing) q) (λ f. one (f.0.0.1, tt)))
@@ -221,7 +224,8 @@ module _ {P : ℕ → Type 0} (all : List Lexeme) (element : (n : ℕ) → IsEle
     steps_cover no_desigs h = nothing
     steps_cover (more_desigs d ds) h = done (join (step_covers d h.0) (steps_cover ds h.1))
 
-    step_covers : (d : Desig) → IsStep all d → {k : List Lexeme} → Covers P (Unit {0}) (step_tape d) (desig_text all d k) k
+    step_covers : (d : Desig) → IsStep all d → {k : List Lexeme}
+        → Covers P (Unit {0}) (step_tape d) (desig_text all d k) k
     step_covers (member_desig before name) h = skip (head (λ is. put nothing (λ f. one (is, tt))))
     step_covers (index_desig opening e closing) h = head (λ is. done (put (ends (expr_covers e h false false)) (λ f. one (is, tt))))
     step_covers (range_desig opening e dots e2 closing) h = absurd h
@@ -274,7 +278,8 @@ module _ {P : ℕ → Type 0} (all : List Lexeme) (element : (n : ℕ) → IsEle
 
     struct_covers : (body : SomeBody) → IsBody all body →
         (is_alone : Bool) (kind : TagKind) (keyword : ℕ) (tag : Option Identifier) → P keyword → SomeAt P tag →
-        {k : List Lexeme} → Covers P (Unit {0}) (struct_tape is_alone kind keyword tag body) (some_body_text all body k) k
+        {k : List Lexeme}
+            → Covers P (Unit {0}) (struct_tape is_alone kind keyword tag body) (some_body_text all body k) k
     struct_covers no_body h is_alone kind keyword tag is it = put nothing (λ f. tag_ops P is_alone kind tag it)
     struct_covers (some_body opening items closing) h is_alone kind keyword tag is it =
         mute (set (body_ops P kind keyword tag is it) (skip (ends (struct_items_cover items h)))) (one tt)
@@ -325,7 +330,8 @@ module _ {P : ℕ → Type 0} (all : List Lexeme) (element : (n : ℕ) → IsEle
         head (λ is. so (attrs_skip all attrs (tag_covers tag (λ it. enum_body_covers body h.2 keyword tag is it)))
         (λ f. record { begins = is; unnamed = empty }))
 
-    enum_body_covers : (body : SomeEnumBody) → IsEnumBody all body → (keyword : ℕ) (tag : Option Identifier) → P keyword →
+    enum_body_covers : (body : SomeEnumBody) → IsEnumBody all body → (keyword : ℕ) (tag : Option Identifier)
+        → P keyword →
         SomeAt P tag → {k : List Lexeme} → Covers P (Unit {0}) (enum_body_tape keyword tag body) (some_enum_body_text all body k) k
     enum_body_covers no_enum_body h keyword tag is it = put nothing (λ f. tag_ops P false tags.Enum tag it)
     enum_body_covers (some_enum_body opening es last closing) h keyword tag is it =
@@ -417,7 +423,8 @@ module _ {P : ℕ → Type 0} (all : List Lexeme) (element : (n : ℕ) → IsEle
 
     -- initialisers, with the ops by which they are gone through once more
 
-    init_covers : (i : Init) → IsInit all i → {k : List Lexeme} → Covers P (Holds P (rule i)) (init_tape i) (init_text all i k) k
+    init_covers : (i : Init) → IsInit all i → {k : List Lexeme}
+        → Covers P (Holds P (rule i)) (init_tape i) (init_text all i k) k
     init_covers (init_value e) h = so (expr_covers e h.0 false false) (λ f. one (f.first, (f.last, tt)))
     init_covers (init_braced list) h = list_covers list h
 
@@ -513,7 +520,8 @@ module _ {P : ℕ → Type 0} (all : List Lexeme) (element : (n : ℕ) → IsEle
         skip (done (put (mute (set (one tt) (expr_covers e h.0 false false)) (one (is, tt))) (λ f. one (f.first, (f.last, tt)))))
     auto_init_covers semi (some_init equal (init_braced list)) is h = skip (done (as_fact (list_covers list h)))
 
-    decl_covers : (d : Decl) → IsDecl all d → {k : List Lexeme} → Covers P (Unit {0}) (decl_tape d) (decl_text all d k) k
+    decl_covers : (d : Decl) → IsDecl all d → {k : List Lexeme}
+        → Covers P (Unit {0}) (decl_tape d) (decl_text all d k) k
     decl_covers (decl_declaration d) h = declaration_covers d h
     decl_covers (decl_assert it) h = assert_skip all it nothing
 
@@ -614,7 +622,8 @@ module _ {P : ℕ → Type 0} (all : List Lexeme) (element : (n : ℕ) → IsEle
     pieces_hold : Holds P (pieces d)
     contents_hold : Holds P (old_declarations_tape ds) → Holds P (old_contents ds d)
 
-  plain_ones : (ds : List Declaration) (d : Declr) → old_contents ds d ≡ contents false d → IsDeclr all d → {k : List Lexeme} →
+  plain_ones : (ds : List Declaration) (d : Declr) → old_contents ds d ≡ contents false d → IsDeclr all d
+      → {k : List Lexeme} →
       Covers P (OldOnes ds d) [] (declr_text all d k) k
   plain_ones ds d same h =
       so (as_fact (contents_cover d h false))

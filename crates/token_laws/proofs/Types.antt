@@ -174,7 +174,8 @@ module _ (S : Place → Type 0) where
   outer_ok [] h = tt
   outer_ok (scope ∷ outer) h = h.1
 
-  pub kept_there : (kept : Option Scope) (scopes : List Scope) → KeptOk kept → ScopesOk scopes → ScopesOk (scope_kept kept scopes)
+  pub kept_there : (kept : Option Scope) (scopes : List Scope) → KeptOk kept → ScopesOk scopes
+      → ScopesOk (scope_kept kept scopes)
   kept_there None scopes k h = h
   kept_there (Some scope) scopes k h = (k, h)
 
@@ -189,7 +190,8 @@ module _ (S : Place → Type 0) where
   meant_in [] name h = tt
   meant_in (it ∷ names) name h = by (nat_eq it.0 name) (meant_in names name h.1)
     where
-      by : (b : Bool) → SomeMeansOk (meaning_in names name) → SomeMeansOk (if b then Some it.1 else meaning_in names name)
+      by : (b : Bool) → SomeMeansOk (meaning_in names name)
+          → SomeMeansOk (if b then Some it.1 else meaning_in names name)
       by true rest = h.0
       by false rest = rest
 

@@ -17,21 +17,21 @@ use Rattle.name_rules.specs.Faults.{Fault}
 use Rattle.name_rules.specs.Scopes.{Names}
 use Rattle.name_rules.specs.Units.{no_names, unit_begun}
 use Rattle.name_rules.specs.Linking.{body_faults}
-use Rattle.name_steps.specs.State.{with_names}
-use Rattle.name_steps.specs.Units.{tape_named, tapes_named}
-use Rattle.name_laws.specs.NameLaws.{IsSound, tape_of_source, NamesOfTapes}
+use Rattle.name_rules.specs.NameSteps.State.{with_names}
+use Rattle.name_rules.specs.NameSteps.Units.{tape_named, tapes_named}
+use Rattle.resolve_laws.specs.NameLaws.NameLaws.{IsSound, tape_of_source, NamesOfTapes}
 use Rattle.type_rules.specs.Program.{Source, names_of, judged}
 use Rattle.type_rules.specs.Judging.{items_faults_of}
-use Rattle.shape_steps.specs.State.{nothing}
-use Rattle.shape_laws.specs.Laws.{FaultsAreFound}
+use Rattle.name_rules.specs.ShapeSteps.State.{nothing}
+use Rattle.resolve_laws.specs.ShapeLaws.Laws.{FaultsAreFound}
 use Rattle.row_rules.specs.Worlds.{span, word_span}
 use Rattle.row_rules.specs.Annotations.{has_access}
 use Rattle.row_rules.specs.Sites.{functions_of, site_of, sites_among}
 use Rattle.row_rules.specs.Starting.{Start}
-use Rattle.row_steps.specs.Rounds.{file}
-use Rattle.row_steps.specs.Found.{unit_rows}
-use Rattle.row_steps.specs.Starting.{unit_starts}
-use Rattle.start_laws.specs.Laws.{found_on, StartsOfProgramAreFound}
+use Rattle.row_rules.specs.RowSteps.Rounds.{file}
+use Rattle.row_rules.specs.RowSteps.Found.{unit_rows}
+use Rattle.row_rules.specs.RowSteps.Starting.{unit_starts}
+use Rattle.row_laws.specs.StartLaws.Laws.{found_on, StartsOfProgramAreFound}
 use Rattle.row_laws.specs.Laws.{rows_among, ConstraintsAreFound}
 use Rattle.constraint_rules.specs.Systems.{Program, system_of, world_of, starts_of}
 use Rattle.token_laws.specs.Tokens.{AreCounted, IsReadFrom, AreReadFrom, IsTokenOf, StandsAt, StandsIn, SpansHaveTokens, SitesHaveTokens, FaultsHaveTokens}
@@ -120,7 +120,8 @@ ops_hold P Q f (op ∷ tape) h = (ins_hold (op_tokens op) h.0, ops_hold P Q f ta
     ins_hold [] i = tt
     ins_hold (n ∷ ns) i = (f n i.0, ins_hold ns i.1)
 
--- Sources with what is known of the tokens of their tapes: S is of the spans of all sources, and each source has its own.
+-- Sources with what is known of the tokens of their tapes: S is of the spans of all sources, and each source has its
+-- own.
 abbrev Given : (Span → Type 0) → List Source → List (List Lexeme) → Type 0
 Given S [] texts = Unit {0}
 Given S (it ∷ sources) [] = Unit {0}
@@ -152,7 +153,8 @@ abbrev SitesAt : (Place → Type 0) → List Site → Type 0
 SitesAt S [] = Unit {0}
 SitesAt S (site ∷ sites) = S (site.unit, site.token) × SitesAt S sites
 
-site_there : (S : Place → Type 0) (sites : List Site) (it : Site) → SitesAt S sites → Contains sites it → S (it.unit, it.token)
+site_there : (S : Place → Type 0) (sites : List Site) (it : Site) → SitesAt S sites → Contains sites it
+    → S (it.unit, it.token)
 site_there S [] it h (k, less, is) = absurd (omega (arith, less))
 site_there S (x ∷ sites) it h (zero, less, is) = subst (λ (s : Site). S (s.unit, s.token)) is h.0
 site_there S (x ∷ sites) it h (suc k, less, is) = site_there S sites it h.1 (k, omega (arith, less), is)
@@ -169,19 +171,22 @@ sites_at S functions (start ∷ starts) h = by start.calls (sites_at S functions
 
 module _ (firsts : FirstBegins) (lasts : LastEnds) (S : Span → Type 0) where
   -- a tape carries tokens at which there is a place of this
-  own_tape : (it : Source) (all : List Lexeme) → IsReadFrom it all → ((where_ : Span) → StandsAt it all where_ → S where_) →
+  own_tape : (it : Source) (all : List Lexeme) → IsReadFrom it all
+      → ((where_ : Span) → StandsAt it all where_ → S where_) →
       AllOps (λ n. AtWord S (place it.spelling n)) (tape_of it.items)
   own_tape it all read f =
       ops_hold (λ n. IsTokenOf n all) (λ n. AtWord S (place it.spelling n))
       (λ n h. f (word_span (place it.spelling n)) (stands it all n n h h)) (tape_of it.items) (tape_tokens firsts lasts it all read)
 
-  tape_sound : (it : Source) (all : List Lexeme) → IsReadFrom it all → ((where_ : Span) → StandsAt it all where_ → S where_) →
+  tape_sound : (it : Source) (all : List Lexeme) → IsReadFrom it all
+      → ((where_ : Span) → StandsAt it all where_ → S where_) →
       (s : Names) → Sound (AtWord S) s → Sound (AtWord S) (tape_named (tape_of_source it) s)
   tape_sound it all read f s h =
       (run_kept (AtWord S) it.spelling (tape_of it.items) (with_names s) (own_tape it all read f)
       (begun (AtWord S) it.spelling s h)).names
 
-  tapes_sound : (sources : List Source) (texts : List (List Lexeme)) → AreReadFrom sources texts → Given S sources texts →
+  tapes_sound : (sources : List Source) (texts : List (List Lexeme)) → AreReadFrom sources texts
+      → Given S sources texts →
       (s : Names) → Sound (AtWord S) s → Sound (AtWord S) (tapes_named (map tape_of_source sources) s)
   tapes_sound [] texts read f s h = h
   tapes_sound (it ∷ sources) [] read f s h = absurd read
@@ -203,7 +208,8 @@ module _ (firsts : FirstBegins) (lasts : LastEnds) (S : Span → Type 0) where
 
   -- constraints
 
-  rows_there : (p : Program) → Sound (AtWord S) (names_of p.sources) → (sources : List Source) (texts : List (List Lexeme)) →
+  rows_there : (p : Program) → Sound (AtWord S) (names_of p.sources)
+      → (sources : List Source) (texts : List (List Lexeme)) →
       AreReadFrom sources texts → Given S sources texts → Stand S (rows_among p sources)
   rows_there p h [] texts read f = tt
   rows_there p h (it ∷ sources) [] read f = absurd read
@@ -229,7 +235,8 @@ module _ (firsts : FirstBegins) (lasts : LastEnds) (S : Span → Type 0) where
 
   -- skeletons
 
-  starts_there : (access : Bool) (s : Names) → Sound (AtWord S) s → (sources : List Source) (texts : List (List Lexeme)) →
+  starts_there : (access : Bool) (s : Names) → Sound (AtWord S) s
+      → (sources : List Source) (texts : List (List Lexeme)) →
       AreReadFrom sources texts → Given S sources texts → StartsAt (AtWord S) (found_on access s sources)
   starts_there access s h [] texts read f = tt
   starts_there access s h (it ∷ sources) [] read f = absurd read

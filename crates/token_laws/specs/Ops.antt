@@ -15,6 +15,7 @@ use Rattle.tape_ops.specs.declared.declarator.DeclrOp.TheVariants as declrs
 use Rattle.tape_ops.specs.declared.statement.StmtOp.{StmtOp}
 use Rattle.tape_ops.specs.declared.statement.StmtOp.TheVariants as stmts
 
+-- those of a node of an expression
 abbrev pub expr_tokens : ExprOp → List ℕ
 expr_tokens (exprs.Name is_called token name) = token ∷ []
 expr_tokens (exprs.Number token) = token ∷ []
@@ -35,6 +36,7 @@ expr_tokens (exprs.Arrow token first last aims) = token ∷ first ∷ last ∷ [
 expr_tokens (exprs.Dot token member name) = token ∷ member ∷ []
 expr_tokens (exprs.Label token) = token ∷ []
 
+-- those of a node of a form, as a cast or `sizeof`
 abbrev pub form_tokens : FormOp → List ℕ
 form_tokens (forms.Cast token last) = token ∷ last ∷ []
 form_tokens (forms.Sizeof token) = token ∷ []
@@ -51,6 +53,7 @@ form_tokens forms.NoType = []
 form_tokens (forms.Choose token) = token ∷ []
 form_tokens (forms.Generic token count) = token ∷ []
 
+-- those of a node of an initialiser
 abbrev pub init_tokens : InitOp → List ℕ
 init_tokens (inits.Value first last) = first ∷ last ∷ []
 init_tokens inits.Begin = []
@@ -64,6 +67,7 @@ init_tokens inits.ListEnd = []
 init_tokens inits.End = []
 init_tokens inits.LiteralEnd = []
 
+-- those of a node of specifiers
 abbrev pub spec_tokens : SpecOp → List ℕ
 spec_tokens (specs.Word token) = token ∷ []
 spec_tokens (specs.Storage keyword) = []
@@ -81,6 +85,7 @@ spec_tokens (specs.TypeofEnd token) = token ∷ []
 spec_tokens specs.TypeEnd = []
 spec_tokens specs.SpecsEnd = []
 
+-- those of a node of a declarator
 abbrev pub declr_tokens : DeclrOp → List ℕ
 declr_tokens (declrs.DeclName token name) = token ∷ []
 declr_tokens (declrs.ParamsBegin is_own) = []
@@ -98,6 +103,7 @@ declr_tokens declrs.Member = []
 declr_tokens (declrs.TypeName first) = first ∷ []
 declr_tokens declrs.DeclarationEnd = []
 
+-- those of a node of a statement
 abbrev pub stmt_tokens : StmtOp → List ℕ
 stmt_tokens stmts.Quiet = []
 stmt_tokens stmts.Loud = []
@@ -108,6 +114,7 @@ stmt_tokens stmts.Leave = []
 stmt_tokens stmts.FunctionBody = []
 stmt_tokens stmts.FunctionEnd = []
 
+-- those of any node
 abbrev pub op_tokens : Op → List ℕ
 op_tokens (ops.Expr op) = expr_tokens op
 op_tokens (ops.Form op) = form_tokens op

@@ -1,11 +1,16 @@
--- Each span of a constraint, each call site and each fault of a program has its tokens: numbers of tokens of one of its sources.
+-- Each span of a constraint, each call site and each fault of a program has its tokens: numbers of tokens of one of its
+-- sources.
 --
--- The sources are well formed of some tokens, scopes of names aside, and these are numbered by their places, as the tokens that a
--- lexer gives are. So they are read in the sense of `IsRead` (`key_laws/specs/Differing.antt`), and a little more: that asks that no two
--- tokens have one number, and a tree has of a `$` word only its place (`c_tree/specs/Text.antt`, `qual_text`), which need then be no
--- token's number. Where the units of the sources differ too, a span names its source.
+-- The sources are well formed of some tokens, scopes of names aside, and these are numbered by their places, as the
+-- tokens that a
+-- lexer gives are. So they are read in the sense of `IsRead` (`row_laws/specs/KeyLaws/Differing.antt`), and a little
+-- more: that
+-- asks that no two tokens have one number, and a tree has of a `$` word only its place (`c_tree/specs/Text.antt`,
+-- `qual_text`),
+-- which need then be no token's number. Where the units of the sources differ too, a span names its source.
 --
--- So what the tool says of a span or a fault where there is no such unit or no such token (`cqual_tool/specs/Syntax.antt`,
+-- So what the tool says of a span or a fault where there is no such unit or no such token
+-- (`cqual_tool/specs/Syntax.antt`,
 -- `token_line`; `cqual_tool/specs/Shapes.antt`, `in_unit`) is never met for sources that were read.
 use Rattle.std.specs.Prelude.{◌≡◌, ℕ, suc, Contains, List, [], ◌∷◌, slice_get, Some, ◌⊎◌}
 use Rattle.qual_base.specs.declared.places.Span.{Span}
@@ -16,7 +21,7 @@ use Rattle.c_tree.specs.Unit.{AreTokensOf, IsUnit}
 use Rattle.name_rules.specs.Faults.{Fault}
 use Rattle.type_rules.specs.Program.{Source, faults_of}
 use Rattle.row_rules.specs.Worlds.{word_span}
-use Rattle.key_laws.specs.Differing.{IsRead}
+use Rattle.row_laws.specs.KeyLaws.Differing.{IsRead}
 use Rattle.constraint_rules.specs.Systems.{Program, system_of}
 
 -- tokens are numbered by their places, the first by this number
@@ -59,16 +64,19 @@ StandsIn [] texts where_ = ⊥
 StandsIn (it ∷ sources) [] where_ = ⊥
 StandsIn (it ∷ sources) (all ∷ texts) where_ = StandsAt it all where_ ⊎ StandsIn sources texts where_
 
+-- the span of each constraint of a program is from a token to a token of one of its sources
 abbrev pub SpansHaveTokens : Type 0
 SpansHaveTokens =
     (p : Program) (texts : List (List Lexeme)) → AreReadFrom p.sources texts
     → (c : Constraint) → Contains (system_of p).constraints c → StandsIn p.sources texts c.span
 
+-- each call site of a program is at a token of one of its sources
 abbrev pub SitesHaveTokens : Type 0
 SitesHaveTokens =
     (p : Program) (texts : List (List Lexeme)) → AreReadFrom p.sources texts
     → (site : Site) → Contains (system_of p).sites site → StandsIn p.sources texts (word_span (site.unit, site.token))
 
+-- each fault of the names and types of sources is at a token of one of them
 abbrev pub FaultsHaveTokens : Type 0
 FaultsHaveTokens =
     (sources : List Source) (texts : List (List Lexeme)) → AreReadFrom sources texts

@@ -3,10 +3,10 @@
 ghost use Rattle.token_laws.specs.Tokens.{CountedAreRead, FaultsHaveTokens, SitesHaveTokens, SpansHaveTokens};
 
 use c_tree::{first_begins, last_ends};
-use name_laws::names_of_tapes;
+use resolve_laws::name_laws::names_of_tapes;
+use resolve_laws::shape_laws::faults_are_found;
 use row_laws::constraints_are_found;
-use shape_laws::faults_are_found;
-use start_laws::starts_of_program_are_found;
+use row_laws::start_laws::starts_of_program_are_found;
 
 /// Each constraint of a program whose sources were read stands at tokens of one of them.
 pub fn spans_have_tokens()

@@ -28,21 +28,26 @@ use Rattle.token_places.proofs.Single.{open_paren_end, attribute_end, static_ass
 bracket_shrinks : TurnShrinks bracket_turn
 bracket_shrinks state s ts x e = by_brackets state.brackets ts e
   where
-    by_inside : (i : Inside) (b : Bracket) (bs : List Bracket) (t : Lexeme) (ts : List Lexeme) → bracket_by i b bs t s ts ≡ done x → length x.rest < length (t ∷ ts)
+    by_inside : (i : Inside) (b : Bracket) (bs : List Bracket) (t : Lexeme) (ts : List Lexeme)
+        → bracket_by i b bs t s ts ≡ done x → length x.rest < length (t ∷ ts)
     by_inside (Opens other) b bs t ts e = let is = ap (λ (x : Found Opened). length x.rest) (ok_is e) in omega (arith, is)
     by_inside (Closes other) b bs t ts e = by_same (is_same other b) e
       where
-        by_same : (c : Bool) → (if c then ends (record { brackets = bs; last = t.at }) s ts else refuses Unexpected (t ∷ ts)) ≡ done x → length x.rest < length (t ∷ ts)
+        by_same : (c : Bool)
+            → (if c then ends (record { brackets = bs; last = t.at }) s ts else refuses Unexpected (t ∷ ts)) ≡ done x
+            → length x.rest < length (t ∷ ts)
         by_same true e = let is = ap (λ (x : Found Opened). length x.rest) (ok_is e) in omega (arith, is)
         by_same false e = absurd cc
     by_inside Plain b bs t ts e = let is = ap (λ (x : Found Opened). length x.rest) (ok_is e) in omega (arith, is)
     by_inside Stops b bs t ts e = absurd cc
 
-    by_step : (b : Bracket) (bs : List Bracket) (ts : List Lexeme) → bracket_step b bs s ts ≡ done x → length x.rest < length ts
+    by_step : (b : Bracket) (bs : List Bracket) (ts : List Lexeme) → bracket_step b bs s ts ≡ done x
+        → length x.rest < length ts
     by_step b bs [] e = absurd cc
     by_step b bs (t ∷ ts) e = by_inside (inside_of t.kind) b bs t ts e
 
-    by_brackets : (bs : List Bracket) (ts : List Lexeme) → bracket_turn_by bs s ts ≡ Some (done x) → length x.rest < length ts
+    by_brackets : (bs : List Bracket) (ts : List Lexeme) → bracket_turn_by bs s ts ≡ Some (done x)
+        → length x.rest < length ts
     by_brackets [] ts e = absurd cc
     by_brackets (b ∷ bs) ts e = by_step b bs ts cc
 
@@ -61,7 +66,8 @@ state_of bs last = record { brackets = bs; last = last }
 
 module _ (keep : Bool) where
   -- a token inside brackets
-  step_good : (b : Bracket) (bs : List Bracket) (s : HeldScopes) (ts : List Lexeme) → Good keep (bracket_step b bs) any s ts
+  step_good : (b : Bracket) (bs : List Bracket) (s : HeldScopes) (ts : List Lexeme)
+      → Good keep (bracket_step b bs) any s ts
   step_good b bs s [] = refused_here keep (bracket_step b bs) any s [] Unexpected is
     where
       is : (k : List Lexeme) → first_kind k ≡ None → bracket_step b bs s k ≡ refuses Unexpected k
@@ -70,12 +76,15 @@ module _ (keep : Bool) where
   step_good b bs s (t ∷ ts) = by_inside (inside_of t.kind) refl
     where
       -- the same of each token of this kind
-      refused : (i : Inside) → inside_of t.kind ≡ i → ((u : Lexeme) (us : List Lexeme) → bracket_by i b bs u s us ≡ refuses Unexpected (u ∷ us)) →
+      refused : (i : Inside) → inside_of t.kind ≡ i
+          → ((u : Lexeme) (us : List Lexeme) → bracket_by i b bs u s us ≡ refuses Unexpected (u ∷ us)) →
           (k : List Lexeme) → first_kind k ≡ Some t.kind → bracket_step b bs s k ≡ refuses Unexpected k
       refused i is all [] e = absurd cc
       refused i is all (u ∷ us) e = let same : u.kind ≡ t.kind = cc in ap (λ (i : Inside). bracket_by i b bs u s us) (ap inside_of same ∙ is) ∙ all u us
 
-      taken : (i : Inside) → inside_of t.kind ≡ i → (i ≡ Stops → ⊥) → (state : Opened) → ((k : List Lexeme) → bracket_by i b bs t s k ≡ ends state s k) → Good keep (bracket_step b bs) any s (t ∷ ts)
+      taken : (i : Inside) → inside_of t.kind ≡ i → (i ≡ Stops → ⊥) → (state : Opened)
+          → ((k : List Lexeme) → bracket_by i b bs t s k ≡ ends state s k)
+          → Good keep (bracket_step b bs) any s (t ∷ ts)
       taken i is no_stop state all = one_good keep (bracket_step b bs) any s s t ts state (λ k. rw is (all k)) (inside_end t.kind i is no_stop) (kept_refl keep s)
 
       by_inside : (i : Inside) → inside_of t.kind ≡ i → Good keep (bracket_step b bs) any s (t ∷ ts)
@@ -92,7 +101,8 @@ module _ (keep : Bool) where
   closed_group first state = ends (record { first = first; last = state.last })
 
   -- what is open is closed, the innermost first
-  closed_ready : (first : ℕ) (bs : List Bracket) (last : ℕ) (s : HeldScopes) (at : ℕ) → Ready keep (behind (run bracket_turn (state_of bs last)) (closed_group first)) any any s at
+  closed_ready : (first : ℕ) (bs : List Bracket) (last : ℕ) (s : HeldScopes) (at : ℕ)
+      → Ready keep (behind (run bracket_turn (state_of bs last)) (closed_group first)) any any s at
   unfolding and_then
   closed_ready first [] last s at = record {
     more = [];
@@ -134,7 +144,8 @@ module _ (keep : Bool) where
       step (b ∷ bs) last s ts = inr (bracket_step b bs, (λ k h. refl), step_good b bs s ts, (λ us x e. tt))
 
 -- A group from a parenthesis to its own.
-group_any : (keep : Bool) (front : TokenKind → Bool) → front (kinds.Punct puncts.OpenParen) ≡ true → Law keep group_at front any
+group_any : (keep : Bool) (front : TokenKind → Bool) → front (kinds.Punct puncts.OpenParen) ≡ true
+    → Law keep group_at front any
 unfolding group_at
 group_any keep front opens =
     bind_law keep (token_at is_open_paren) (λ opening. behind (run bracket_turn (state_of (Paren ∷ []) opening)) (λ state. ends (record { first = opening; last = state.last }))) front any any
@@ -157,7 +168,8 @@ attr_law keep =
     (inr (λ kind h. h))
 
 -- An alignment, behind a keyword that is known to stand there: a group.
-pub align_good : (keep : Bool) (s : HeldScopes) (ts : List Lexeme) → is_end (kind_at ts) ≡ false → Good keep align_at any s ts
+pub align_good : (keep : Bool) (s : HeldScopes) (ts : List Lexeme) → is_end (kind_at ts) ≡ false
+    → Good keep align_at any s ts
 unfolding align_at
 align_good keep s ts known =
     take_behind keep (λ keyword. behind group_at (λ group. ends (record { keyword = keyword; group = group }))) any

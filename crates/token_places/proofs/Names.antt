@@ -13,7 +13,8 @@ use Rattle.token_places.proofs.Single.{mapped_law}
 
 -- They end before a token that is no comma, where each name is read whatever stands behind it.
 pub names_law : (keep : Bool) (name : Reader Identifier) → Shrinks name → (front stops : TokenKind → Bool) →
-    ((kind : TokenKind) → stops kind ≡ true → is_comma kind ≡ false) → Law keep name front any → Law keep (names_list name) front stops
+    ((kind : TokenKind) → stops kind ≡ true → is_comma kind ≡ false) → Law keep name front any
+    → Law keep (names_list name) front stops
 unfolding names_list
 names_law keep name shrinks front stops off law =
     mapped_law keep (listed name (next_name name)) (λ xs. xs.items) front stops

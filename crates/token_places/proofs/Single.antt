@@ -102,7 +102,8 @@ no_token (t ∷ ts) A e h = absurd cc
 
 module _ (keep : Bool) where
   -- One token is taken with this answer, whatever follows.
-  pub one_good : {A : Type 0} (read : Reader A) (stops : TokenKind → Bool) (s u : HeldScopes) (t : Lexeme) (ts : List Lexeme) (a : A) → ((k : List Lexeme) → read s (t ∷ k) ≡ ends a u k) →
+  pub one_good : {A : Type 0} (read : Reader A) (stops : TokenKind → Bool) (s u : HeldScopes) (t : Lexeme) (ts : List Lexeme) (a : A)
+      → ((k : List Lexeme) → read s (t ∷ k) ≡ ends a u k) →
       is_end t.kind ≡ false → Kept keep s u → Good keep read stops s (t ∷ ts)
   one_good {A} read stops s u t ts a is known kept = subst (Outcome keep read stops s (t ∷ ts)) (sym (is ts)) answer
     where
@@ -118,28 +119,33 @@ module _ (keep : Bool) where
 
   -- Nothing is taken, before a token of this kind and before each with which the reader stops.
   pub none_good : {A : Type 0} (read : Reader A) (stops : TokenKind → Bool) (s : HeldScopes) (ts : List Lexeme) (a : A) →
-      ((k : List Lexeme) → first_kind k ≡ first_kind ts → read s k ≡ ends a s k) → ((k : List Lexeme) → stops (kind_at k) ≡ true → read s k ≡ ends a s k) → Good keep read stops s ts
+      ((k : List Lexeme) → first_kind k ≡ first_kind ts → read s k ≡ ends a s k)
+      → ((k : List Lexeme) → stops (kind_at k) ≡ true → read s k ≡ ends a s k) → Good keep read stops s ts
   none_good read stops s ts a same ended = good_as keep (ends a) read stops s ts same (inr ended) (ends_good keep a stops s ts)
 
   -- What was read is made something of.
-  pub mapped_good : {A B : Type 0} (read : Reader A) (make : A → B) (stops : TokenKind → Bool) (s : HeldScopes) (ts : List Lexeme) → Good keep read stops s ts → Good keep (behind read (λ x. ends (make x))) stops s ts
+  pub mapped_good : {A B : Type 0} (read : Reader A) (make : A → B) (stops : TokenKind → Bool) (s : HeldScopes) (ts : List Lexeme)
+      → Good keep read stops s ts → Good keep (behind read (λ x. ends (make x))) stops s ts
   mapped_good read make stops s ts g =
       bind_good keep read (λ x. ends (make x)) stops stops s ts (λ tree scopes gives at. ready_ends keep (make tree) stops stops scopes at (λ kind h. h)) g
       (λ x e. ends_good keep (make x.tree) stops x.scopes x.rest) (inr (λ kind h. h))
 
-  pub mapped_ready : {A B : Type 0} (read : Reader A) (make : A → B) (front stops : TokenKind → Bool) (s : HeldScopes) (at : ℕ) → Ready keep read front stops s at →
+  pub mapped_ready : {A B : Type 0} (read : Reader A) (make : A → B) (front stops : TokenKind → Bool) (s : HeldScopes) (at : ℕ)
+      → Ready keep read front stops s at →
       Ready keep (behind read (λ x. ends (make x))) front stops s at
   mapped_ready read make front stops s at r =
       ready_bind keep read (λ x. ends (make x)) front stops stops s at r (λ tree scopes gives at. ready_ends keep (make tree) stops stops scopes at (λ kind h. h))
 
-  pub mapped_law : {A B : Type 0} (read : Reader A) (make : A → B) (front stops : TokenKind → Bool) → Law keep read front stops → Law keep (behind read (λ x. ends (make x))) front stops
+  pub mapped_law : {A B : Type 0} (read : Reader A) (make : A → B) (front stops : TokenKind → Bool)
+      → Law keep read front stops → Law keep (behind read (λ x. ends (make x))) front stops
   mapped_law read make front stops l = record {
     good = λ s ts. mapped_good read make stops s ts (l.good s ts);
     ready = λ s at. mapped_ready read make front stops s at (l.ready s at);
   }
 
   -- A token as what it may be.
-  pub made_good : {A : Type 0} (of : TokenKind → Option (ℕ → A)) (stops : TokenKind → Bool) → ((kind : TokenKind) → is_made (of kind) ≡ true → is_end kind ≡ false) → (s : HeldScopes) (ts : List Lexeme) →
+  pub made_good : {A : Type 0} (of : TokenKind → Option (ℕ → A)) (stops : TokenKind → Bool)
+      → ((kind : TokenKind) → is_made (of kind) ≡ true → is_end kind ≡ false) → (s : HeldScopes) (ts : List Lexeme) →
       Good keep (made_at of) stops s ts
   made_good of stops no_end s [] = refused_here keep (made_at of) stops s [] Unexpected is
     where
@@ -148,7 +154,8 @@ module _ (keep : Bool) where
       is (t ∷ ts) e = absurd cc
   made_good {A} of stops no_end s (t ∷ ts) = by_kind (of t.kind) refl
     where
-      refused : of t.kind ≡ None → (k : List Lexeme) → first_kind k ≡ Some t.kind → made_at of s k ≡ refuses Unexpected k
+      refused : of t.kind ≡ None → (k : List Lexeme) → first_kind k ≡ Some t.kind
+          → made_at of s k ≡ refuses Unexpected k
       refused is [] e = absurd cc
       refused is (u ∷ us) e = let same : u.kind ≡ t.kind = cc in rw (same, is) refl
 
@@ -165,7 +172,8 @@ module _ (keep : Bool) where
       is (t ∷ ts) e = absurd cc
   name_good stops s (t ∷ ts) = by_kind (spelled_name t.kind) refl
     where
-      refused : spelled_name t.kind ≡ None → (k : List Lexeme) → first_kind k ≡ Some t.kind → name_at s k ≡ refuses Unexpected k
+      refused : spelled_name t.kind ≡ None → (k : List Lexeme) → first_kind k ≡ Some t.kind
+          → name_at s k ≡ refuses Unexpected k
       refused is [] e = absurd cc
       refused is (u ∷ us) e = let same : u.kind ≡ t.kind = cc in rw (same, is) refl
 
@@ -173,7 +181,8 @@ module _ (keep : Bool) where
       by_kind None is = refused_here keep name_at stops s (t ∷ ts) Unexpected (refused is)
       by_kind (Some name) is = one_good name_at stops s s t ts (identifier_of t.at name) (λ k. rw is refl) (name_end t.kind name is) (kept_refl keep s)
 
-  pub name_law : (front stops : TokenKind → Bool) → ((name : ℕ) → front (kinds.Name name) ≡ true) → Law keep name_at front stops
+  pub name_law : (front stops : TokenKind → Bool) → ((name : ℕ) → front (kinds.Name name) ≡ true)
+      → Law keep name_at front stops
   name_law front stops named = record {
     good = λ s ts. name_good stops s ts;
     ready = λ s at. record { more = kinds.Name 0 ∷ []; tree = identifier_of at 0; scopes = s; keeps = kept_refl keep s; begins = λ k h. named 0; reads = λ k h. refl };
@@ -184,7 +193,8 @@ module _ (keep : Bool) where
   tag_none s [] h = refl
   tag_none s (t ∷ ts) h = rw h refl
 
-  pub tag_good : (stops : TokenKind → Bool) → ((kind : TokenKind) → stops kind ≡ true → spelled_name kind ≡ None) → (s : HeldScopes) (ts : List Lexeme) → Good keep tag_at stops s ts
+  pub tag_good : (stops : TokenKind → Bool) → ((kind : TokenKind) → stops kind ≡ true → spelled_name kind ≡ None)
+      → (s : HeldScopes) (ts : List Lexeme) → Good keep tag_at stops s ts
   tag_good stops off s ts = by_kind ts (spelled_name (kind_at ts)) refl
     where
       by_kind : (ts : List Lexeme) (o : Option ℕ) → spelled_name (kind_at ts) ≡ o → Good keep tag_at stops s ts

@@ -2,10 +2,10 @@
 
 use crate::text::{Listed, put, put_number, put_place, put_token, put_type, put_value_type};
 use c_words::TokenKind;
+use expr_shapes::shape_values::ExprShape;
 use expr_types::ExpressionTypes;
-use name_records::{Declared, Role, Use};
+use name_tables::name_records::{Declared, Role, Use};
 use qual_base::{NoMemory, Numbered, TokenId};
-use shape_values::ExprShape;
 
 /// How a line names what a declaration declares; nothing for what has no line.
 fn kind(role: Role) -> Option<&'static [u8]> {

@@ -1,7 +1,7 @@
 //! From the bytes of a lattice file and of a source to lines.
 
 ghost use Rattle.std.specs.Prelude.{◌≤◌, All, IfOk, length};
-ghost use Rattle.name_laws.specs.NameLaws.{IsSound};
+ghost use Rattle.resolve_laws.specs.NameLaws.NameLaws.{IsSound};
 ghost use Rattle.c_types.specs.Sources.{sources_of};
 
 use crate::lines::put_lines;

@@ -2,9 +2,9 @@
 
 use c_lexer::Tokens;
 use c_types::Program;
-use name_records::Aggregate;
+use expr_shapes::shape_values::ValueType;
+use name_tables::name_records::Aggregate;
 use qual_base::{NoMemory, Numbered, StructId, TokenId, TypeId, UnitNo};
-use shape_values::ValueType;
 use std::alloc::Global;
 use tape_ops::TagKind;
 use type_table::Shape;

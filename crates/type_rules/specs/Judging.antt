@@ -12,6 +12,7 @@ use Rattle.name_rules.specs.Checks.{prefix_faults, call_faults, type_declared, m
 use Rattle.type_rules.specs.Tokens.{first_word, declared_name}
 use Rattle.type_rules.specs.Shapes.{shape_of}
 
+-- how many expressions there are
 abbrev pub count : Exprs → ℕ
 count no_exprs = 0
 count (more_exprs e es) = suc (count es)
@@ -23,6 +24,7 @@ desig_type u s t (index_desig opening e closing) = some_target t
 desig_type u s t (range_desig opening e dots e2 closing) = some_target t
 desig_type u s t (old_desig name colon) = member_type s.aggregates t (u.key name.name)
 
+-- the type of what designators name, one inside of the other
 abbrev pub desigs_type : Spelling → Names → Option CType → Desigs → Option CType
 desigs_type u s t no_desigs = t
 desigs_type u s t (more_desigs d ds) = desigs_type u s (desig_type u s t d) ds
@@ -40,6 +42,7 @@ abbrev pub some_desigs_type : Spelling → Names → Option CType → Desigs →
 some_desigs_type u s t no_desigs = None
 some_desigs_type u s t (more_desigs d ds) = Some (desigs_type u s t (more_desigs d ds))
 
+-- what an item of an initialiser in braces initialises, by its designators
 abbrev pub item_target : Spelling → Names → Option CType → Bool → ℕ → Desigs → Target
 item_target u s t is_first next ds = target_of_item s t is_first next (some_desigs_type u s t ds)
 

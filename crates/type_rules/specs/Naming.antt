@@ -20,29 +20,36 @@ use Rattle.name_rules.specs.Values.{value}
 use Rattle.name_rules.specs.Identifiers.{Olds, identified, old_declared_some, old_faults, old_types}
 use Rattle.type_rules.specs.Shapes.{shape_of}
 
--- what is found, and what is known of names behind it
+-- parts of trees, with what is known of names behind them
 
+-- a type, and what is known of names behind where it was found
 pub record Typed : Type 0 where
   pub type : CType
   pub names : Names
 
+-- the pieces of a declarator, and what is known of names behind it
 pub record Pieced : Type 0 where
   pub pieces : List Piece
   pub names : Names
 
+-- the types of a list of parameters, and what is known of names behind it
 pub record Listed : Type 0 where
   pub types : CTypes
   pub names : Names
 
+-- what is made of a type and of the names behind it
 abbrev pub with_typed : {A : Type 0} → Typed → (CType → Names → A) → A
 with_typed it next = next it.type it.names
 
+-- what is made of the pieces of a declarator and of the names behind it
 abbrev pub with_pieced : {A : Type 0} → Pieced → (List Piece → Names → A) → A
 with_pieced it next = next it.pieces it.names
 
+-- what is made of the types of parameters and of the names behind them
 abbrev pub with_listed : {A : Type 0} → Listed → (CTypes → Names → A) → A
 with_listed it next = next it.types it.names
 
+-- what is made of the number of a struct, union or enum and of the names behind its tag
 abbrev pub with_numbered : {A : Type 0} → Numbered → (ℕ → Names → A) → A
 with_numbered it next = next it.number it.names
 
@@ -50,6 +57,7 @@ with_numbered it next = next it.number it.names
 abbrev pub with_begun : {A : Type 0} → Begun → (ℕ → ℕ → Names → A) → A
 with_begun it next = next it.number it.members_of it.names
 
+-- a type, where these names are known behind it
 abbrev pub typed : CType → Names → Typed
 typed t s = record { type = t; names = s }
 
@@ -60,7 +68,7 @@ typed_by u token (Some t) s = typed (bare t) s
 
 -- tags
 
--- of the keyword before a tag
+-- the kind of a tag, by the keyword before it
 abbrev pub tag_kind : Keyword → TagKind
 tag_kind keywords.Union = tags.Union
 tag_kind keyword = tags.Struct
@@ -71,6 +79,7 @@ tag_named u is_alone kind None t s = typed t s
 tag_named u is_alone kind (Some tag) t s =
     with_numbered (tag_used u is_alone kind tag.token tag.name s) (λ n s. typed (tag_type kind n t) s)
 
+-- a body of a struct, union or enum begins, behind its tag, or behind its keyword where it has none
 abbrev pub body_begun : Spelling → TagKind → ℕ → Option Identifier → Names → Begun
 body_begun u kind keyword None s = untagged_begun (place u keyword) kind s
 body_begun u kind keyword (Some tag) s = tag_begun u kind tag.token tag.name s
@@ -95,14 +104,17 @@ unnamed_by u (typeof_type word opening ws d closing) n t s = s
 unnamed_by u (align attr) n t s = s
 unnamed_by u (auto_word token) n t s = s
 
+-- the members without a name that the specifiers of a member without a declarator declare
 abbrev pub unnamed_among : Spelling → SpecWords → ℕ → CType → Names → Names
 unnamed_among u no_words n t s = s
 unnamed_among u (more_words word ws) n t s = unnamed_among u ws n t (unnamed_by u word n t s)
 
+-- whether a struct, union or enum has no body here
 abbrev pub is_bodiless : SomeBody → Bool
 is_bodiless no_body = true
 is_bodiless (some_body opening items closing) = false
 
+-- whether a word of specifiers is a struct or union without a body, or says nothing, as an attribute does
 abbrev pub is_lone_word : SpecWord → Bool
 is_lone_word (storage word) = false
 is_lone_word (thread token) = false
@@ -119,6 +131,7 @@ is_lone_word (typeof_type word opening ws d closing) = false
 is_lone_word (align attr) = true
 is_lone_word (auto_word token) = false
 
+-- whether each word of specifiers is a struct or union without a body, or says nothing
 abbrev pub is_lone : SpecWords → Bool
 is_lone no_words = true
 is_lone (more_words word ws) = is_lone_word word && is_lone ws
@@ -377,7 +390,8 @@ module _ (u : Spelling) where
               ++ to_function (no_params_if (says_none ps) types) (ellipsis u ps dots) ∷ [];
           names = leave s;
         }))
-    -- the list of a function with a body is gone through with the declarations behind it; of any other one nothing is known
+    -- the list of a function with a body is gone through with the declarations behind it; of any other one nothing is
+    -- known
     declr_named own (identifiers d opening names closing) s =
         with_pieced (declr_named own d s)
         (λ ps s. record { pieces = ps ++ to_function no_types None ∷ []; names = leave (enter s) })
@@ -429,7 +443,8 @@ module _ (u : Spelling) where
     some_init_named no_init s = s
     some_init_named (some_init equal init) s = init_named init s
 
-    -- a name is declared behind its declarator, before its initialiser; the first one may be what a struct without a tag is known by
+    -- a name is declared behind its declarator, before its initialiser; the first one may be what a struct without a
+    -- tag is known by
     pub init_declrs_named : List Keyword → Bool → CType → InitDeclrs → Names → Names
     init_declrs_named words is_untagged t no_init_declrs s = s
     init_declrs_named words is_untagged t (more_init_declrs attrs d asm_label attrs2 init ds) s =

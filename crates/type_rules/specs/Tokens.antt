@@ -13,11 +13,13 @@ use Rattle.c_tree.specs.Tree.{InitDeclrs, no_init_declrs, more_init_declrs, Some
 use Rattle.type_table.specs.Types.{Words}
 use Rattle.name_rules.specs.Spellings.{Spelling, annotation_at, Named}
 
+-- the token of a qualifier word
 abbrev pub qual_token : Qual → ℕ
 qual_token (quals.Word word) = word.token
 qual_token (quals.Element token) = token
 qual_token (quals.Index token) = token
 
+-- the annotation that a qualifier word is, where it is one
 abbrev pub annotation : Spelling → Qual → Words
 annotation u q = annotation_at u (qual_token q)
 
@@ -26,19 +28,23 @@ abbrev pub annotations : Spelling → List Qual → Words
 annotations u [] = []
 annotations u (q ∷ qs) = annotation u q ++ annotations u qs
 
+-- the annotation words behind the `*` of a pointer
 abbrev pub pointer_annotations : Spelling → List PointerWord → Words
 pointer_annotations u [] = []
 pointer_annotations u (pointer_words.Qual q ∷ words) = annotation u q ++ pointer_annotations u words
 pointer_annotations u (pointer_words.Attr attr ∷ words) = pointer_annotations u words
 
+-- the annotation words in the `[ ]` of an array, as a parameter may have them (6.7.5.3)
 abbrev pub array_annotations : Spelling → List ArrayWord → Words
 array_annotations u [] = []
 array_annotations u (array_words.Static token ∷ words) = array_annotations u words
 array_annotations u (array_words.Qual q ∷ words) = annotation u q ++ array_annotations u words
 
+-- the token of the keyword of an `enum`
 abbrev pub enum_token : EnumType → ℕ
 enum_token (enum_of keyword attrs tag body) = keyword
 
+-- the first token of a word of specifiers
 abbrev pub word_token : SpecWord → ℕ
 word_token (storage word) = word.token
 word_token (thread token) = token
@@ -93,6 +99,7 @@ is_bare (abs_params d opening ps dots closing) = false
 is_bare (identifiers d opening names closing) = false
 is_bare (base_name token) = false
 
+-- whether a keyword is `void`
 abbrev pub is_void : Keyword → Bool
 is_void keywords.Void = true
 is_void word = false
@@ -114,6 +121,7 @@ leaves_void (typeof_type word opening ws d closing) = false
 leaves_void (align attr) = true
 leaves_void (auto_word token) = false
 
+-- whether all words of specifiers leave `void` no parameter
 abbrev pub leave_void : SpecWords → Bool
 leave_void no_words = true
 leave_void (more_words word words) = leaves_void word && leave_void words
@@ -125,6 +133,7 @@ says_none (more_params ws no_declr attrs no_params) = leave_void ws
 says_none (more_params ws no_declr attrs (more_params ws2 d attrs2 ps)) = false
 says_none (more_params ws (some_declr d) attrs ps) = false
 
+-- whether there is an initialiser that is an expression
 abbrev pub has_value : SomeInit → Bool
 has_value no_init = false
 has_value (some_init equal (init_value e)) = true
@@ -135,7 +144,8 @@ abbrev pub have_values : InitDeclrs → Bool
 have_values no_init_declrs = true
 have_values (more_init_declrs attrs d asm_label attrs2 init ds) = has_value init && have_values ds
 
--- whether the names of a declaration have the types of their initialisers; without those, as in no well-formed unit, it is one
+-- whether the names of a declaration have the types of their initialisers; without those, as in no well-formed unit, it
+-- is one
 -- like any other
 abbrev pub are_auto : SpecWords → InitDeclrs → Bool
 are_auto words ds = has_auto words && have_values ds

@@ -24,18 +24,21 @@ front ts (row ∷ rows) j lt =
     let x = row_type ts row in
     front (ts ++ x ∷ []) rows j (let l = one_longer ts x in omega (arith, lt, l)) ∙ at_front ts x j lt
 
-all_front : (ts : List CType) (rows : List Row) (js : List ℕ) → AreBelow (length ts) js → types_at (grown ts rows) js ≡ types_at ts js
+all_front : (ts : List CType) (rows : List Row) (js : List ℕ) → AreBelow (length ts) js
+    → types_at (grown ts rows) js ≡ types_at ts js
 all_front ts rows [] low = refl
 all_front ts rows (j ∷ js) low = rw (front ts rows j low.0, all_front ts rows js low.1) refl
 
-shown_front : (ts : List CType) (rows : List Row) (shape : Shape) (ws es : Words) → AreParts (length ts) shape → shown (grown ts rows) shape ws es ≡ shown ts shape ws es
+shown_front : (ts : List CType) (rows : List Row) (shape : Shape) (ws es : Words) → AreParts (length ts) shape
+    → shown (grown ts rows) shape ws es ≡ shown ts shape ws es
 shown_front ts rows shapes.Base ws es low = refl
 shown_front ts rows shapes.Void ws es low = refl
 shown_front ts rows (shapes.Ref t) ws es low = ap (λ (x : CType). pointer ws x) (front ts rows t low)
 shown_front ts rows (shapes.Fun ps r e) ws es low = rw (all_front ts rows ps.items low.0, front ts rows r low.1) refl
 shown_front ts rows (shapes.Struct s) ws es low = refl
 
-stands : (ts : List CType) (rows : List Row) (i : ℕ) (row : Row) → AreMade ts rows → slice_get rows i ≡ Some row → Stands (grown ts rows) (length ts + i) row
+stands : (ts : List CType) (rows : List Row) (i : ℕ) (row : Row) → AreMade ts rows → slice_get rows i ≡ Some row
+    → Stands (grown ts rows) (length ts + i) row
 stands ts [] i row made e = absurd cc
 stands ts (m ∷ rows) zero row made e =
     let same : m ≡ row = cc in
@@ -50,7 +53,8 @@ stands ts (m ∷ rows) (suc i) row made e =
     let at : length ts + suc i ≡ length (ts ++ x ∷ []) + i = omega (arith, l) in
     rw at (stands (ts ++ x ∷ []) rows i row made.1 e)
 
-pub row_stands : (rows : List Row) (i : ℕ) (row : Row) → AreMade [] rows → slice_get rows i ≡ Some row → Stands (types_of rows) i row
+pub row_stands : (rows : List Row) (i : ℕ) (row : Row) → AreMade [] rows → slice_get rows i ≡ Some row
+    → Stands (types_of rows) i row
 row_stands rows i row made e = let at : 0 + i ≡ i = omega arith in subst (λ k. Stands (grown [] rows) k row) at (stands [] rows i row made e)
 
 pub longer : (ts : List CType) (rows : List Row) → length (grown ts rows) ≡ length ts + length rows

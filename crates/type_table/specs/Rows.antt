@@ -9,10 +9,12 @@ use Rattle.type_table.specs.Types.{Words, CType, base, void, struct, pointer, fu
 abbrev pub type_at : List CType → ℕ → CType
 type_at types n = unwrap_or (slice_get types n) (base [])
 
+-- the types of some numbers, as those of parameters
 abbrev pub types_at : List CType → List ℕ → CTypes
 types_at types [] = no_types
 types_at types (n ∷ ns) = more_types (type_at types n) (types_at types ns)
 
+-- the words before an ellipsis, where there is one
 abbrev pub some_where : Bool → Words → Option Words
 some_where true ws = Some ws
 some_where false ws = None
@@ -25,9 +27,11 @@ shown types (shapes.Ref t) ws es = pointer ws (type_at types t)
 shown types (shapes.Fun ps r e) ws es = function ws (types_at types ps.items) (type_at types r) (some_where e es)
 shown types (shapes.Struct s) ws es = struct ws s
 
+-- the type of a row, where these are the types before it
 abbrev pub row_type : List CType → Row → CType
 row_type types row = shown types row.shape row.words.items row.ellipsis_words.items
 
+-- the types of some rows, behind those that were there
 abbrev pub grown : List CType → List Row → List CType
 grown types [] = types
 grown types (row ∷ rows) = grown (types ++ row_type types row ∷ []) rows
@@ -36,9 +40,11 @@ grown types (row ∷ rows) = grown (types ++ row_type types row ∷ []) rows
 abbrev pub types_of : List Row → List CType
 types_of rows = grown [] rows
 
+-- the type of a number in a table
 abbrev pub type_of : List Row → ℕ → CType
 type_of rows n = type_at (types_of rows) n
 
+-- all of these numbers are below one
 abbrev pub AreBelow : ℕ → List ℕ → Type 0
 AreBelow n [] = Unit {0}
 AreBelow n (m ∷ ms) = (m < n) × AreBelow n ms
@@ -59,6 +65,7 @@ capped n = min n 4294967295
 abbrev pub IsMade : List CType → Row → Type 0
 IsMade types row = AreParts (length types) row.shape × (row.size ≡ capped (size (row_type types row)))
 
+-- each of these rows names rows before it alone, and has its size
 abbrev pub AreMade : List CType → List Row → Type 0
 AreMade types [] = Unit {0}
 AreMade types (row ∷ rows) = IsMade types row × AreMade (types ++ row_type types row ∷ []) rows

@@ -1,4 +1,5 @@
--- Types as trees, with the annotation words that are written on each node (C99, 6.2.5 and 6.7.5; an array is a pointer).
+-- Types as trees, with the annotation words that are written on each node (C99, 6.2.5 and 6.7.5; an array is a
+-- pointer).
 use Rattle.std.specs.Prelude.{ℕ, ◌+◌, List, [], Option, Some, None}
 
 -- words, each by its unit and its token
@@ -18,6 +19,7 @@ mutual
     no_types : CTypes
     more_types : CType → CTypes → CTypes
 
+-- 1 where there is an ellipsis, else 0
 abbrev pub one_for : Option Words → ℕ
 one_for None = 0
 one_for (Some ws) = 1
@@ -43,6 +45,7 @@ words_of (struct ws s) = ws
 words_of (pointer ws t) = ws
 words_of (function ws ps r e) = ws
 
+-- the words before an ellipsis, none where there is no ellipsis
 abbrev pub words_or_none : Option Words → Words
 words_or_none None = []
 words_or_none (Some ws) = ws

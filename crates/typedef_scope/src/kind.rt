@@ -1,4 +1,4 @@
-//! The kinds of ordinary names, and what a declaration may answer.
+//! The kinds of ordinary names.
 
 ghost use Rattle.std.specs.Prelude.{◌≡◌};
 ghost use Rattle.typedef_scope.specs.Scopes.{is_same};
@@ -9,15 +9,6 @@ pub enum Kind {
     Typedef,
     Value,
     Constant,
-}
-
-/// Why a name was not declared.
-#[derive(Clone, Copy, PartialEq, Eq, Debug)]
-pub enum ScopeFault {
-    /// The innermost scope gives the name another kind.
-    Redeclared,
-    /// There was not enough memory.
-    NoMemory,
 }
 
 impl Kind {

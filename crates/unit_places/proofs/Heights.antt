@@ -44,7 +44,8 @@ module _ (formed : UnitIsWellFormed) (read_back : WellFormedIsRead) (whole_are :
   the_items = items_law 501 (knot most) (knot_laws whole_are goes most) (knot_places whole_are goes most) (most - 1) (omega arith) (omega arith)
 
   -- what the reader of units refuses
-  refused_at : (wide : Bool) (tokens : List TokenKind) (fault : Fault) (at : ℕ) → IsEnded tokens → Refuses wide tokens fault at → Placed wide most tokens fault at
+  refused_at : (wide : Bool) (tokens : List TokenKind) (fault : Fault) (at : ℕ) → IsEnded tokens
+      → Refuses wide tokens fault at → Placed wide most tokens fault at
   refused_at wide tokens fault at ended e = placed wide most the_items tokens fault at ended (unit_is wide (numbered tokens) ∙ e)
 
   pub place_is_first : PlaceIsFirst
@@ -64,7 +65,8 @@ module _ (formed : UnitIsWellFormed) (read_back : WellFormedIsRead) (whole_are :
             (read_back wide (numbered (take (at + 1) tokens ++ u.behind)) (are_numbered (take (at + 1) tokens ++ u.behind)) u.items u.formed);
       }
 
-  -- With more room the same token is refused with the same fault, and a unit of any height would be read with room for it.
+  -- With more room the same token is refused with the same fault, and a unit of any height would be read with room for
+  -- it.
   pub height_alone : AnyHeightIsRead → MoreRoomIsMore → HeightAlone
   height_alone any_height more wide tokens fault at ended e other u =
       let a = (refused_at wide tokens fault at ended e).alike u.behind in
@@ -87,7 +89,8 @@ module _ (formed : UnitIsWellFormed) (read_back : WellFormedIsRead) (whole_are :
           fault_is a b e = cc
       by_result n (Err d) is (inr same) = not_both (unit_of height wide all) d (found u.items (file_scope wide) []) same read
 
-      by_more : (n : ℕ) → unit_of most wide all ≡ refused (fault, n) → More (unit_of most wide all) (unit_of height wide all) → ⊥
+      by_more : (n : ℕ) → unit_of most wide all ≡ refused (fault, n)
+          → More (unit_of most wide all) (unit_of height wide all) → ⊥
       by_more n is m = by_result n (unit_of most wide all) is m
 
 pub syntax_is_allowed : PlaceIsFirst → HeightAlone → FirstBadIsAllowed → SyntaxIsAllowed

@@ -3,7 +3,8 @@ use Rattle.std.proofs.Common.{ℕ, zero, suc, ◌<◌, Bool, [], arith}
 use Rattle.c_specs.specs.Laws.{WholeAreMixes, MixesGoOn}
 use Rattle.c_reading.specs.Parts.{Inner, never}
 use Rattle.c_reading.specs.Knot.{tied, knot}
-use Rattle.c_reading.proofs.Aims.{Laws, declr_number}
+use Rattle.c_reading.proofs.Aims.{Laws}
+use Rattle.c_reading.proofs.Never.{never_laws}
 use Rattle.c_reading.proofs.KnotLaws.{knot_laws}
 use Rattle.reading_steps.specs.InnerLaws.{InnerLaws, number_of}
 use Rattle.expr_places.proofs.Rows.{expr_places}
@@ -15,51 +16,6 @@ use Rattle.stmt_places.proofs.Stmts.{stmt_places}
 
 lower : (room : ℕ) → room < 0 → ⊥
 lower room h = absurd (omega (arith, h))
-
--- readers that are never called
-never_laws : Laws [] 0 never
-never_laws = record {
-  exprs = record {
-    shrinks = λ reach begun room s ts x e. absurd cc;
-    sound = λ reach room s ts x tail e. absurd cc;
-    complete = λ reach room less. absurd (lower room less);
-    begun_sound = λ reach begun room row s ts x tail e. absurd cc;
-    begun_complete = λ reach begun room row less. absurd (lower room less);
-  };
-  types = record {
-    shrinks = λ room s ts x e. absurd cc;
-    sound = λ room s ts x tail e. absurd cc;
-    complete = λ room less. absurd (lower room less);
-  };
-  words = record {
-    falls = λ role words room s ts x e. absurd cc;
-    shrinks = λ role room s ts x e. absurd cc;
-    sound = λ role words room s ts x tail e. absurd cc;
-    complete = λ role words rest room less. absurd (lower room less);
-  };
-  declrs = record {
-    falls = λ mode wanted flag room s ts x e. absurd cc;
-    shrinks = λ wanted flag room s ts x e. absurd cc;
-    sound = λ mode wanted flag room s ts x tail e. absurd cc;
-    complete = λ mode wanted flag room less. absurd (lower (declr_number flag room) less);
-  };
-  lists = record {
-    shrinks = λ room s ts x e. absurd cc;
-    sound = λ room s ts x tail e. absurd cc;
-    complete = λ room less. absurd (lower room less);
-  };
-  blocks = record {
-    shrinks = λ room s ts x e. absurd cc;
-    sound = λ room s ts x tail e. absurd cc;
-    complete = λ room less. absurd (lower room less);
-  };
-  stmts = record {
-    shrinks = λ room s ts x e. absurd cc;
-    sound = λ room s ts x tail e. absurd cc;
-    ended = λ room s ts x e. absurd cc;
-    complete = λ room less. absurd (lower room less);
-  };
-}
 
 lower_number : (flag : Bool) (room : ℕ) → number_of flag room < 0 → ⊥
 lower_number flag room h = absurd (omega (arith, h))
@@ -113,5 +69,5 @@ tied_places n inner laws places = record {
 module _ (whole_are : WholeAreMixes) (goes : MixesGoOn) where
   pub knot_places : (n : ℕ) → InnerLaws (suc n) (knot n)
   unfolding knot
-  knot_places zero = tied_places 0 never never_laws never_places
+  knot_places zero = tied_places 0 never (never_laws []) never_places
   knot_places (suc n) = tied_places (suc n) (knot n) (knot_laws whole_are goes n) (knot_places n)

@@ -1,4 +1,5 @@
--- Where the reader of units of any height refuses a token, units that it reads begin with those before it, and none with those up to
+-- Where the reader of units of any height refuses a token, units that it reads begin with those before it, and none
+-- with those up to
 -- it.
 use Rattle.std.proofs.Common.{◌≡◌, ℕ, zero, suc, ◌+◌, ◌<◌, Bool, true, false, if◌then◌else◌, List, [], ◌∷◌, ◌++◌, length, take, slice_get, Some, Ok, Err, refl, sym, ◌∙◌, ap, subst, arith, append_assoc}
 use Rattle.std.specs.Prelude.{◌-◌}
@@ -22,7 +23,8 @@ use Rattle.unit_places.specs.Laws.{IsEnded}
 
 -- Numbered tokens.
 
-numbered_at : (at : ℕ) (tokens : List TokenKind) (n : ℕ) (t : Lexeme) → slice_get (numbered_from at tokens) n ≡ Some t → t.at ≡ at + n
+numbered_at : (at : ℕ) (tokens : List TokenKind) (n : ℕ) (t : Lexeme) → slice_get (numbered_from at tokens) n ≡ Some t
+    → t.at ≡ at + n
 numbered_at at [] n t e = absurd cc
 numbered_at at (kind ∷ tokens) zero t e = let is : record { kind = kind; at = at } ≡ t = cc in ap (λ (t : Lexeme). t.at) (sym is) ∙ omega arith
 numbered_at at (kind ∷ tokens) (suc n) t e = numbered_at (suc at) tokens n t e ∙ omega arith
@@ -34,8 +36,10 @@ are_numbered tokens n t e = numbered_at 0 tokens n t e ∙ omega arith
 record Cut (n : ℕ) (tokens : List TokenKind) (b : List Lexeme) (t : Lexeme) : Type 0 where
   there : t.at ≡ n + length b
   less : length b < length tokens
-  front : (more : List TokenKind) → numbered_from n (take (length b) tokens ++ more) ≡ b ++ numbered_from (n + length b) more
-  next : (more : List TokenKind) → (k : List Lexeme) × (numbered_from n (take (suc (length b)) tokens ++ more) ≡ b ++ k) × (first_kind k ≡ Some t.kind)
+  front : (more : List TokenKind)
+      → numbered_from n (take (length b) tokens ++ more) ≡ b ++ numbered_from (n + length b) more
+  next : (more : List TokenKind)
+      → (k : List Lexeme) × (numbered_from n (take (suc (length b)) tokens ++ more) ≡ b ++ k) × (first_kind k ≡ Some t.kind)
 
 head_is : (x t : Lexeme) (xs r : List Lexeme) → x ∷ xs ≡ t ∷ r → x ≡ t
 head_is x t xs r e = cc
@@ -43,7 +47,8 @@ head_is x t xs r e = cc
 tail_is : (x t : Lexeme) (xs r : List Lexeme) → x ∷ xs ≡ t ∷ r → xs ≡ r
 tail_is x t xs r e = cc
 
-cut : (n : ℕ) (tokens : List TokenKind) (b : List Lexeme) (t : Lexeme) (r : List Lexeme) → numbered_from n tokens ≡ b ++ (t ∷ r) → Cut n tokens b t
+cut : (n : ℕ) (tokens : List TokenKind) (b : List Lexeme) (t : Lexeme) (r : List Lexeme)
+    → numbered_from n tokens ≡ b ++ (t ∷ r) → Cut n tokens b t
 cut n [] [] t r e = absurd cc
 cut n [] (u ∷ b) t r e = absurd cc
 cut n (kind ∷ tokens) [] t r e =
@@ -84,7 +89,8 @@ has_end_last : (n : ℕ) (body : List TokenKind) → has_end (numbered_from n (b
 has_end_last n [] = refl
 has_end_last n (kind ∷ body) = by_end (is_end kind) (has_end_last (suc n) body)
   where
-    by_end : (b : Bool) → has_end (numbered_from (suc n) (body ++ kinds.End ∷ [])) ≡ true → (if b then true else has_end (numbered_from (suc n) (body ++ kinds.End ∷ []))) ≡ true
+    by_end : (b : Bool) → has_end (numbered_from (suc n) (body ++ kinds.End ∷ [])) ≡ true
+        → (if b then true else has_end (numbered_from (suc n) (body ++ kinds.End ∷ []))) ≡ true
     by_end true h = refl
     by_end false h = h
 
@@ -92,14 +98,17 @@ has_end_last n (kind ∷ body) = by_end (is_end kind) (has_end_last (suc n) body
 pub record Placed (wide : Bool) (room : ℕ) (tokens : List TokenKind) (fault : Fault) (at : ℕ) : Type 0 where
   pub there : at < length tokens
   pub begun : (more : List TokenKind) × (y : Found (List Item)) × (unit_of room wide (numbered (take at tokens ++ more)) ≡ done y)
-  pub alike : (more : List TokenKind) → (n : ℕ) × (unit_of room wide (numbered (take (at + 1) tokens ++ more)) ≡ Err (fault, n))
+  pub alike : (more : List TokenKind)
+      → (n : ℕ) × (unit_of room wide (numbered (take (at + 1) tokens ++ more)) ≡ Err (fault, n))
 
 -- Over the law of the items of a unit.
 module _ (wide : Bool) (room : ℕ) (items_law : Law false (items_with (knot room) (room - 1)) any is_end) where
   -- The tokens before this one are begun by a unit, and with one of its kind behind them none is read.
-  first_bad : (tokens : List TokenKind) (fault : Fault) (at : ℕ) (b : List Lexeme) (t : Lexeme) (r : List Lexeme) → numbered tokens ≡ b ++ (t ∷ r) → at ≡ t.at →
+  first_bad : (tokens : List TokenKind) (fault : Fault) (at : ℕ) (b : List Lexeme) (t : Lexeme) (r : List Lexeme)
+      → numbered tokens ≡ b ++ (t ∷ r) → at ≡ t.at →
       ((k : List Lexeme) → first_kind k ≡ Some t.kind → unit_of room wide (b ++ k) ≡ Err (fault, number_at k)) →
-      ((n : ℕ) → (more : List TokenKind) × (y : Found (List Item)) × (unit_of room wide (b ++ numbered_from n more) ≡ done y)) → Placed wide room tokens fault at
+      ((n : ℕ) → (more : List TokenKind) × (y : Found (List Item)) × (unit_of room wide (b ++ numbered_from n more) ≡ done y))
+      → Placed wide room tokens fault at
   first_bad tokens fault at b t r e place none begun =
       let c = cut 0 tokens b t r e in
       let here : at ≡ length b = place ∙ c.there ∙ omega arith in
@@ -112,7 +121,8 @@ module _ (wide : Bool) (room : ℕ) (items_law : Law false (items_with (knot roo
       })
 
   -- a unit, of what the reader of items does
-  read_ends : (all : List Lexeme) (items : List Item) (scopes : HeldScopes) (n : ℕ) → items_with (knot room) (room - 1) (file_scope wide) all ≡ done (found items scopes (record { kind = kinds.End; at = n } ∷ [])) →
+  read_ends : (all : List Lexeme) (items : List Item) (scopes : HeldScopes) (n : ℕ)
+      → items_with (knot room) (room - 1) (file_scope wide) all ≡ done (found items scopes (record { kind = kinds.End; at = n } ∷ [])) →
       unit_of room wide all ≡ done (found items (file_scope wide) [])
   unfolding and_then
   read_ends all items scopes n e = rw e refl
@@ -128,13 +138,16 @@ module _ (wide : Bool) (room : ℕ) (items_law : Law false (items_with (knot roo
         read_ends (b ++ (numbered_from n more ++ (record { kind = kinds.End; at = n + length more } ∷ []))) items scopes (n + length more) (reads (record { kind = kinds.End; at = n + length more } ∷ []) refl),
   )
 
-  begun_by : (b : List Lexeme) → Opened false (items_with (knot room) (room - 1)) is_end (file_scope wide) b → (n : ℕ) → (more : List TokenKind) × (y : Found (List Item)) × (unit_of room wide (b ++ numbered_from n more) ≡ done y)
+  begun_by : (b : List Lexeme) → Opened false (items_with (knot room) (room - 1)) is_end (file_scope wide) b → (n : ℕ)
+      → (more : List TokenKind) × (y : Found (List Item)) × (unit_of room wide (b ++ numbered_from n more) ≡ done y)
   begun_by [] o n = let r = items_law.ready (file_scope wide) n in completed [] n r.more r.tree r.scopes r.reads
   begun_by (t ∷ b) o n = let c = o n in completed (t ∷ b) n c.more c.tree c.scopes c.reads
 
   module _ (tokens : List TokenKind) (has : has_end (numbered tokens) ≡ true) (fault : Fault) (at : ℕ) where
     -- the items are refused
-    items_refused : (d : Refusal) → Refused false (items_with (knot room) (room - 1)) is_end (file_scope wide) (numbered tokens) d → refused d ≡ refused (fault, at) → Placed wide room tokens fault at
+    items_refused : (d : Refusal)
+        → Refused false (items_with (knot room) (room - 1)) is_end (file_scope wide) (numbered tokens) d
+        → refused d ≡ refused (fault, at) → Placed wide room tokens fault at
     unfolding and_then
     items_refused d o e = by_rest o.rest refl
       where
@@ -144,17 +157,21 @@ module _ (wide : Bool) (room : ℕ) (items_law : Law false (items_with (knot roo
             first_bad tokens fault at o.before t r (o.parts ∙ ap (λ (k : List Lexeme). o.before ++ k) is) (same_place d (fault, at) (Err d) refl e ∙ o.place ∙ ap number_at is)
             (λ k h. rw (o.same k (h ∙ ap first_kind (sym is))) (ap (λ (c : Fault). refused (c, number_at k)) (same_code d (fault, at) e))) (begun_by o.before o.opened)
 
-    not_end : (x : Found (List Item)) (k : List Lexeme) (t : Lexeme) → first_kind k ≡ Some t.kind → is_end t.kind ≡ false → and_then (token_at is_end x.scopes k) (λ last. alone wide x.tree last.rest) ≡ Err (Unexpected, number_at k)
+    not_end : (x : Found (List Item)) (k : List Lexeme) (t : Lexeme) → first_kind k ≡ Some t.kind
+        → is_end t.kind ≡ false
+        → and_then (token_at is_end x.scopes k) (λ last. alone wide x.tree last.rest) ≡ Err (Unexpected, number_at k)
     unfolding and_then
     not_end x [] t h other = absurd cc
     not_end x (u ∷ us) t h other = let same : u.kind ≡ t.kind = cc in rw (same, other) refl
 
-    not_alone : (x : Found (List Item)) (k : List Lexeme) (t : Lexeme) → first_kind k ≡ Some t.kind → alone wide x.tree k ≡ Err (Unexpected, number_at k)
+    not_alone : (x : Found (List Item)) (k : List Lexeme) (t : Lexeme) → first_kind k ≡ Some t.kind
+        → alone wide x.tree k ≡ Err (Unexpected, number_at k)
     not_alone x [] t h = absurd cc
     not_alone x (u ∷ us) t h = refl
 
     -- the items are read, and what stands behind them is refused
-    end_refused : (x : Found (List Item)) → Answered false (items_with (knot room) (room - 1)) is_end (file_scope wide) (numbered tokens) x →
+    end_refused : (x : Found (List Item))
+        → Answered false (items_with (knot room) (room - 1)) is_end (file_scope wide) (numbered tokens) x →
         and_then (token_at is_end x.scopes x.rest) (λ last. alone wide x.tree last.rest) ≡ Err (fault, at) → Placed wide room tokens fault at
     unfolding and_then
     end_refused x o e = by_rest x.rest refl
@@ -179,20 +196,26 @@ module _ (wide : Bool) (room : ℕ) (items_law : Law false (items_with (knot roo
                     (λ k h. rw (append_assoc o.before (t ∷ []) k, o.same (t ∷ k) (ap first_kind (sym is)), last) (not_alone x k u h ∙ ap (λ (c : Fault). refused (c, number_at k)) (code_is (Unexpected, u.at) (fault, at) _ now e)))
                     (λ n. ([], found x.tree (file_scope wide) [], rw (append_assoc o.before (t ∷ []) [], o.same (t ∷ []) (ap first_kind (sym is)), last) refl))
 
-  place_of : (body : List TokenKind) (fault : Fault) (at : ℕ) → unit_of room wide (numbered (body ++ kinds.End ∷ [])) ≡ Err (fault, at) → Placed wide room (body ++ kinds.End ∷ []) fault at
+  place_of : (body : List TokenKind) (fault : Fault) (at : ℕ)
+      → unit_of room wide (numbered (body ++ kinds.End ∷ [])) ≡ Err (fault, at)
+      → Placed wide room (body ++ kinds.End ∷ []) fault at
   unfolding and_then
   place_of body fault at e = by_items (items_with (knot room) (room - 1) (file_scope wide) all) refl (items_law.good (file_scope wide) all) e
     where
       all : List Lexeme
       all = numbered (body ++ kinds.End ∷ [])
 
-      at_items : (r : Read (List Item)) → items_with (knot room) (room - 1) (file_scope wide) all ≡ r → unit_of room wide all ≡ and_then r (λ items. and_then (token_at is_end items.scopes items.rest) (λ last. alone wide items.tree last.rest))
+      at_items : (r : Read (List Item)) → items_with (knot room) (room - 1) (file_scope wide) all ≡ r
+          → unit_of room wide all ≡ and_then r (λ items. and_then (token_at is_end items.scopes items.rest) (λ last. alone wide items.tree last.rest))
       at_items r is = ap (λ (r : Read (List Item)). and_then r (λ items. and_then (token_at is_end items.scopes items.rest) (λ last. alone wide items.tree last.rest))) is
 
-      by_items : (r : Read (List Item)) → items_with (knot room) (room - 1) (file_scope wide) all ≡ r → Outcome false (items_with (knot room) (room - 1)) is_end (file_scope wide) all r → unit_of room wide all ≡ Err (fault, at) → Placed wide room (body ++ kinds.End ∷ []) fault at
+      by_items : (r : Read (List Item)) → items_with (knot room) (room - 1) (file_scope wide) all ≡ r
+          → Outcome false (items_with (knot room) (room - 1)) is_end (file_scope wide) all r
+          → unit_of room wide all ≡ Err (fault, at) → Placed wide room (body ++ kinds.End ∷ []) fault at
       by_items (Err d) is o e = items_refused (body ++ kinds.End ∷ []) (has_end_last 0 body) fault at d o (sym (at_items (Err d) is) ∙ e)
       by_items (Ok x) is o e = end_refused (body ++ kinds.End ∷ []) (has_end_last 0 body) fault at x o (sym (at_items (Ok x) is) ∙ e)
 
-  pub placed : (tokens : List TokenKind) (fault : Fault) (at : ℕ) → IsEnded tokens → unit_of room wide (numbered tokens) ≡ Err (fault, at) → Placed wide room tokens fault at
+  pub placed : (tokens : List TokenKind) (fault : Fault) (at : ℕ) → IsEnded tokens
+      → unit_of room wide (numbered tokens) ≡ Err (fault, at) → Placed wide room tokens fault at
   placed tokens fault at ended e =
       subst (λ (tokens : List TokenKind). Placed wide room tokens fault at) (sym ended.1) (place_of ended.0 fault at (subst (λ (tokens : List TokenKind). unit_of room wide (numbered tokens) ≡ Err (fault, at)) ended.1 e))

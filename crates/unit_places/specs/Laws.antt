@@ -1,4 +1,5 @@
--- Where a list of tokens is refused for its syntax: at the first token up to which no well-formed unit begins so; and with
+-- Where a list of tokens is refused for its syntax: at the first token up to which no well-formed unit begins so; and
+-- with
 -- another fault than the height none of any height begins so either.
 use Rattle.std.specs.Prelude.{◌≡◌, ℕ, Bool, ◌+◌, List, [], ◌∷◌, ◌++◌, take, Err}
 use Rattle.c_words.specs.declared.kinds.TokenKind.{TokenKind}
@@ -18,7 +19,8 @@ IsEnded tokens = (body : List TokenKind) × (tokens ≡ body ++ kinds.End ∷ []
 abbrev pub Refuses : Bool → List TokenKind → Fault → ℕ → Type 0
 Refuses wide tokens fault at = unit_at wide (numbered tokens) ≡ Err (fault, at)
 
--- whatever the fault is: some well-formed unit begins with the tokens before the refused one, and none with those up to it
+-- whatever the fault is: some well-formed unit begins with the tokens before the refused one, and none with those up to
+-- it
 abbrev pub PlaceIsFirst : Type 0
 PlaceIsFirst = (wide : Bool) (tokens : List TokenKind) (fault : Fault) (at : ℕ) → IsEnded tokens → Refuses wide tokens fault at → IsFirstBad wide tokens at
 

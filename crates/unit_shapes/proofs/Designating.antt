@@ -1,8 +1,8 @@
 -- A designator of a member changes the innermost list, where that initialises something, and nothing else.
 use Rattle.std.proofs.Common.{◌≡◌, ℕ, true, false, List, [], ◌∷◌, refl, sym, ◌∙◌, ap}
 use Rattle.name_rules.specs.Scopes.{Aggregate}
-use Rattle.shape_steps.specs.State.{Braces, whole, untargeted, listed, State, first_braces, changed, without_innermost}
-use Rattle.shape_steps.specs.Steps.{with_member, within, in_braces, list_left}
+use Rattle.name_rules.specs.ShapeSteps.State.{Braces, whole, untargeted, listed, State, first_braces, changed, without_innermost}
+use Rattle.name_rules.specs.ShapeSteps.Steps.{with_member, within, in_braces, list_left}
 use Rattle.unit_shapes.specs.Targets.{is_listed}
 
 module _ (all : List Aggregate) (name : ℕ) where

@@ -4,10 +4,10 @@ use Rattle.type_table.specs.declared.row.Row.{Row}
 use Rattle.type_table.specs.Types.{Words, CType, base, void, pointer}
 use Rattle.type_table.specs.Rows.{type_of}
 use Rattle.name_rules.specs.Pieces.{with_words, piece_of, to_function, types_in}
-use Rattle.name_steps.specs.Steps.{ellipsis_where}
-use Rattle.name_types.specs.Known.{Knows, Is, Grows}
+use Rattle.name_rules.specs.NameSteps.Steps.{ellipsis_where}
+use Rattle.name_state.specs.NameTypes.Known.{Knows, Is, Grows}
 use Rattle.std.proofs.lemmas.Bool.{cases_lt}
-use Rattle.name_types.proofs.Bare.{past_is}
+use Rattle.name_state.proofs.NameTypes.Bare.{past_is}
 use Rattle.name_rules.specs.Uses.{text_type}
 use Rattle.name_rules.specs.Values.{undeclared_function}
 use Rattle.unit_shapes.specs.declared.uses.ImplicitTypes.{ImplicitTypes}
@@ -46,7 +46,8 @@ implicit first second third fourth number nothing text function ws vs us ps g h 
       low = let l = g.longer in let m = h.longer in let n = i.longer in omega arith;
     }
 
-kept : (old new : List Row) (n : ℕ) (t : CType) → Grows old new → type_of old n ≡ t → (t ≡ base [] → ⊥) → type_of new n ≡ t
+kept : (old new : List Row) (n : ℕ) (t : CType) → Grows old new → type_of old n ≡ t → (t ≡ base [] → ⊥)
+    → type_of new n ≡ t
 kept old new n t grows is other = elim (cases_lt n (length old)) [
   | inl lt ↦ grows.keeps n lt ∙ is
   | inr past ↦ absurd (other (sym is ∙ past_is old n past))

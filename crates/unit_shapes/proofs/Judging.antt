@@ -4,10 +4,10 @@ use Rattle.tape_ops.specs.declared.op.Op.{Op}
 use Rattle.name_rules.specs.Spellings.{Spelling}
 use Rattle.name_rules.specs.Faults.{Fault}
 use Rattle.name_rules.specs.Scopes.{Names}
-use Rattle.shape_steps.specs.State.{State}
-use Rattle.shape_steps.specs.Steps.{step}
-use Rattle.shape_steps.specs.OpFaults.{op_faults}
-use Rattle.shape_steps.specs.Found.{faults_found}
+use Rattle.name_rules.specs.ShapeSteps.State.{State}
+use Rattle.name_rules.specs.ShapeSteps.Steps.{step}
+use Rattle.name_rules.specs.ShapeSteps.OpFaults.{op_faults}
+use Rattle.name_rules.specs.ShapeSteps.Found.{faults_found}
 use Rattle.unit_shapes.specs.Faults.{keep}
 use Rattle.unit_shapes.proofs.Keeping.{keep_append}
 

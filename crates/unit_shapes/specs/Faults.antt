@@ -5,6 +5,7 @@ use Rattle.unit_shapes.specs.declared.fault.Rule.{Rule}
 use Rattle.unit_shapes.specs.declared.fault.Rule.TheVariants as rule_names
 use Rattle.unit_shapes.specs.declared.fault.Fault.{Fault}
 
+-- the rule that a fault breaks, as the definitions have it
 abbrev pub rule_of : Rule → rules.Rule
 rule_of rule_names.Undeclared = rules.undeclared
 rule_of rule_names.NotPointer = rules.not_pointer
@@ -16,9 +17,11 @@ rule_of rule_names.DefinedTwice = rules.defined_twice
 rule_of rule_names.TypeTooLarge = rules.type_too_large
 rule_of rule_names.NoType = rules.no_type
 
+-- a fault, as the definitions have it
 abbrev pub fault_of : Fault → rules.Fault
 fault_of it = record { at = it.at; rule = rule_of it.rule }
 
+-- a fault, where there is one, as the definitions have it
 abbrev pub some_fault_of : Option Fault → Option rules.Fault
 some_fault_of None = None
 some_fault_of (Some it) = Some (fault_of it)
@@ -27,6 +30,7 @@ some_fault_of (Some it) = Some (fault_of it)
 abbrev pub is_lower : ℕ → ℕ → ℕ → ℕ → ℕ → ℕ → Bool
 is_lower a b c x y z = nat_lt a x || (nat_eq a x && (nat_lt b y || (nat_eq b y && nat_lt c z)))
 
+-- whether a fault comes before another: by the unit, then by the token, then by the rule
 abbrev pub is_before : rules.Fault → rules.Fault → Bool
 is_before f g = is_lower f.at.0 f.at.1 (rules.number f.rule) g.at.0 g.at.1 (rules.number g.rule)
 

@@ -3,10 +3,11 @@ use Rattle.std.specs.Prelude.{ℕ, Bool, true, false, List, Some, None, option_m
 use Rattle.type_table.specs.Types.{CType}
 use Rattle.name_rules.specs.Scopes.{Aggregate}
 use Rattle.name_rules.specs.Values as rules
-use Rattle.shape_steps.specs.State.{Braces, whole, untargeted, listed}
+use Rattle.name_rules.specs.ShapeSteps.State.{Braces, whole, untargeted, listed}
 use Rattle.unit_shapes.specs.declared.targets.Target.{Target}
 use Rattle.unit_shapes.specs.declared.targets.Target.TheVariants as targets
 
+-- what an item of an initialiser initialises, with the type in place of its number
 abbrev pub target_of : (ℕ → CType) → Target → rules.Target
 target_of t targets.Nothing = rules.no_target
 target_of t (targets.To ty) = rules.to (option_map t ty)

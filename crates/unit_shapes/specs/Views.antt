@@ -4,14 +4,16 @@ use Rattle.type_table.specs.declared.row.Row.{Row}
 use Rattle.type_table.specs.Rows.{type_of}
 use Rattle.name_rules.specs.Scopes as rules
 use Rattle.name_rules.specs.Values.{undeclared_function}
-use Rattle.unit_names.specs.declared.names.Names.{Names}
-use Rattle.unit_names.specs.Shown.{names_of}
+use Rattle.name_state.specs.declared.unit_names.names.Names.{Names}
+use Rattle.name_state.specs.UnitNames.Shown.{names_of}
 use Rattle.expr_shapes.specs.Types.{ArePlain}
 use Rattle.unit_shapes.specs.declared.uses.ImplicitTypes.{ImplicitTypes}
 
+-- what is known of names, with the types of a table in place of their numbers
 abbrev pub names_in : List Row → Names → rules.Names
 names_in rows s = names_of (type_of rows) s
 
+-- the numbers of types that no source writes are right: of plain ones, and of a function that is called undeclared
 pub record AreImplicit (rows : List Row) (it : ImplicitTypes) : Type 0 where
   pub plain : ArePlain rows it.plain
   pub function : type_of rows it.function ≡ undeclared_function

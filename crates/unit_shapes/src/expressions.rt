@@ -1,9 +1,9 @@
 //! What operands and operators do to the stacks.
 
 ghost use Rattle.std.specs.Prelude.{◌≡◌, ℕ, Bool, OnOk};
-ghost use Rattle.shape_steps.specs.Steps as steps;
-ghost use Rattle.shape_stacks.specs.Views.{state_in};
-ghost use Rattle.unit_spelling.specs.Spelled.{spelling_of};
+ghost use Rattle.name_rules.specs.ShapeSteps.Steps as steps;
+ghost use Rattle.expr_shapes.specs.ShapeStacks.Views.{state_in};
+ghost use Rattle.name_tables.specs.UnitSpelling.Spelled.{spelling_of};
 ghost use Rattle.unit_shapes.specs.Views.{names_in, AreImplicit};
 ghost use Rattle.tape_ops.specs.declared.expression.ExprOp.TheVariants as exprs;
 ghost use Rattle.tape_ops.specs.declared.form.FormOp.TheVariants as forms;
@@ -11,13 +11,13 @@ ghost use Rattle.tape_ops.specs.declared.form.FormOp.TheVariants as forms;
 use crate::members::{member_of_type, member_type};
 use crate::uses::{ImplicitTypes, shape_of_use};
 use expr_shapes as shapes;
+use expr_shapes::shape_stacks::Stacks;
+use expr_shapes::shape_values::ValueType;
+use name_state::unit_names::Names;
+use name_tables::unit_spelling::Spelling;
 use qual_base::{NameId, NoMemory, TokenId};
-use shape_stacks::Stacks;
-use shape_values::ValueType;
 use tape_ops::{ExprOp, FormOp};
 use type_table::TypeTable;
-use unit_names::Names;
-use unit_spelling::Spelling;
 
 /// A name. Constant time but for growth.
 fn name(

@@ -4,7 +4,7 @@ ghost use Rattle.std.specs.Prelude.{◌≡◌, Some};
 ghost use Rattle.name_rules.specs.Faults.{number, fault_where};
 ghost use Rattle.unit_shapes.specs.Faults.{rule_of, fault_of, some_fault_of, is_before, earlier, keep};
 
-use name_scopes::Place;
+use name_tables::name_scopes::Place;
 use qual_base::Numbered;
 
 /// The rules of names and types that may fail, the lower first.

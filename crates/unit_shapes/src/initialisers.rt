@@ -2,22 +2,22 @@
 
 ghost use Rattle.std.specs.Prelude.{◌≡◌, List, OnOk};
 ghost use Rattle.type_table.specs.declared.row.Row as row;
-ghost use Rattle.shape_steps.specs.State as states;
-ghost use Rattle.shape_steps.specs.Steps as steps;
-ghost use Rattle.shape_values.specs.Views.{some_type};
-ghost use Rattle.shape_stacks.specs.Views.{state_in, braces_in};
-ghost use Rattle.unit_spelling.specs.Spelled.{spelling_of};
+ghost use Rattle.name_rules.specs.ShapeSteps.State as states;
+ghost use Rattle.name_rules.specs.ShapeSteps.Steps as steps;
+ghost use Rattle.expr_shapes.specs.ShapeValues.Views.{some_type};
+ghost use Rattle.expr_shapes.specs.ShapeStacks.Views.{state_in, braces_in};
+ghost use Rattle.name_tables.specs.UnitSpelling.Spelled.{spelling_of};
 ghost use Rattle.unit_shapes.specs.Targets.{is_listed};
 ghost use Rattle.unit_shapes.specs.Views.{names_in};
 
 use crate::targets::{list_of, number_behind, target_in, with_member};
 use crate::uses::type_declared;
+use expr_shapes::shape_stacks::{Braces, Stacks};
+use name_state::unit_names::Names;
+use name_tables::unit_spelling::Spelling;
 use qual_base::{NameId, NoMemory, TypeId};
-use shape_stacks::{Braces, Stacks};
 use tape_ops::InitOp;
 use type_table::TypeTable;
-use unit_names::Names;
-use unit_spelling::Spelling;
 
 /// The type of the name that was declared last. Constant time.
 fn type_of_name(

@@ -3,12 +3,12 @@
 ghost use Rattle.std.specs.Prelude.{◌≡◌, ◌++◌, ℕ, List, None, Some, map, OnOk};
 ghost use Rattle.type_table.specs.Types.{CType};
 ghost use Rattle.name_rules.specs.Faults as rules;
-ghost use Rattle.shape_steps.specs.State.{nothing};
-ghost use Rattle.shape_steps.specs.Found.{faults_found};
-ghost use Rattle.shape_stacks.specs.Views.{state_in};
-ghost use Rattle.unit_names.specs.Shown as shown;
-ghost use Rattle.unit_names.specs.Shown.{names_of};
-ghost use Rattle.unit_spelling.specs.Spelled.{spelling_of};
+ghost use Rattle.name_rules.specs.ShapeSteps.State.{nothing};
+ghost use Rattle.name_rules.specs.ShapeSteps.Found.{faults_found};
+ghost use Rattle.expr_shapes.specs.ShapeStacks.Views.{state_in};
+ghost use Rattle.name_state.specs.UnitNames.Shown as shown;
+ghost use Rattle.name_state.specs.UnitNames.Shown.{names_of};
+ghost use Rattle.name_tables.specs.UnitSpelling.Spelled.{spelling_of};
 ghost use Rattle.unit_shapes.specs.Faults.{rule_of, some_fault_of, keep, IsFirstOf};
 ghost use Rattle.unit_shapes.specs.Views.{names_in, AreImplicit};
 
@@ -16,14 +16,14 @@ use crate::fault::{Fault, Rule, keep};
 use crate::op_faults::note_faults;
 use crate::steps::step;
 use crate::uses::ImplicitTypes;
+use expr_shapes::shape_stacks::Stacks;
 use name_records as records;
+use name_state::unit_names::Names;
+use name_tables::unit_spelling::Spelling;
 use qual_base::NoMemory;
-use shape_stacks::Stacks;
 use std::alloc::Global;
 use tape_ops::Op;
 use type_table::TypeTable;
-use unit_names::Names;
-use unit_spelling::Spelling;
 
 /// A rule of names among all rules.
 fn rule_of_names(rule: &records::Rule) -> Rule

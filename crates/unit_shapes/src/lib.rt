@@ -1,5 +1,7 @@
-//! The types of expressions and the faults of a unit, by one loop over its tape (C99, 6.5 and
-//! 6.7.8).
+//! The types of expressions and the faults of a unit, by one loop over its tape (C99, 6.5 and 6.7.8).
+//!
+//! Entry: `judge_tape`. Invariant: the stacks are those of the steps, and the fault is the first.
+//! It does not know trees. Above: `c_names`, `c_types`.
 #![tactic(auto)]
 
 mod expressions;

@@ -5,15 +5,15 @@ ghost use Rattle.type_table.specs.Types.{CType};
 ghost use Rattle.type_table.specs.Rows.{type_of};
 ghost use Rattle.name_rules.specs.Scopes.{body_of};
 ghost use Rattle.name_rules.specs.Values as rules;
-ghost use Rattle.shape_values.specs.Views.{some_type, some_value_type, value_type};
-ghost use Rattle.unit_names.specs.Shown.{names_of, known_of};
+ghost use Rattle.expr_shapes.specs.ShapeValues.Views.{some_type, some_value_type, value_type};
+ghost use Rattle.name_state.specs.UnitNames.Shown.{names_of, known_of};
 ghost use Rattle.unit_shapes.specs.Views.{names_in};
 
-use name_records::Known;
+use expr_shapes::shape_values::ValueType;
+use name_state::unit_names::Names;
+use name_tables::name_records::Known;
 use qual_base::{NameId, NoMemory, Numbered, StructId, TypeId};
-use shape_values::ValueType;
 use type_table::{Shape, TypeTable};
-use unit_names::Names;
 
 /// A member of what has a type. Constant time.
 fn member_of(names: &Names, types: &TypeTable, ty: TypeId, name: NameId) -> Option<Known>

@@ -4,11 +4,11 @@ ghost use Rattle.std.specs.Prelude.{◌≡◌, List};
 ghost use Rattle.type_table.specs.declared.row.Row as row;
 ghost use Rattle.name_rules.specs.Spellings.{place};
 ghost use Rattle.name_rules.specs.Checks.{prefix_faults, call_faults, member_faults};
-ghost use Rattle.shape_values.specs.Views.{some_type, some_value_type};
-ghost use Rattle.shape_steps.specs.State as states;
-ghost use Rattle.shape_steps.specs.OpFaults as op_faults;
-ghost use Rattle.shape_stacks.specs.Views.{state_in};
-ghost use Rattle.unit_spelling.specs.Spelled.{spelling_of};
+ghost use Rattle.expr_shapes.specs.ShapeValues.Views.{some_type, some_value_type};
+ghost use Rattle.name_rules.specs.ShapeSteps.State as states;
+ghost use Rattle.name_rules.specs.ShapeSteps.OpFaults as op_faults;
+ghost use Rattle.expr_shapes.specs.ShapeStacks.Views.{state_in};
+ghost use Rattle.name_tables.specs.UnitSpelling.Spelled.{spelling_of};
 ghost use Rattle.unit_shapes.specs.Faults.{some_fault_of, keep};
 ghost use Rattle.unit_shapes.specs.Views.{names_in};
 
@@ -17,13 +17,13 @@ use crate::members::lacks_member;
 use crate::targets::designated;
 use c_words::Punct;
 use expr_shapes as shapes;
+use expr_shapes::shape_stacks::Stacks;
+use expr_shapes::shape_values::{ValueType, is_no_pointer};
+use name_state::unit_names::Names;
+use name_tables::unit_spelling::Spelling;
 use qual_base::{NameId, TokenId, TypeId};
-use shape_stacks::Stacks;
-use shape_values::{ValueType, is_no_pointer};
 use tape_ops::{ExprOp, FormOp, InitOp, Op};
 use type_table::TypeTable;
-use unit_names::Names;
-use unit_spelling::Spelling;
 
 /// The faults of an operator before its operand. Constant time.
 #[tactic(auto, using(crate::proofs::Keeping::keep_append))]

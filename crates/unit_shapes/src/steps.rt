@@ -1,10 +1,10 @@
 //! What each op of a tape does to the stacks.
 
 ghost use Rattle.std.specs.Prelude.{◌≡◌, OnOk};
-ghost use Rattle.shape_steps.specs.State as states;
-ghost use Rattle.shape_steps.specs.Steps as steps;
-ghost use Rattle.shape_stacks.specs.Views.{state_in};
-ghost use Rattle.unit_spelling.specs.Spelled.{spelling_of};
+ghost use Rattle.name_rules.specs.ShapeSteps.State as states;
+ghost use Rattle.name_rules.specs.ShapeSteps.Steps as steps;
+ghost use Rattle.expr_shapes.specs.ShapeStacks.Views.{state_in};
+ghost use Rattle.name_tables.specs.UnitSpelling.Spelled.{spelling_of};
 ghost use Rattle.tape_ops.specs.declared.declarator.DeclrOp.TheVariants as declrs;
 ghost use Rattle.unit_shapes.specs.Views.{names_in, AreImplicit};
 
@@ -12,12 +12,12 @@ use crate::expressions::{expression, form};
 use crate::initialisers::initialiser;
 use crate::uses::{ImplicitTypes, type_named};
 use expr_shapes as shapes;
+use expr_shapes::shape_stacks::Stacks;
+use name_state::unit_names::Names;
+use name_tables::unit_spelling::Spelling;
 use qual_base::{NoMemory, TokenId};
-use shape_stacks::Stacks;
 use tape_ops::{DeclrOp, Op, SpecOp, StmtOp};
 use type_table::TypeTable;
-use unit_names::Names;
-use unit_spelling::Spelling;
 
 /// What a word of specifiers does. Constant time but for growth.
 fn specifier(stacks: &mut Stacks, types: &TypeTable, op: SpecOp) -> Result<(), NoMemory>

@@ -7,18 +7,18 @@ ghost use Rattle.type_table.specs.Types.{CType};
 ghost use Rattle.type_table.specs.Rows.{type_of};
 ghost use Rattle.name_rules.specs.Values as rules;
 ghost use Rattle.name_rules.specs.Checks.{target_of_item};
-ghost use Rattle.shape_values.specs.Views.{some_type};
-ghost use Rattle.shape_steps.specs.Steps as steps;
-ghost use Rattle.shape_stacks.specs.Views.{braces_in, some_named};
-ghost use Rattle.unit_names.specs.Shown.{names_of};
+ghost use Rattle.expr_shapes.specs.ShapeValues.Views.{some_type};
+ghost use Rattle.name_rules.specs.ShapeSteps.Steps as steps;
+ghost use Rattle.expr_shapes.specs.ShapeStacks.Views.{braces_in, some_named};
+ghost use Rattle.name_state.specs.UnitNames.Shown.{names_of};
 ghost use Rattle.unit_shapes.specs.Targets.{target_of, number_behind};
 ghost use Rattle.unit_shapes.specs.Views.{names_in};
 
 use crate::members::{behind_member, member_of_type};
+use expr_shapes::shape_stacks::Braces;
+use name_state::unit_names::Names;
 use qual_base::{NameId, NoMemory, StructId, TypeId};
-use shape_stacks::Braces;
 use type_table::{Shape, TypeTable};
-use unit_names::Names;
 
 /// What an item initialises: nothing, or what has a type, where that is known.
 #[derive(Clone, Copy, PartialEq, Eq, Debug, Drop)]

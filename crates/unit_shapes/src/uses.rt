@@ -5,20 +5,20 @@ ghost use Rattle.type_table.specs.Rows.{type_of};
 ghost use Rattle.name_rules.specs.Checks.{type_declared};
 ghost use Rattle.name_rules.specs.Scopes.{declared_at};
 ghost use Rattle.name_rules.specs.Uses.{use_at, use_shape, declared_shape, some_declared_shape, type_named_at};
-ghost use Rattle.name_types.specs.Known.{Grows};
-ghost use Rattle.shape_values.specs.Views.{shape_in, some_type};
-ghost use Rattle.unit_names.specs.Shown.{use_of, role_of};
+ghost use Rattle.name_state.specs.NameTypes.Known.{Grows};
+ghost use Rattle.expr_shapes.specs.ShapeValues.Views.{shape_in, some_type};
+ghost use Rattle.name_state.specs.UnitNames.Shown.{use_of, role_of};
 ghost use Rattle.unit_shapes.specs.Views.{names_in, AreImplicit};
 
 use expr_shapes::Plain;
-use name_records::{Declared, Role, Use};
-use name_scopes::Place;
-use name_types::{SoFar, Types};
+use expr_shapes::shape_values::{ExprShape, ValueType};
+use name_state::name_types::{SoFar, Types};
+use name_state::unit_names::Names;
+use name_tables::name_records::{Declared, Role, Use};
+use name_tables::name_scopes::Place;
 use qual_base::{NoMemory, TypeId};
-use shape_values::{ExprShape, ValueType};
 use std::alloc::Global;
 use type_table::TypeTable;
-use unit_names::Names;
 
 /// The numbers of types that no declaration writes: those that operators give, and that of a
 /// function that is called without a declaration.

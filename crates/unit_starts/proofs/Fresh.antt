@@ -8,11 +8,11 @@ use Rattle.type_table.specs.Types.{CType, base}
 use Rattle.name_rules.specs.Spellings.{Place, Spelling, place}
 use Rattle.name_rules.specs.Scopes.{Names}
 use Rattle.name_rules.specs.Values.{cond_type, Shape, Candidate, address, is_fresh_pick, pick_shape}
-use Rattle.shape_steps.specs.State.{State, shape_at, value_at, is_zero_at}
-use Rattle.shape_steps.specs.Steps.{chosen}
+use Rattle.name_rules.specs.ShapeSteps.State.{State, shape_at, value_at, is_zero_at}
+use Rattle.name_rules.specs.ShapeSteps.Steps.{chosen}
 use Rattle.row_rules.specs.Starting.{Start, some_fresh, fresh_where, is_fresh_prefix, prefix_starts}
-use Rattle.row_steps.specs.Rounds.{Rounds, is_quiet}
-use Rattle.row_steps.specs.Starting.{function_at, around, expr_op_starts, form_op_starts, selected_among}
+use Rattle.row_rules.specs.RowSteps.Rounds.{Rounds, is_quiet}
+use Rattle.row_rules.specs.RowSteps.Starting.{function_at, around, expr_op_starts, form_op_starts, selected_among}
 use Rattle.unit_starts.specs.declared.start.Around.{Around}
 use Rattle.unit_starts.specs.Views.{some_fresh_at, prefix_at, pick_at}
 

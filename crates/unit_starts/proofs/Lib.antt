@@ -1,2 +1,4 @@
 pub mod Fresh
 pub mod Selecting
+pub mod UnitSkeletons
+pub mod PositionLaws

@@ -5,15 +5,15 @@ use Rattle.type_table.specs.Types.{CType}
 use Rattle.name_rules.specs.Spellings.{Spelling, Place}
 use Rattle.name_rules.specs.Scopes.{Names}
 use Rattle.name_rules.specs.Values.{is_of_type}
-use Rattle.shape_steps.specs.State.{State, type_at}
-use Rattle.shape_steps.specs.Steps.{associations, step, twice}
-use Rattle.place_map.specs.Values.{or_else, there}
-use Rattle.place_map.proofs.Adding.{or_none, or_assoc}
-use Rattle.place_flags.specs.declared.PlaceFlags.{PlaceFlags}
-use Rattle.place_flags.specs.Flags.{row_at}
+use Rattle.name_rules.specs.ShapeSteps.State.{State, type_at}
+use Rattle.name_rules.specs.ShapeSteps.Steps.{associations, step, twice}
+use Rattle.name_tables.specs.PlaceMap.Values.{or_else, there}
+use Rattle.name_tables.proofs.PlaceMap.Adding.{or_none, or_assoc}
+use Rattle.name_tables.specs.declared.place_flags.PlaceFlags.{PlaceFlags}
+use Rattle.name_tables.specs.PlaceFlags.Flags.{row_at}
 use Rattle.row_rules.specs.Starting.{Selection, Start, candidate_flags}
-use Rattle.row_steps.specs.Rounds.{Rounds, round_step}
-use Rattle.row_steps.specs.Starting.{op_selections, op_starts, selection_at, selections_found, starts_found}
+use Rattle.row_rules.specs.RowSteps.Rounds.{Rounds, round_step}
+use Rattle.row_rules.specs.RowSteps.Starting.{op_selections, op_starts, selection_at, selections_found, starts_found}
 use Rattle.unit_starts.specs.Selecting.{AddsSelections, row_among, selection_row}
 
 -- the flags of one association after the other
@@ -48,7 +48,8 @@ adds_more a b c xs ys first second = λ p.
     second p ∙ ap (λ o. or_else o (row_among ys p)) (first p) ∙ or_assoc (row_at a p) (row_among xs p) (row_among ys p) ∙
     ap (or_else (row_at a p)) (sym (row_more xs ys p))
 
-drop_there : {A : Type 0} (xs : List A) (n : ℕ) (x : A) → x ≡ get_or xs n x → n < length xs → drop n xs ≡ x ∷ drop (n + 1) xs
+drop_there : {A : Type 0} (xs : List A) (n : ℕ) (x : A) → x ≡ get_or xs n x → n < length xs
+    → drop n xs ≡ x ∷ drop (n + 1) xs
 drop_there [] n x is lt = absurd (omega arith)
 drop_there (y ∷ ys) zero x is lt = ap (λ z. z ∷ ys) (sym is)
 drop_there (y ∷ ys) (suc n) x is lt =
@@ -60,7 +61,8 @@ drop_past [] (suc n) le = refl
 drop_past (x ∷ xs) zero le = absurd (omega arith)
 drop_past (x ∷ xs) (suc n) le = drop_past xs n (omega arith)
 
-next_selected : (u : Spelling) (s : Names) (st : State) (tape : List Op) (n : ℕ) (op : Op) → op ≡ get_or tape n op → n < length tape →
+next_selected : (u : Spelling) (s : Names) (st : State) (tape : List Op) (n : ℕ) (op : Op) → op ≡ get_or tape n op
+    → n < length tape →
     selections_found u s st (drop n tape) ≡ op_selections u st op ++ selections_found u s (step u s st op) (drop (n + 1) tape)
 next_selected u s st tape n op is lt = ap (selections_found u s st) (drop_there tape n op is lt)
 
@@ -70,7 +72,8 @@ pub record Selected (u : Spelling) (s : Names) (first st : State) (tape : List O
   pub added : AddsSelections old now some
   pub left : some ++ selections_found u s st (drop n tape) ≡ selections_found u s first tape
 
-pub at_first : (u : Spelling) (s : Names) (st : State) (tape : List Op) (it : PlaceFlags) → Selected u s st st tape 0 it it
+pub at_first : (u : Spelling) (s : Names) (st : State) (tape : List Op) (it : PlaceFlags)
+    → Selected u s st st tape 0 it it
 at_first u s st tape it = record { some = []; added = adds_none it; left = ap (selections_found u s st) (none tape) } where
   none : (tape : List Op) → drop 0 tape ≡ tape
   none [] = refl
@@ -88,7 +91,8 @@ at_next u s first st after tape n op old now new is lt so more next = record {
       ap (λ (all : List Selection). so.some ++ all) (sym (next_selected u s st tape n op is lt)) ∙ so.left;
 }
 
-pub at_last : (u : Spelling) (s : Names) (first st : State) (tape : List Op) (n : ℕ) (old now : PlaceFlags) → length tape ≤ n →
+pub at_last : (u : Spelling) (s : Names) (first st : State) (tape : List Op) (n : ℕ) (old now : PlaceFlags)
+    → length tape ≤ n →
     Selected u s first st tape n old now → AddsSelections old now (selections_found u s first tape)
 at_last u s first st tape n old now le so = λ p.
     so.added p ∙ ap (λ (all : List Selection). or_else (row_at old p) (row_among all p))
@@ -96,7 +100,8 @@ at_last u s first st tape n old now le so = λ p.
 
 -- what begins along a tape, one op after the other
 
-next_begun : (u : Spelling) (s : Names) (st : State) (r : Rounds) (tape : List Op) (n : ℕ) (op : Op) → op ≡ get_or tape n op →
+next_begun : (u : Spelling) (s : Names) (st : State) (r : Rounds) (tape : List Op) (n : ℕ) (op : Op)
+    → op ≡ get_or tape n op →
     n < length tape →
     starts_found u s st r (drop n tape) ≡
     op_starts u s st r op ++ starts_found u s (step u s st op) (round_step st.declarations r op) (drop (n + 1) tape)

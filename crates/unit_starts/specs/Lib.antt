@@ -1,2 +1,4 @@
 pub mod Views
 pub mod Selecting
+pub mod UnitSkeletons
+pub mod PositionLaws

@@ -2,11 +2,11 @@
 use Rattle.std.specs.Prelude.{◌≡◌, ℕ, Bool, List, [], ◌∷◌, Option, None}
 use Rattle.name_rules.specs.Spellings.{Place}
 use Rattle.name_rules.specs.Values.{has_of_type}
-use Rattle.shape_steps.specs.State.{State, value_at}
-use Rattle.shape_steps.specs.Steps.{associations, twice}
-use Rattle.place_map.specs.Values.{or_else, there}
-use Rattle.place_flags.specs.declared.PlaceFlags.{PlaceFlags}
-use Rattle.place_flags.specs.Flags.{row_at}
+use Rattle.name_rules.specs.ShapeSteps.State.{State, value_at}
+use Rattle.name_rules.specs.ShapeSteps.Steps.{associations, twice}
+use Rattle.name_tables.specs.PlaceMap.Values.{or_else, there}
+use Rattle.name_tables.specs.declared.place_flags.PlaceFlags.{PlaceFlags}
+use Rattle.name_tables.specs.PlaceFlags.Flags.{row_at}
 use Rattle.row_rules.specs.Starting.{Selection, candidate_flags}
 
 -- the flags of the first selection at a place

@@ -13,6 +13,7 @@ use Rattle.row_rules.specs.Starting as rules
 use Rattle.unit_starts.specs.declared.start.Start.{Start}
 use Rattle.unit_starts.specs.declared.start.Around.{Around}
 
+-- where a skeleton begins, with its type in place of the type's number
 abbrev pub start_in : List Row → Start → rules.Start
 start_in rows it =
     record {
@@ -22,10 +23,12 @@ start_in rows it =
       calls = it.calls;
     }
 
+-- where a skeleton begins, where one does
 abbrev pub starts_in : List Row → Option Start → List rules.Start
 starts_in rows None = []
 starts_in rows (Some it) = start_in rows it ∷ []
 
+-- what a fresh skeleton stands on, in a unit with these names
 abbrev pub around_in : Spelling → Names → Around → rules.Around
 around_in u s it =
     record { spelling = u; names = s; enclosing = it.enclosing; is_quiet = it.is_quiet; access = it.access }
@@ -36,6 +39,7 @@ fresh_at it at t =
     if it.is_quiet then []
     else record { at = at; type = t; owner = it.enclosing; calls = None } ∷ []
 
+-- a skeleton that is fresh at a place, where its type is known
 abbrev pub some_fresh_at : Around → Place → Option CType → List rules.Start
 some_fresh_at it at None = []
 some_fresh_at it at (Some t) = fresh_at it at t

@@ -3,16 +3,16 @@
 ghost use Rattle.std.specs.Prelude.{◌≡◌, not, ◌&&◌, [], List};
 ghost use Rattle.type_table.specs.Types.{base, void};
 ghost use Rattle.row_rules.specs.Starting as rules;
-ghost use Rattle.row_steps.specs.Starting.{expr_op_starts, form_op_starts, selected_among};
-ghost use Rattle.shape_steps.specs.State as states;
-ghost use Rattle.shape_stacks.specs.Views.{state_in};
-ghost use Rattle.unit_spelling.specs.Spelled.{spelling_of};
+ghost use Rattle.row_rules.specs.RowSteps.Starting.{expr_op_starts, form_op_starts, selected_among};
+ghost use Rattle.name_rules.specs.ShapeSteps.State as states;
+ghost use Rattle.expr_shapes.specs.ShapeStacks.Views.{state_in};
+ghost use Rattle.name_tables.specs.UnitSpelling.Spelled.{spelling_of};
 ghost use Rattle.unit_shapes.specs.Views.{names_in, AreImplicit};
 ghost use Rattle.unit_starts.specs.Views.{starts_in, fresh_at, some_fresh_at, prefix_at, pick_at};
 ghost use Rattle.name_rules.specs.Values.{Candidate, address, cond_type};
-ghost use Rattle.shape_steps.specs.Steps.{chosen};
-ghost use Rattle.shape_values.specs.Views.{shape_in};
-ghost use Rattle.shape_values.specs.Picks.{IsPicked};
+ghost use Rattle.name_rules.specs.ShapeSteps.Steps.{chosen};
+ghost use Rattle.expr_shapes.specs.ShapeValues.Views.{shape_in};
+ghost use Rattle.expr_shapes.specs.ShapeValues.Picks.{IsPicked};
 
 use crate::names::use_start;
 use crate::operands::{
@@ -20,16 +20,16 @@ use crate::operands::{
 };
 use crate::start::{Around, Start};
 use c_words::Punct;
+use expr_shapes::shape_stacks::Stacks;
+use expr_shapes::shape_values::{ExprShape, Picked, ValueType, address};
 use expr_shapes::{chosen, selected};
-use found_names::FoundNames;
-use name_scopes::Place;
-use shape_stacks::Stacks;
-use shape_values::{ExprShape, Picked, ValueType, address};
+use name_state::found_names::FoundNames;
+use name_tables::name_scopes::Place;
+use name_tables::unit_spelling::Spelling;
+use row_world::tape_rounds::Rounds;
 use tape_ops::{ExprOp, FormOp};
-use tape_rounds::Rounds;
 use type_table::TypeTable;
 use unit_shapes::ImplicitTypes;
-use unit_spelling::Spelling;
 
 /// A fresh skeleton of a number, where there is one. Constant time.
 fn fresh_number(

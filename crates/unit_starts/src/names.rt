@@ -6,23 +6,23 @@ ghost use Rattle.name_rules.specs.Spellings.{place};
 ghost use Rattle.name_rules.specs.Scopes.{declared_at};
 ghost use Rattle.name_rules.specs.Uses.{use_at};
 ghost use Rattle.row_rules.specs.Starting as rules;
-ghost use Rattle.row_steps.specs.Starting.{naming_has};
-ghost use Rattle.tape_rounds.specs.Views.{naming_of};
-ghost use Rattle.unit_names.specs.Shown.{declared_of, role_of};
-ghost use Rattle.unit_spelling.specs.Spelled.{spelling_of};
+ghost use Rattle.row_rules.specs.RowSteps.Starting.{naming_has};
+ghost use Rattle.row_world.specs.TapeRounds.Views.{naming_of};
+ghost use Rattle.name_state.specs.UnitNames.Shown.{declared_of, role_of};
+ghost use Rattle.name_tables.specs.UnitSpelling.Spelled.{spelling_of};
 ghost use Rattle.unit_shapes.specs.Views.{names_in, AreImplicit};
 ghost use Rattle.unit_starts.specs.Views.{starts_in, around_in};
 
 use crate::start::{Around, Start, function_at};
-use found_names::FoundNames;
-use name_records::{Declared, Role, Use};
-use name_scopes::Place;
+use expr_shapes::shape_values::ValueType;
+use name_state::found_names::FoundNames;
+use name_tables::name_records::{Declared, Role, Use};
+use name_tables::name_scopes::Place;
+use name_tables::unit_spelling::Spelling;
 use qual_base::TokenId;
-use shape_values::ValueType;
-use tape_rounds::Naming;
+use row_world::tape_rounds::Naming;
 use type_table::TypeTable;
 use unit_shapes::ImplicitTypes;
-use unit_spelling::Spelling;
 
 /// Whether a declaration is of a function.
 pub fn is_function(role: Role) -> bool

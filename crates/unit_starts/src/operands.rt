@@ -3,15 +3,15 @@
 ghost use Rattle.std.specs.Prelude.{◌≡◌, not, ◌&&◌};
 ghost use Rattle.name_rules.specs.Values.{is_additive, cond_type};
 ghost use Rattle.row_rules.specs.Starting as rules;
-ghost use Rattle.shape_steps.specs.State as states;
-ghost use Rattle.shape_steps.specs.Steps.{twice};
-ghost use Rattle.shape_stacks.specs.Views.{state_in};
-ghost use Rattle.shape_values.specs.Views.{some_type, some_value_type};
+ghost use Rattle.name_rules.specs.ShapeSteps.State as states;
+ghost use Rattle.name_rules.specs.ShapeSteps.Steps.{twice};
+ghost use Rattle.expr_shapes.specs.ShapeStacks.Views.{state_in};
+ghost use Rattle.expr_shapes.specs.ShapeValues.Views.{some_type, some_value_type};
 
 use c_words::Punct;
+use expr_shapes::shape_stacks::Stacks;
+use expr_shapes::shape_values::{ValueType, is_pointer};
 use qual_base::TypeId;
-use shape_stacks::Stacks;
-use shape_values::{ValueType, is_pointer};
 use type_table::TypeTable;
 
 /// Whether a sign is `+` or `-`.
@@ -101,7 +101,7 @@ pub(crate) fn condition_value(types: &TypeTable, stacks: &Stacks) -> Option<Valu
     let second = stacks.value_at(types, 0);
     let first_is_zero = is_zero_at(types, stacks, 1);
     let last_is_zero = is_zero_at(types, stacks, 0);
-    shape_values::cond(types, first_is_zero, last_is_zero, &first, &second)
+    expr_shapes::shape_values::cond(types, first_is_zero, last_is_zero, &first, &second)
 }
 
 /// How many operands are above those under the innermost initialiser in braces. Constant time.

@@ -2,11 +2,11 @@
 
 ghost use Rattle.std.specs.Prelude.{◌≡◌};
 ghost use Rattle.row_rules.specs.Starting.{had_name};
-ghost use Rattle.row_steps.specs.Rounds.{naming};
-ghost use Rattle.row_steps.specs.Starting.{around, naming_has, init_op_starts};
-ghost use Rattle.row_steps.specs.Starting.{spec_op_starts, declr_op_starts, op_starts};
-ghost use Rattle.shape_stacks.specs.Views.{state_in};
-ghost use Rattle.unit_spelling.specs.Spelled.{spelling_of};
+ghost use Rattle.row_rules.specs.RowSteps.Rounds.{naming};
+ghost use Rattle.row_rules.specs.RowSteps.Starting.{around, naming_has, init_op_starts};
+ghost use Rattle.row_rules.specs.RowSteps.Starting.{spec_op_starts, declr_op_starts, op_starts};
+ghost use Rattle.expr_shapes.specs.ShapeStacks.Views.{state_in};
+ghost use Rattle.name_tables.specs.UnitSpelling.Spelled.{spelling_of};
 ghost use Rattle.unit_shapes.specs.Views.{names_in, AreImplicit};
 ghost use Rattle.unit_starts.specs.Views.{starts_in};
 
@@ -14,14 +14,14 @@ use crate::expressions::{expression, form};
 use crate::names::{had_name, name_start};
 use crate::operands::literal_place;
 use crate::start::{Around, Start};
-use found_names::FoundNames;
+use expr_shapes::shape_stacks::Stacks;
+use name_state::found_names::FoundNames;
+use name_tables::unit_spelling::Spelling;
 use qual_base::TokenId;
-use shape_stacks::Stacks;
+use row_world::tape_rounds::Rounds;
 use tape_ops::{DeclrOp, InitOp, Op, SpecOp};
-use tape_rounds::Rounds;
 use type_table::TypeTable;
 use unit_shapes::ImplicitTypes;
-use unit_spelling::Spelling;
 
 /// What begins at a part of an initialiser. Constant time.
 fn initialiser(

@@ -5,23 +5,23 @@ ghost use Rattle.flow_graph.specs.System.{most_variables};
 ghost use Rattle.type_table.specs.Types.{size};
 ghost use Rattle.type_table.specs.Rows.{type_of};
 ghost use Rattle.qual_types.specs.Skel.{within};
-ghost use Rattle.shape_values.specs.Views.{value_type, some_value_type, some_type};
-ghost use Rattle.row_steps.specs.Rounds as round_rules;
-ghost use Rattle.row_steps.specs.Starting.{function_at};
+ghost use Rattle.expr_shapes.specs.ShapeValues.Views.{value_type, some_value_type, some_type};
+ghost use Rattle.row_rules.specs.RowSteps.Rounds as round_rules;
+ghost use Rattle.row_rules.specs.RowSteps.Starting.{function_at};
 ghost use Rattle.row_rules.specs.Starting.{first_of};
 ghost use Rattle.name_rules.specs.Scopes.{declared_at};
 ghost use Rattle.name_rules.specs.Spellings.{place};
-ghost use Rattle.unit_spelling.specs.Spelled.{spelling_of};
+ghost use Rattle.name_tables.specs.UnitSpelling.Spelled.{spelling_of};
 ghost use Rattle.unit_shapes.specs.Views.{names_in};
 ghost use Rattle.unit_starts.specs.Views.{start_in, starts_in, fresh_at, some_fresh_at};
 
-use found_names::FoundNames;
-use name_scopes::Place;
+use expr_shapes::shape_values::ValueType;
+use name_state::found_names::FoundNames;
+use name_tables::name_scopes::Place;
+use name_tables::unit_spelling::Spelling;
 use qual_base::{TokenId, TypeId};
-use shape_values::ValueType;
-use tape_rounds::Rounds;
+use row_world::tape_rounds::Rounds;
 use type_table::TypeTable;
-use unit_spelling::Spelling;
 
 /// A skeleton that begins at a place, of a type, or of a reference to it where `outer` is true. Its variables belong to the function that was first declared at `owner`. At a
 /// function's name in an expression it is an instance of the function that was first declared at `calls`. Functions go by their links.

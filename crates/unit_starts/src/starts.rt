@@ -2,32 +2,32 @@
 
 ghost use Rattle.std.specs.Prelude.{◌≡◌, ◌||◌, ◌∷◌, ◌++◌, [], map, not, suc, IfOk, OnOk};
 ghost use Rattle.name_rules.specs.Values.{is_of_type};
-ghost use Rattle.shape_steps.specs.State as states;
-ghost use Rattle.shape_steps.specs.State.{nothing};
-ghost use Rattle.shape_steps.specs.Steps.{step, twice};
-ghost use Rattle.row_steps.specs.Rounds.{round_step};
-ghost use Rattle.row_steps.specs.Starting.{op_starts, starts_found, unit_starts};
-ghost use Rattle.row_steps.specs.Starting.{form_op_selections, op_selections, selection_at, selections_found};
-ghost use Rattle.shape_stacks.specs.Views.{state_in};
-ghost use Rattle.unit_spelling.specs.Spelled.{spelling_of};
+ghost use Rattle.name_rules.specs.ShapeSteps.State as states;
+ghost use Rattle.name_rules.specs.ShapeSteps.State.{nothing};
+ghost use Rattle.name_rules.specs.ShapeSteps.Steps.{step, twice};
+ghost use Rattle.row_rules.specs.RowSteps.Rounds.{round_step};
+ghost use Rattle.row_rules.specs.RowSteps.Starting.{op_starts, starts_found, unit_starts};
+ghost use Rattle.row_rules.specs.RowSteps.Starting.{form_op_selections, op_selections, selection_at, selections_found};
+ghost use Rattle.expr_shapes.specs.ShapeStacks.Views.{state_in};
+ghost use Rattle.name_tables.specs.UnitSpelling.Spelled.{spelling_of};
 ghost use Rattle.unit_shapes.specs.Views.{names_in, AreImplicit};
 ghost use Rattle.unit_starts.specs.Views.{start_in, starts_in};
 ghost use Rattle.unit_starts.specs.Selecting.{AddsSelections, selection_row};
 
 use crate::ops::start_of;
 use crate::start::Start;
+use expr_shapes::shape_stacks::Stacks;
 use expr_shapes::{has_of_type, is_of_type};
-use found_names::FoundNames;
-use place_flags::PlaceFlags;
+use name_state::found_names::FoundNames;
+use name_tables::place_flags::PlaceFlags;
+use name_tables::unit_spelling::Spelling;
 use qual_base::{NoMemory, TokenId};
-use shape_stacks::Stacks;
+use row_world::tape_rounds::Rounds;
 use std::alloc::Global;
 use std::marker::Model;
 use tape_ops::{FormOp, Op};
-use tape_rounds::Rounds;
 use type_table::TypeTable;
 use unit_shapes::{ImplicitTypes, step};
-use unit_spelling::Spelling;
 
 /// Skeletons in the order in which they begin. Clauses see their list. Memory is linear in it.
 #[derive(Drop)]

@@ -15,7 +15,8 @@ use Rattle.unit_starts.specs.Views.{start_in}
 abbrev owner_at : List Owner → ℕ → Owner
 owner_at xs n = unwrap_or (slice_get xs n) Nobody
 
-same_lists : (xs ys : List Owner) → length xs ≡ length ys → ((n : ℕ) → n < length xs → owner_at xs n ≡ owner_at ys n) → xs ≡ ys
+same_lists : (xs ys : List Owner) → length xs ≡ length ys → ((n : ℕ) → n < length xs → owner_at xs n ≡ owner_at ys n)
+    → xs ≡ ys
 same_lists [] [] e same = refl
 same_lists [] (y ∷ ys) e same = absurd (omega arith)
 same_lists (x ∷ xs) [] e same = absurd (omega arith)

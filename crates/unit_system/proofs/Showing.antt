@@ -3,16 +3,16 @@ use Rattle.std.proofs.Common.{◌≡◌, ℕ, List, Option, Some, None, refl, sy
 use Rattle.qual_types.specs.declared.row.Row.{Row}
 use Rattle.qual_types.specs.Rows.{skel_of}
 use Rattle.name_rules.specs.Spellings.{Place}
-use Rattle.place_map.specs.Values.{number_at, value_at}
-use Rattle.place_flags.specs.Flags.{flag_at}
+use Rattle.name_tables.specs.PlaceMap.Values.{number_at, value_at}
+use Rattle.name_tables.specs.PlaceFlags.Flags.{flag_at}
 use Rattle.row_rules.specs.Annotations.{access_lattices, has_access}
 use Rattle.row_rules.specs.Sites.{site_places}
 use Rattle.row_rules.specs.Starting.{flag_among}
 use Rattle.row_world.specs.Shown.{or_nowhere}
-use Rattle.unit_skeletons.specs.declared.skeletons.Skeletons.{Skeletons}
-use Rattle.unit_skeletons.specs.Found.{number_or_none}
-use Rattle.unit_skeletons.specs.Numbers.{place_among}
-use Rattle.unit_skeletons.proofs.Counting.{some_number}
+use Rattle.unit_starts.specs.declared.unit_skeletons.skeletons.Skeletons.{Skeletons}
+use Rattle.unit_starts.specs.UnitSkeletons.Found.{number_or_none}
+use Rattle.unit_starts.specs.UnitSkeletons.Numbers.{place_among}
+use Rattle.unit_starts.proofs.UnitSkeletons.Counting.{some_number}
 use Rattle.unit_system.specs.declared.adding.Shared.{Shared}
 use Rattle.unit_system.specs.Sharing.{IsShared}
 use Rattle.unit_system.specs.Systems.{starts_on, selections_on, AreNumbered}

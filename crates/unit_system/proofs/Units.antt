@@ -9,9 +9,9 @@ use Rattle.flow_rules.specs.Adding.{with}
 use Rattle.row_adding.specs.Adding.{StopsEarly}
 use Rattle.row_rules.specs.Starting as rules
 use Rattle.row_rules.specs.Annotations.{has_access}
-use Rattle.row_steps.specs.Starting.{unit_starts, selections_found}
-use Rattle.shape_steps.specs.State.{nothing}
-use Rattle.place_flags.specs.declared.PlaceFlags.{PlaceFlags}
+use Rattle.row_rules.specs.RowSteps.Starting.{unit_starts, selections_found}
+use Rattle.name_rules.specs.ShapeSteps.State.{nothing}
+use Rattle.name_tables.specs.declared.place_flags.PlaceFlags.{PlaceFlags}
 use Rattle.unit_starts.specs.Selecting.{AddsSelections}
 use Rattle.unit_starts.proofs.Selecting.{adds_none, adds_more}
 use Rattle.unit_types.specs.declared.program.UnitTape.{UnitTape}
@@ -26,7 +26,8 @@ with_none sys = sym (ap (λ (cs : List Constraint). record sys { constraints = c
 with_more : (sys : System) (xs ys : List Constraint) → with (with sys xs) ys ≡ with sys (xs ++ ys)
 with_more sys xs ys = ap (λ (cs : List Constraint). record sys { constraints = cs }) (append_assoc sys.constraints xs ys)
 
-take_in : (xs ys zs : List Constraint) (n : ℕ) → n ≤ length ys → take (length xs + n) (xs ++ (ys ++ zs)) ≡ xs ++ take n ys
+take_in : (xs ys zs : List Constraint) (n : ℕ) → n ≤ length ys
+    → take (length xs + n) (xs ++ (ys ++ zs)) ≡ xs ++ take n ys
 take_in xs ys zs n le =
     take-append-add xs (ys ++ zs) n ∙ ap (λ (l : List Constraint). xs ++ l) (take-append-le n ys zs le)
 
@@ -113,7 +114,8 @@ begun_next access program units i unit found more old now new lt is so row added
     }
 
 pub begun_starts : (access : Bool) (program : Resolved) (units : List UnitTape) (i : ℕ) (found : List rules.Start)
-    (old now : PlaceFlags) → length units ≤ i → Begun access program units i found old now → found ≡ starts_on access program
+    (old now : PlaceFlags) → length units ≤ i → Begun access program units i found old now
+    → found ≡ starts_on access program
 begun_starts access program units i found old now le so =
     sym (append-nil found)
     ∙ ap (λ ts. found ++ starts_among access (names_on program) ts) (sym (past units i le)) ∙ so.starts
@@ -140,7 +142,8 @@ module _ (it : Shared) where
   pub at_first : (old : System) (units : List UnitTape) → units ≡ it.program.now.units → Reached old old units
   at_first old units is = record { before = []; rows = with_none old; split = ap rows_left (sym is) }
 
-  pub at_next : (old now new : System) (units : List UnitTape) (i : ℕ) (unit : UnitTape) → Reached old now (drop i units)
+  pub at_next : (old now new : System) (units : List UnitTape) (i : ℕ) (unit : UnitTape)
+      → Reached old now (drop i units)
       → i < length units → unit ≡ slice_index_or units i unit → new ≡ with now (tape_rows it (tape_of unit))
       → Reached old new (drop (i + 1) units)
   at_next old now new units i unit so lt is row = record {

@@ -4,25 +4,26 @@ use Rattle.lattice_core.specs.View.{LatticeView}
 use Rattle.flow_graph.specs.declared.constraint.Constraint.{Constraint}
 use Rattle.qual_types.specs.Rows.{skel_of}
 use Rattle.name_rules.specs.Spellings.{Place, Spelling}
-use Rattle.name_steps.specs.Units.{Tape}
-use Rattle.place_map.specs.declared.map.PlaceMap.{PlaceMap}
-use Rattle.place_map.specs.Values.{number_at, value_at}
+use Rattle.name_rules.specs.NameSteps.Units.{Tape}
+use Rattle.name_tables.specs.declared.place_map.map.PlaceMap.{PlaceMap}
+use Rattle.name_tables.specs.PlaceMap.Values.{number_at, value_at}
 use Rattle.index_words.specs.Marks.{IndexMark, index_in}
 use Rattle.row_rules.specs.Sites.{site_places}
 use Rattle.row_rules.specs.Worlds.{World, numbered_from, skeleton_among, number_among}
-use Rattle.row_steps.specs.Found.{unit_rows}
+use Rattle.row_rules.specs.RowSteps.Found.{unit_rows}
 use Rattle.row_world.specs.Shown.{or_nowhere}
 use Rattle.unit_types.specs.Resolved.{tapes_of}
 use Rattle.unit_system.specs.declared.adding.Shared.{Shared}
 use Rattle.unit_system.specs.Systems.{Meant, names_on, starts_on, world_by, rows_among, selections_on}
 use Rattle.row_rules.specs.Annotations.{has_access, access_lattices}
 use Rattle.row_rules.specs.Starting.{flag_among}
-use Rattle.place_flags.specs.Flags.{flag_at}
+use Rattle.name_tables.specs.PlaceFlags.Flags.{flag_at}
 
 -- what is said of words by lattices, by a map of what annotation words name and by the index words of a prelude
 abbrev pub meant_by : List LatticeView → PlaceMap (ℕ × ℕ) → List IndexMark → Meant
 meant_by lattices marks prelude = record { lattices = lattices; mark = value_at marks; index = index_in prelude }
 
+-- what is said of words, by what is known of a program
 abbrev pub meant_in : Shared → Meant
 meant_in it = meant_by it.lattices.now it.marks.now it.prelude.now
 

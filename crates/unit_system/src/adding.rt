@@ -2,24 +2,24 @@
 
 ghost use Rattle.std.specs.Prelude.{◌≡◌, IfErr, OnOk};
 ghost use Rattle.flow_rules.specs.Adding.{with};
-ghost use Rattle.unit_spelling.specs.Spelled.{spelling_of};
+ghost use Rattle.name_tables.specs.UnitSpelling.Spelled.{spelling_of};
 ghost use Rattle.unit_types.specs.Resolved.{tape_of};
 ghost use Rattle.row_world.specs.Shown.{Shows};
 ghost use Rattle.row_adding.specs.Adding.{StopsEarly};
 ghost use Rattle.unit_system.specs.Sharing.{IsShared, world_in, tape_rows, rows_on};
 
+use crate::unit_rows::add_rows;
 use flow_graph::{FlowGraph, GraphFault};
-use found_names::FoundNames;
 use index_words::Prelude;
 use lattice_core::Lattices;
-use place_flags::PlaceFlags;
-use place_map::{PlaceIndex, PlaceMap};
+use name_state::found_names::FoundNames;
+use name_tables::place_flags::PlaceFlags;
+use name_tables::place_map::{PlaceIndex, PlaceMap};
+use name_tables::unit_spelling::Spelling;
 use qual_base::{Elem, LatticeNo, SiteId};
 use qual_types::VarTable;
 use row_world::Known;
 use std::alloc::Global;
-use unit_rows::add_rows;
-use unit_spelling::Spelling;
 use unit_types::{Program, UnitTape};
 
 /// What is known of a program while the constraints of its units are made, the same in all of them.

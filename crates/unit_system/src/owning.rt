@@ -4,18 +4,18 @@ ghost use Rattle.std.specs.Prelude.{◌≡◌, ◌+◌, ◌≤◌, ◌++◌, [],
 ghost use Rattle.flow_graph.specs.System.{most_variables};
 ghost use Rattle.type_table.specs.Types.{size};
 ghost use Rattle.name_rules.specs.Spellings.{Place};
-ghost use Rattle.place_map.specs.Values.{value_at};
+ghost use Rattle.name_tables.specs.PlaceMap.Values.{value_at};
 ghost use Rattle.row_rules.specs.Sites.{sites_among, site_places, variables_among};
 ghost use Rattle.row_rules.specs.Sites.{owner_by, owners_among};
 ghost use Rattle.unit_starts.specs.Views.{start_in};
-ghost use Rattle.unit_skeletons.specs.Numbers.{place_among};
+ghost use Rattle.unit_starts.specs.UnitSkeletons.Numbers.{place_among};
 
 use flow_graph::FlowGraph;
 use qual_base::{NoMemory, Numbered, Owner, VarId};
 use std::alloc::Global;
 use type_table::TypeTable;
-use unit_skeletons::{CallSites, PlaceNumbers, find_sites};
 use unit_starts::Start;
+use unit_starts::unit_skeletons::{CallSites, PlaceNumbers, find_sites};
 use unit_types::Program;
 
 /// Gives so many variables, from the first that has no owner yet, their owner. Linear in them.

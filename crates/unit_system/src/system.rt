@@ -4,7 +4,7 @@ ghost use Rattle.std.specs.Prelude.{◌≡◌, ℕ, ◌<◌, ◌≤◌, length, 
 ghost use Rattle.flow_graph.specs.System.{most_constraints, most_variables};
 ghost use Rattle.row_rules.specs.Sites.{variables_among};
 ghost use Rattle.name_rules.specs.Spellings.{Place};
-ghost use Rattle.place_flags.specs.Flags.{flag_at};
+ghost use Rattle.name_tables.specs.PlaceFlags.Flags.{flag_at};
 ghost use Rattle.row_rules.specs.Starting.{flag_among};
 ghost use Rattle.unit_starts.specs.Selecting.{AddsSelections};
 ghost use Rattle.unit_starts.specs.Views.{start_in};
@@ -19,12 +19,12 @@ use crate::owning::number_sites;
 use flow_graph::FlowGraph;
 use index_words::Prelude;
 use lattice_core::Lattices;
-use place_flags::PlaceFlags;
-use place_map::PlaceMap;
+use name_tables::place_flags::PlaceFlags;
+use name_tables::place_map::PlaceMap;
 use qual_base::{Elem, LatticeNo, NoMemory, SiteId};
 use row_world::access_lattices;
 use std::alloc::Global;
-use unit_skeletons::{CallSites, Skeletons, functions_of, number_skeletons};
+use unit_starts::unit_skeletons::{CallSites, Skeletons, functions_of, number_skeletons};
 use unit_starts::{Start, Starts, add_starts};
 use unit_types::Program;
 

@@ -2,13 +2,13 @@
 use Rattle.std.proofs.Common.{arith, ◌≡◌, ℕ, zero, suc, ◌+◌, ◌<◌, List, [], ◌∷◌, ◌++◌, length, drop, slice_index_or, ◌∙◌, ap, append_assoc}
 use Rattle.type_table.specs.declared.row.Row.{Row}
 use Rattle.type_table.specs.Types.{CType}
-use Rattle.name_types.specs.Known.{Knows, Grows}
+use Rattle.name_state.specs.NameTypes.Known.{Knows, Grows}
 use Rattle.name_rules.specs.Faults.{Fault}
 use Rattle.name_rules.specs.Scopes.{Names}
 use Rattle.name_rules.specs.Units.{unit_begun}
-use Rattle.name_steps.specs.Units.{tape_named, tapes_named}
-use Rattle.shape_steps.specs.State.{nothing}
-use Rattle.shape_steps.specs.Found.{faults_found}
+use Rattle.name_rules.specs.NameSteps.Units.{tape_named, tapes_named}
+use Rattle.name_rules.specs.ShapeSteps.State.{nothing}
+use Rattle.name_rules.specs.ShapeSteps.Found.{faults_found}
 use Rattle.unit_types.specs.declared.program.UnitTape.{UnitTape}
 use Rattle.unit_types.specs.Resolved.{tape_of, tapes_of, faults_among}
 
@@ -29,7 +29,8 @@ module _ (s : Names) where
   abbrev pub found_in : UnitTape → List Fault
   found_in it = faults_found (tape_of it).spelling s nothing (tape_of it).ops
 
-  pub faults_from : (units : List UnitTape) (i : ℕ) (it : UnitTape) (so_far : List Fault) → it ≡ slice_index_or units i it
+  pub faults_from : (units : List UnitTape) (i : ℕ) (it : UnitTape) (so_far : List Fault)
+      → it ≡ slice_index_or units i it
       → i < length units
       → (so_far ++ found_in it) ++ faults_among s (tapes_of (drop (i + 1) units))
       ≡ so_far ++ faults_among s (tapes_of (drop i units))

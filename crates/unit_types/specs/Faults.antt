@@ -4,6 +4,7 @@ use Rattle.name_rules.specs.Faults as rules
 use Rattle.unit_types.specs.declared.fault.ShapeFault.{ShapeFault}
 use Rattle.unit_types.specs.declared.fault.ShapeFault.TheVariants as faults
 
+-- a rule that fails at a token of a unit
 abbrev pub fault_where : ℕ → ℕ → rules.Rule → rules.Fault
 fault_where unit token rule = record { at = (unit, token); rule = rule }
 

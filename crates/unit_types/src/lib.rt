@@ -1,4 +1,7 @@
 //! The names, types and tapes of units whose names and types have no fault, or their first fault.
+//!
+//! Entry: `resolve_units`. Invariant: the units before are named and without fault.
+//! It does not know trees and tokens. Above: `c_types`.
 #![tactic(auto)]
 
 mod fault;

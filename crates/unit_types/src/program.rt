@@ -3,14 +3,14 @@
 ghost use Rattle.std.specs.Prelude.{◌≡◌};
 ghost use Rattle.unit_shapes.specs.Views.{AreImplicit};
 
-use found_names::FoundNames;
-use name_types::Types;
+use name_state::found_names::FoundNames;
+use name_state::name_types::Types;
+use name_state::unit_names::Names;
+use name_tables::unit_spelling::Spelling;
 use std::marker::Model;
 use tape_ops::Op;
 use type_table::TypeTable;
-use unit_names::Names;
 use unit_shapes::ImplicitTypes;
-use unit_spelling::Spelling;
 
 /// A unit: what is read from its tokens, and its tape.
 #[derive(Drop)]

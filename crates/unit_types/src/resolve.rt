@@ -2,9 +2,9 @@
 
 ghost use Rattle.std.specs.Prelude.{◌≡◌, ◌++◌, [], ℕ, IfOk, IfErr, OnOk};
 ghost use Rattle.type_table.specs.Types.{CType};
-ghost use Rattle.name_types.specs.Known.{Knows};
+ghost use Rattle.name_state.specs.NameTypes.Known.{Knows};
 ghost use Rattle.name_rules.specs.Linking.{body_faults};
-ghost use Rattle.unit_names.specs.Shown.{names_of};
+ghost use Rattle.name_state.specs.UnitNames.Shown.{names_of};
 ghost use Rattle.unit_shapes.specs.Faults.{some_fault_of, IsFirstOf};
 ghost use Rattle.unit_shapes.specs.Views.{names_in, AreImplicit};
 ghost use Rattle.unit_types.specs.Faults.{IsFirstUnlessMemory};
@@ -13,12 +13,12 @@ ghost use Rattle.unit_types.specs.Resolved.{tapes_of, names_on, faults_among, fa
 use crate::fault::{ShapeFault, found};
 use crate::program::{Program, UnitTape};
 use c_names::name_unit;
-use found_names::FoundNames;
-use name_types::Types;
+use name_state::found_names::FoundNames;
+use name_state::name_types::Types;
+use name_state::unit_names::Names;
 use qual_base::NoMemory;
 use std::alloc::Global;
 use type_table::TypeTable;
-use unit_names::Names;
 use unit_shapes::{Fault, ImplicitTypes, first_of_names, judge_tape, keep_of_names};
 
 /// Units with their first fault, if they have one.

@@ -33,19 +33,23 @@ module _ (sys : System) (lattice : ℕ) (subs : List (List PathStep)) (to : ℕ)
   AreUnbound [] = Unit {0}
   AreUnbound (s ∷ steps) = (is_bound (look sys subs s) ≡ false) × AreUnbound steps
 
-  unbound : (n : ℕ) (link : Link) (st : Stands sys lattice n link) → is_bound (Edge st.constraint) ≡ false → is_bound (look sys subs (Take n 0)) ≡ false
+  unbound : (n : ℕ) (link : Link) (st : Stands sys lattice n link) → is_bound (Edge st.constraint) ≡ false
+      → is_bound (look sys subs (Take n 0)) ≡ false
   unbound n link st is = ap (λ c. is_bound (edge_or c)) st.there ∙ is
 
-  by_link : (n : ℕ) (link : Link) (st : Stands sys lattice n link) → is_bound_link link ≡ false → is_bound (look sys subs (Take n 0)) ≡ false
+  by_link : (n : ℕ) (link : Link) (st : Stands sys lattice n link) → is_bound_link link ≡ false
+      → is_bound (look sys subs (Take n 0)) ≡ false
   by_link n link st is = unbound n link st (ap is_bound_link st.link_is ∙ is)
 
-  part_unbound : (u v : ℕ) (front rest : List PathStep) → Part sys lattice subs u v front → AreUnbound rest → AreUnbound (front ++ rest)
+  part_unbound : (u v : ℕ) (front rest : List PathStep) → Part sys lattice subs u v front → AreUnbound rest
+      → AreUnbound (front ++ rest)
   part_unbound u v _ rest (Flow _ _ n st) more = (by_link n (Le u v) st refl, more)
   part_unbound u v _ rest (Empty _ a _ s n m st ts) more = (by_link n (Enter s u a) st refl, (by_link m (Leave s a v) ts refl, more))
   part_unbound u v _ rest (Full _ a b _ s n m k st is ts) more =
       (by_link n (Enter s u a) st refl, (ap is_bound is, (by_link m (Leave s b v) ts refl, more)))
 
-  onward_unbound : (p : Phase) (u : ℕ) (steps : List PathStep) → Onward sys lattice subs (ToVariable to) p u steps → AreUnbound steps
+  onward_unbound : (p : Phase) (u : ℕ) (steps : List PathStep) → Onward sys lattice subs (ToVariable to) p u steps
+      → AreUnbound steps
   onward_unbound p u _ (There _ _) = tt
   onward_unbound p u _ (Along _ _ _ v front rest part more) = part_unbound u v front rest part (onward_unbound (settled (owner_of sys v) p) v rest more)
   onward_unbound _ u _ (Back _ _ v s n rest st more) = (by_link n (Leave s u v) st refl, onward_unbound (settled (owner_of sys v) First) v rest more)
@@ -65,20 +69,24 @@ module _ (sys : System) (lattice : ℕ) (subs : List (List PathStep)) (to : ℕ)
   abbrev Arrived : ℕ → List PathStep → Type 0
   Arrived u steps = walk_ends sys u (last_of steps) ≡ Some to
 
-  ends_at : (n : ℕ) (link : Link) (st : Stands sys lattice n link) → ends (edge_at sys (Take n 0)) ≡ Some (link_ends link)
+  ends_at : (n : ℕ) (link : Link) (st : Stands sys lattice n link)
+      → ends (edge_at sys (Take n 0)) ≡ Some (link_ends link)
   ends_at n link st = ap ends (seen sys lattice n link st)
 
   -- a step that ends at a variable in front of steps behind that variable
-  arrived_more : (u x : ℕ) (s : PathStep) (rest : List PathStep) → ends (edge_at sys s) ≡ Some x → Arrived x rest → Arrived u (s ∷ rest)
+  arrived_more : (u x : ℕ) (s : PathStep) (rest : List PathStep) → ends (edge_at sys s) ≡ Some x → Arrived x rest
+      → Arrived u (s ∷ rest)
   arrived_more u x s [] is there = is ∙ there
   arrived_more u x s (t ∷ rest) is there = ap (walk_ends sys u) (last_more s t rest) ∙ arrived_same t rest there
     where
       -- with a step, it does not matter where the steps begin
-      by_last : (last : Option PathStep) → ((t : PathStep) × (last ≡ Some t)) → walk_ends sys x last ≡ Some to → walk_ends sys u last ≡ Some to
+      by_last : (last : Option PathStep) → ((t : PathStep) × (last ≡ Some t)) → walk_ends sys x last ≡ Some to
+          → walk_ends sys u last ≡ Some to
       by_last None (t, e) there = absurd cc
       by_last (Some t) some there = there
 
-      arrived_same : (t : PathStep) (rest : List PathStep) → Arrived x (t ∷ rest) → walk_ends sys u (last_of (t ∷ rest)) ≡ Some to
+      arrived_same : (t : PathStep) (rest : List PathStep) → Arrived x (t ∷ rest)
+          → walk_ends sys u (last_of (t ∷ rest)) ≡ Some to
       arrived_same t [] there = there
       arrived_same t (v ∷ rest) there =
           ap (walk_ends sys u) (last_more t v rest) ∙ arrived_same v rest (sym (ap (walk_ends sys x) (last_more t v rest)) ∙ there)
@@ -86,7 +94,8 @@ module _ (sys : System) (lattice : ℕ) (subs : List (List PathStep)) (to : ℕ)
   over_any : (u : ℕ) (s t : PathStep) (rest : List PathStep) → Arrived u (t ∷ rest) → Arrived u (s ∷ t ∷ rest)
   over_any u s t rest there = ap (walk_ends sys u) (last_more s t rest) ∙ there
 
-  part_arrived : (u v : ℕ) (front rest : List PathStep) → Part sys lattice subs u v front → Arrived v rest → Arrived u (front ++ rest)
+  part_arrived : (u v : ℕ) (front rest : List PathStep) → Part sys lattice subs u v front → Arrived v rest
+      → Arrived u (front ++ rest)
   part_arrived u v _ rest (Flow _ _ n st) there = arrived_more u v (Take n 0) rest (ends_at n (Le u v) st) there
   part_arrived u v _ rest (Empty _ a _ s n m st ts) there =
       over_any u (Take n 0) (Take m 0) rest (arrived_more u v (Take m 0) rest (ends_at m (Leave s a v) ts) there)
@@ -94,7 +103,8 @@ module _ (sys : System) (lattice : ℕ) (subs : List (List PathStep)) (to : ℕ)
       over_any u (Take n 0) (Sub k 0) (Take m 0 ∷ rest)
       (over_any u (Sub k 0) (Take m 0) rest (arrived_more u v (Take m 0) rest (ends_at m (Leave s b v) ts) there))
 
-  arrived : (p : Phase) (u : ℕ) (steps : List PathStep) → Onward sys lattice subs (ToVariable to) p u steps → Arrived u steps
+  arrived : (p : Phase) (u : ℕ) (steps : List PathStep) → Onward sys lattice subs (ToVariable to) p u steps
+      → Arrived u steps
   arrived p u _ (There _ _) = refl
   arrived p u _ (Along _ _ _ v front rest part more) = part_arrived u v front rest part (arrived (settled (owner_of sys v) p) v rest more)
   arrived _ u _ (Back _ _ v s n rest st more) =

@@ -124,7 +124,8 @@ module _ (sys : System) (lattice : ℕ) (owned : IsWellOwned sys) where
   abbrev To : ℕ → ℕ → List ℕ → ℕ → List ℕ → Type 0
   To depth u one v two = Onto sys lattice depth u one v two
 
-  onto_join : (depth u x v : ℕ) (one two three : List ℕ) → To depth u one x two → To depth x two v three → To depth u one v three
+  onto_join : (depth u x v : ℕ) (one two three : List ℕ) → To depth u one x two → To depth x two v three
+      → To depth u one v three
   onto_join depth u x v one two three d (Stays _ _) = d
   onto_join depth u x v one two three d (Further _ y _ _ mid _ before leap) = Further u y v one mid three (onto_join depth u x y one two mid d before) leap
 
@@ -132,21 +133,24 @@ module _ (sys : System) (lattice : ℕ) (owned : IsWellOwned sys) where
   single depth u v one two leap = Further u u v one one two (Stays u one) leap
 
   -- a step between copies that are written plainly
-  plainly : (depth u v : ℕ) (one two : List ℕ) → IsCopy sys depth (owner_of sys u) one → IsCopy sys depth (owner_of sys v) two →
+  plainly : (depth u v : ℕ) (one two : List ℕ) → IsCopy sys depth (owner_of sys u) one
+      → IsCopy sys depth (owner_of sys v) two →
       Leap sys lattice depth u (seen_from (owner_of sys u) one) v (seen_from (owner_of sys v) two) → To depth u one v two
   plainly depth u v one two from to leap =
       let same_one = seen_is sys depth (owner_of sys u) one from in
       let same_two = seen_is sys depth (owner_of sys v) two to in
       single depth u v one two (subst (λ w. Leap sys lattice depth u w v two) same_one (subst (λ w. Leap sys lattice depth u (seen_from (owner_of sys u) one) v w) same_two leap))
 
-  enter_on : (depth n s u v : ℕ) (sites : List ℕ) → Stands sys lattice n (Enter s u v) → IsCopy sys depth (owner_of sys u) sites → length (s ∷ sites) ≤ depth →
+  enter_on : (depth n s u v : ℕ) (sites : List ℕ) → Stands sys lattice n (Enter s u v)
+      → IsCopy sys depth (owner_of sys u) sites → length (s ∷ sites) ≤ depth →
       IsCopy sys depth (owner_of sys v) (s ∷ sites) × To depth u sites v (s ∷ sites)
   enter_on depth n s u v sites st copy fits =
       let call = entering sys lattice owned n s u v st in
       let deeper = copy_on sys depth (owner_of sys u) (owner_of sys v) s sites copy call (omega (arith, fits)) in
       (deeper, plainly depth u v sites (s ∷ sites) copy deeper (ByEnter n s u v call.it sites st call.there (subst (λ o. IsCopy sys depth o sites) call.outer_is copy) fits))
 
-  leave_on : (depth n s u v : ℕ) (sites : List ℕ) → Stands sys lattice n (Leave s u v) → IsCopy sys depth (owner_of sys v) sites → length (s ∷ sites) ≤ depth →
+  leave_on : (depth n s u v : ℕ) (sites : List ℕ) → Stands sys lattice n (Leave s u v)
+      → IsCopy sys depth (owner_of sys v) sites → length (s ∷ sites) ≤ depth →
       IsCopy sys depth (owner_of sys u) (s ∷ sites) × To depth u (s ∷ sites) v sites
   leave_on depth n s u v sites st copy fits =
       let call = leaving sys lattice owned n s u v st in
@@ -157,7 +161,8 @@ module _ (sys : System) (lattice : ℕ) (owned : IsWellOwned sys) where
   abbrev RoundTrips : ℕ → ℕ → ℕ → Type 0
   RoundTrips u v room = (depth : ℕ) (sites : List ℕ) → IsCopy sys depth (owner_of sys u) sites → length sites + room ≤ depth → To depth u sites v sites
 
-  group_on : (n m s u a b v room : ℕ) → Stands sys lattice n (Enter s u a) → RoundTrips a b room → Stands sys lattice m (Leave s b v) → RoundTrips u v (room + 1)
+  group_on : (n m s u a b v room : ℕ) → Stands sys lattice n (Enter s u a) → RoundTrips a b room
+      → Stands sys lattice m (Leave s b v) → RoundTrips u v (room + 1)
   group_on n m s u a b v room st inside st2 depth sites copy fits =
       let one = enter_on depth n s u a sites st copy (omega (arith, fits)) in
       let home : IsCopy sys depth (owner_of sys v) sites = subst (λ o. IsCopy sys depth o sites) (same_outer sys lattice owned n m s u a b v st st2) copy in
@@ -207,7 +212,8 @@ module _ (sys : System) (lattice : ℕ) (owned : IsWellOwned sys) where
               (subst (λ w. Leap sys lattice depth u (seen_from (owner_of sys u) from.0) v w) same (ByFlow n u v from.0 st from.1)),
         )
 
-    flow_one : (n u v least : ℕ) (sites : List ℕ) → Stands sys lattice n (Le u v) → One u least sites → One v least (seen_from (owner_of sys v) sites)
+    flow_one : (n u v least : ℕ) (sites : List ℕ) → Stands sys lattice n (Le u v) → One u least sites
+        → One v least (seen_from (owner_of sys v) sites)
     flow_one n u v least sites st one depth fits =
         let before = one depth fits in
         let on = flow_from sys depth (owner_of sys u) (owner_of sys v) sites (same_function sys lattice owned n u v st) before.0 in
@@ -230,13 +236,15 @@ module _ (sys : System) (lattice : ℕ) (owned : IsWellOwned sys) where
     one_of : (v room : ℕ) → All v room → One v room []
     one_of v room all depth fits = let on = all depth [] (root sys depth (owner_of sys v)) (omega (arith, fits)) in (root sys depth (owner_of sys v), on.0, on.1, on.2)
 
-    call_one : (n s u v least : ℕ) (sites : List ℕ) → Stands sys lattice n (Enter s u v) → One u least sites → One v (least + (length sites + 1)) (s ∷ sites)
+    call_one : (n s u v least : ℕ) (sites : List ℕ) → Stands sys lattice n (Enter s u v) → One u least sites
+        → One v (least + (length sites + 1)) (s ∷ sites)
     call_one n s u v least sites st one depth fits =
         let before = one depth (omega (arith, fits)) in
         let on = enter_on depth n s u v sites st before.0 (omega (arith, fits)) in
         (on.0, before.1, before.2, onto_join depth begin u v before.1 sites (s ∷ sites) before.3 on.1)
 
-    group_all : (n m s u a b v g room : ℕ) → Stands sys lattice n (Enter s u a) → Matches sys lattice g a b → Stands sys lattice m (Leave s b v) → All u room → (r : ℕ) × All v r
+    group_all : (n m s u a b v g room : ℕ) → Stands sys lattice n (Enter s u a) → Matches sys lattice g a b
+        → Stands sys lattice m (Leave s b v) → All u room → (r : ℕ) × All v r
     group_all n m s u a b v g room st q st2 all =
         let inner = path_on g a b q in (
           room + (inner.0 + 1),
@@ -246,7 +254,8 @@ module _ (sys : System) (lattice : ℕ) (owned : IsWellOwned sys) where
               (before.0, before.1, onto_join depth begin u v before.0 sites sites before.2 (group_on n m s u a b v inner.0 st inner.1 st2 depth sites home (omega (arith, fits)))),
         )
 
-    group_one : (n m s u a b v g least : ℕ) (sites : List ℕ) → Stands sys lattice n (Enter s u a) → Matches sys lattice g a b → Stands sys lattice m (Leave s b v) → One u least sites → (r : ℕ) × One v r sites
+    group_one : (n m s u a b v g least : ℕ) (sites : List ℕ) → Stands sys lattice n (Enter s u a)
+        → Matches sys lattice g a b → Stands sys lattice m (Leave s b v) → One u least sites → (r : ℕ) × One v r sites
     group_one n m s u a b v g least sites st q st2 one =
         let inner = path_on g a b q in (
           least + (length sites + (inner.0 + 1)),
@@ -279,7 +288,8 @@ module _ (sys : System) (lattice : ℕ) (owned : IsWellOwned sys) where
     flow_reached First n u v st r = (r.0, flow_all n u v r.0 st r.1)
     flow_reached Second n u v st r = (r.0, seen_from (owner_of sys v) r.1, flow_one n u v r.0 r.1 st r.2)
 
-    group_reached : (p : Phase) (n m s u a b v g : ℕ) → Stands sys lattice n (Enter s u a) → Matches sys lattice g a b → Stands sys lattice m (Leave s b v) → Reached p u → Reached p v
+    group_reached : (p : Phase) (n m s u a b v g : ℕ) → Stands sys lattice n (Enter s u a) → Matches sys lattice g a b
+        → Stands sys lattice m (Leave s b v) → Reached p u → Reached p v
     group_reached First n m s u a b v g st q st2 r = group_all n m s u a b v g r.0 st q st2 r.1
     group_reached Second n m s u a b v g st q st2 r = let on = group_one n m s u a b v g r.0 r.1 st q st2 r.2 in (on.0, r.1, on.1)
 

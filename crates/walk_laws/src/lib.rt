@@ -1,4 +1,7 @@
 //! Laws of what leads where: functions without a body, each with a law as its contract.
+//!
+//! Entry: the laws of walks. Invariant: the unfolding leads from one variable to another exactly where a walk does.
+//! It does not know any algorithm. Above: `flow_query`.
 #![tactic(auto)]
 
 ghost use Rattle.walk_laws.specs.Laws.{LeadsAreWalks, WalkShown};

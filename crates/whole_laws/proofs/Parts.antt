@@ -2,7 +2,7 @@
 use Rattle.std.proofs.Common.{◌≡◌, false, List, [], ◌∷◌, ◌++◌, refl}
 use Rattle.name_rules.specs.Spellings.{Place}
 use Rattle.row_rules.specs.Sites.{AreDifferent, has_place}
-use Rattle.scope_laws.proofs.Places.{has_itself, has_not_left, head_has_not, not_same, tail_has_not}
+use Rattle.owned_laws.proofs.ScopeLaws.Places.{has_itself, has_not_left, head_has_not, not_same, tail_has_not}
 
 -- the first ones are the second ones, of which some are left out
 pub data IsPart : List Place → List Place → Type 0 where

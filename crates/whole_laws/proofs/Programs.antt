@@ -3,7 +3,7 @@ use Rattle.std.proofs.Common.{All, List, [], ◌∷◌}
 use Rattle.std.proofs.lemmas.List.Elements.{All-nil, All-cons, All-head, All-tail}
 use Rattle.type_rules.specs.Program.{HasNoFault, Source, names_of}
 use Rattle.constraint_rules.specs.Systems.{Program}
-use Rattle.key_laws.specs.Differing.{IsRead, UnitsDiffer}
+use Rattle.row_laws.specs.KeyLaws.Differing.{IsRead, UnitsDiffer}
 use Rattle.first_laws.specs.Firsts.{FirstsOfScopedHaveSkeletons, IsScoped}
 use Rattle.missing_laws.specs.Programs.{AreFormed, IsAccepted, ProgramsHaveSkeletons, ProgramsMissNothing}
 use Rattle.missing_laws.proofs.Places.{declared_differ}
@@ -43,7 +43,8 @@ accepted places firsts p parsed units none =
       firsts p.sources (scoped p.sources parsed) (declared_differ (names_of p.sources).declared differ.declared),
     )
 
-pub have_skeletons : PlacesOfReadDiffer → FirstsOfScopedHaveSkeletons → ProgramsHaveSkeletons → ReadProgramsHaveSkeletons
+pub have_skeletons : PlacesOfReadDiffer → FirstsOfScopedHaveSkeletons → ProgramsHaveSkeletons
+    → ReadProgramsHaveSkeletons
 have_skeletons places firsts law p parsed units none = law p (accepted places firsts p parsed units none)
 
 pub miss_nothing : PlacesOfReadDiffer → FirstsOfScopedHaveSkeletons → ProgramsMissNothing → ReadProgramsMissNothing

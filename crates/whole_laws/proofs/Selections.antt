@@ -8,15 +8,15 @@ use Rattle.c_tape.specs.Tape.{tape_of}
 use Rattle.name_rules.specs.Spellings.{Spelling, Place, place}
 use Rattle.name_rules.specs.Scopes.{Names}
 use Rattle.type_rules.specs.Program.{Source, names_of}
-use Rattle.shape_steps.specs.State.{State, nothing}
-use Rattle.shape_steps.specs.Steps.{step}
+use Rattle.name_rules.specs.ShapeSteps.State.{State, nothing}
+use Rattle.name_rules.specs.ShapeSteps.Steps.{step}
 use Rattle.row_rules.specs.Starting.{Selection}
 use Rattle.row_rules.specs.Sites.{AreDifferent}
-use Rattle.row_steps.specs.Starting.{form_op_selections, op_selections, selections_found}
+use Rattle.row_rules.specs.RowSteps.Starting.{form_op_selections, op_selections, selections_found}
 use Rattle.constraint_rules.specs.Systems.{selections_among}
-use Rattle.start_laws.specs.Laws.{SelectionsOfProgramAreFound, selections_on}
-use Rattle.key_laws.specs.Keys.{form_key, op_key, key_place, key_places}
-use Rattle.key_laws.specs.Differing.{keys_among}
+use Rattle.row_laws.specs.StartLaws.Laws.{SelectionsOfProgramAreFound, selections_on}
+use Rattle.row_laws.specs.KeyLaws.Keys.{form_key, op_key, key_place, key_places}
+use Rattle.row_laws.specs.KeyLaws.Differing.{keys_among}
 use Rattle.missing_laws.specs.Programs.{selection_places}
 use Rattle.whole_laws.proofs.Parts.{IsPart, none, part_differs, no_part, joined_part, same_part}
 
@@ -57,7 +57,8 @@ tape_part u s (op ∷ tape) st =
     (sym (selections_joined (op_selections u st op) (selections_found u s (step u s st op) tape)))
     (joined_part (op_part u st op) (tape_part u s tape (step u s st op)))
 
-sources_part : (s : Names) (sources : List Source) → IsPart (selection_places (selections_on s sources)) (keys_among sources)
+sources_part : (s : Names) (sources : List Source)
+    → IsPart (selection_places (selections_on s sources)) (keys_among sources)
 sources_part s [] = none
 sources_part s (it ∷ sources) =
     subst (λ (ps : List Place). IsPart ps (key_places it.spelling (tape_of it.items) ++ keys_among sources))

@@ -23,17 +23,17 @@ use Rattle.name_rules.specs.Linking.{link_of}
 use Rattle.name_rules.specs.Uses.{use_at, text_type}
 use Rattle.name_rules.specs.Values.{undeclared_function, Shape, address, pick_shape, is_fresh_pick}
 use Rattle.type_rules.specs.Program.{Source, names_of}
-use Rattle.shape_steps.specs.State.{State, nothing, value_at, is_zero_at, type_at, shape_at, type_of_operand, first_operand, operands_below}
-use Rattle.shape_steps.specs.Steps.{chosen, step, expr_step}
+use Rattle.name_rules.specs.ShapeSteps.State.{State, nothing, value_at, is_zero_at, type_at, shape_at, type_of_operand, first_operand, operands_below}
+use Rattle.name_rules.specs.ShapeSteps.Steps.{chosen, step, expr_step}
 use Rattle.row_rules.specs.Starting.{Start, Around, fresh, some_fresh, declared_start, some_declared_start, instance, use_by_role, some_use_start, use_start, some_place, is_some_pointer, is_fresh_binary, is_fresh_prefix, prefix_starts, fresh_where, Having, with_skeleton, of_function, without_skeleton, had_name}
 use Rattle.row_rules.specs.Sites.{AreDifferent}
-use Rattle.row_steps.specs.Rounds.{Rounds, file, naming, left, round_step}
-use Rattle.row_steps.specs.Starting.{around, naming_has, selected_among, expr_op_starts, form_op_starts, init_op_starts, spec_op_starts, declr_op_starts, op_starts, starts_found, unit_starts}
+use Rattle.row_rules.specs.RowSteps.Rounds.{Rounds, file, naming, left, round_step}
+use Rattle.row_rules.specs.RowSteps.Starting.{around, naming_has, selected_among, expr_op_starts, form_op_starts, init_op_starts, spec_op_starts, declr_op_starts, op_starts, starts_found, unit_starts}
 use Rattle.constraint_rules.specs.Systems.{starts_of}
-use Rattle.start_laws.specs.Laws.{IsSound, StartsOfProgramAreFound, found_on}
-use Rattle.key_laws.specs.Keys.{expr_key, form_key, init_key, spec_key, declr_key, op_key, key_place, key_places}
-use Rattle.key_laws.specs.Differing.{keys_among}
-use Rattle.scope_laws.proofs.Places.{declared_place}
+use Rattle.row_laws.specs.StartLaws.Laws.{IsSound, StartsOfProgramAreFound, found_on}
+use Rattle.row_laws.specs.KeyLaws.Keys.{expr_key, form_key, init_key, spec_key, declr_key, op_key, key_place, key_places}
+use Rattle.row_laws.specs.KeyLaws.Differing.{keys_among}
+use Rattle.owned_laws.proofs.ScopeLaws.Places.{declared_place}
 use Rattle.missing_laws.specs.Programs.{start_places}
 use Rattle.whole_laws.proofs.Parts.{IsPart, none, part_differs, no_part, joined_part, same_part}
 

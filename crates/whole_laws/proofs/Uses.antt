@@ -25,14 +25,14 @@ use Rattle.name_rules.specs.Declaring.{Numbered, found_or_new, tag_used, untagge
 use Rattle.name_rules.specs.Faults.{no_type, undeclared, fault_where}
 use Rattle.name_rules.specs.Identifiers.{OldParameter, Olds, number_of_identifier, old_declared, old_declared_some, is_unknown, old_faults}
 use Rattle.name_rules.specs.Units.{no_names, unit_begun}
-use Rattle.name_steps.specs.State.{State, with_names, with_innermost}
-use Rattle.name_steps.specs.Steps.{declaration, body, parameters, expression_step, specifier_step, shape_of_part, part_ended, bare_or_base, olds, with_olds, name_ended, name_declared, declarator_step, body_entered_by, is_counted, is_plain, statement_step, step, run}
-use Rattle.name_steps.specs.Units.{tapes_named}
+use Rattle.name_rules.specs.NameSteps.State.{State, with_names, with_innermost}
+use Rattle.name_rules.specs.NameSteps.Steps.{declaration, body, parameters, expression_step, specifier_step, shape_of_part, part_ended, bare_or_base, olds, with_olds, name_ended, name_declared, declarator_step, body_entered_by, is_counted, is_plain, statement_step, step, run}
+use Rattle.name_rules.specs.NameSteps.Units.{tapes_named}
 use Rattle.type_rules.specs.Program.{Source, names_of}
-use Rattle.name_laws.specs.NameLaws.{IsSound, NamesOfTapes, tape_of_source}
+use Rattle.resolve_laws.specs.NameLaws.NameLaws.{IsSound, NamesOfTapes, tape_of_source}
 use Rattle.row_rules.specs.Sites.{AreDifferent}
-use Rattle.key_laws.specs.Keys.{expr_key, op_key, key_place, key_places}
-use Rattle.key_laws.specs.Differing.{keys_among}
+use Rattle.row_laws.specs.KeyLaws.Keys.{expr_key, op_key, key_place, key_places}
+use Rattle.row_laws.specs.KeyLaws.Differing.{keys_among}
 use Rattle.missing_laws.specs.Programs.{use_places}
 use Rattle.whole_laws.proofs.Parts.{IsPart, none, part_differs, further_part, joined_part, same_part}
 
@@ -118,7 +118,8 @@ keep_same : (own : Option Place) (s : Names) → (keep own s).uses ≡ s.uses
 keep_same None s = refl
 keep_same (Some own) s = refl
 
-entered_same : (plain counted : Bool) (d : Option Declared) (s : Names) → (body_entered_by plain counted d s).uses ≡ s.uses
+entered_same : (plain counted : Bool) (d : Option Declared) (s : Names)
+    → (body_entered_by plain counted d s).uses ≡ s.uses
 entered_same plain counted None s = refl
 entered_same plain true (Some d) s = refl
 entered_same plain false (Some d) s = refl
@@ -199,7 +200,8 @@ module _ (u : Spelling) where
         subst (λ (it : List NameUse). IsPart (use_places it) (keys ++ key_place u key)) (sym e)
         (further_part (key_place u key) h)
 
-    expr_part : (op : ExprOp) → IsPart (use_places (expression_step u st op).names.uses) (keys ++ key_place u (expr_key op))
+    expr_part : (op : ExprOp)
+        → IsPart (use_places (expression_step u st op).names.uses) (keys ++ key_place u (expr_key op))
     expr_part (exprs.Name is_called token name) =
         subst (λ (ps : List Place). IsPart ps (keys ++ place u token ∷ [])) (sym (uses_joined st.names.uses _))
         (joined_part h (same_part (place u token)))

@@ -5,12 +5,12 @@ use Rattle.std.specs.Prelude.{if◌then◌else◌}
 use Rattle.name_rules.specs.Spellings.{Place}
 use Rattle.name_rules.specs.Scopes.{Declared, declared_at, is_place}
 use Rattle.type_rules.specs.Program.{Source, names_of}
-use Rattle.name_laws.specs.NameLaws.{IsSound, NamesOfTapes}
+use Rattle.resolve_laws.specs.NameLaws.NameLaws.{IsSound, NamesOfTapes}
 use Rattle.row_rules.specs.Sites.{AreDifferent, has_place}
-use Rattle.meaning_laws.specs.Meanings.{Differ}
-use Rattle.start_laws.specs.Laws.{SelectionsOfProgramAreFound, StartsOfProgramAreFound}
-use Rattle.key_laws.specs.Differing.{IsRead, KeysDiffer, keys_among}
-use Rattle.scope_laws.specs.Apart.{DeclarationsDiffer}
+use Rattle.name_rules.specs.MeaningLaws.Meanings.{Differ}
+use Rattle.row_laws.specs.StartLaws.Laws.{SelectionsOfProgramAreFound, StartsOfProgramAreFound}
+use Rattle.row_laws.specs.KeyLaws.Differing.{IsRead, KeysDiffer, keys_among}
+use Rattle.owned_laws.specs.ScopeLaws.Apart.{DeclarationsDiffer}
 use Rattle.missing_laws.specs.Programs.{declared_places}
 use Rattle.whole_laws.specs.Programs.{PlacesOfReadDiffer}
 use Rattle.whole_laws.proofs.Selections.{selections_differ}
@@ -37,7 +37,8 @@ sound_of (it ∷ sources) h =
     let read = All-head IsRead it sources h in
     All-cons IsSound it sources (read.all, read.rules) (sound_of sources (All-tail IsRead it sources h))
 
-pub places_differ : KeysDiffer → NamesOfTapes → DeclarationsDiffer → StartsOfProgramAreFound → SelectionsOfProgramAreFound →
+pub places_differ : KeysDiffer → NamesOfTapes → DeclarationsDiffer → StartsOfProgramAreFound
+    → SelectionsOfProgramAreFound →
     PlacesOfReadDiffer
 places_differ keys names declarations starts selections sources read units =
     let sound = sound_of sources read in

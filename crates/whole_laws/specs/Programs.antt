@@ -4,11 +4,12 @@ use Rattle.c_tree.specs.declared.lexeme.Lexeme.{Lexeme}
 use Rattle.c_units.specs.Units.{IsWellFormed}
 use Rattle.type_rules.specs.Program.{HasNoFault, Source}
 use Rattle.constraint_rules.specs.Systems.{Program}
-use Rattle.key_laws.specs.Differing.{AreNumbered, IsRead, UnitsDiffer}
+use Rattle.row_laws.specs.KeyLaws.Differing.{AreNumbered, IsRead, UnitsDiffer}
 use Rattle.first_laws.specs.Firsts.{NamesDiffer}
 use Rattle.missing_laws.specs.Programs.{EachHasSkeletons, EachMissesNothing, PlacesDiffer}
 
--- A unit as it is read from text, as wider C or not: it is what is well formed of some tokens, scopes of names included. No two tokens have
+-- A unit as it is read from text, as wider C or not: it is what is well formed of some tokens, scopes of names
+-- included. No two tokens have
 -- one number, and no two names have one number in all units.
 pub record IsParsed (it : Source) : Type 0 where
   pub all : List Lexeme

@@ -7,11 +7,11 @@ ghost use Rattle.whole_laws.specs.Programs.{
 };
 
 use first_laws::firsts_have_skeletons;
-use key_laws::keys_differ;
 use missing_laws::{programs_have_skeletons, programs_miss_nothing};
-use name_laws::names_of_tapes;
-use scope_laws::declarations_differ;
-use start_laws::{selections_of_program_are_found, starts_of_program_are_found};
+use owned_laws::scope_laws::declarations_differ;
+use resolve_laws::name_laws::names_of_tapes;
+use row_laws::key_laws::keys_differ;
+use row_laws::start_laws::{selections_of_program_are_found, starts_of_program_are_found};
 
 /// No two declarations, uses of names or skeletons are at one place, in units that are well formed of differently numbered tokens
 /// and have different numbers.

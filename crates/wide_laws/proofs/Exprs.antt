@@ -33,21 +33,25 @@ use Rattle.wide_laws.proofs.Both.{all_left, late_bind, late_if, late_take, past_
 use Rattle.wide_laws.proofs.Words.{late_token, late_name, late_texts}
 
 module _ {S : Type 0} (n gap : ℕ) (inner other : Inner) (m : InnerBoth S n gap inner other) (room wide : ℕ) (less : room < suc n) (wider : Near gap room wide) where
-  inside : (reach : Reach) (begun : Begun) (s : HeldScopes) (ts : List Lexeme) → Both S (1 ≤ room) ts (inner.expr reach begun (room - 1) s ts) (other.expr reach begun (wide - 1) s ts)
+  inside : (reach : Reach) (begun : Begun) (s : HeldScopes) (ts : List Lexeme)
+      → Both S (1 ≤ room) ts (inner.expr reach begun (room - 1) s ts) (other.expr reach begun (wide - 1) s ts)
   inside reach begun s ts = when (λ one. omega (arith, less, one)) (m.exprs reach begun (room - 1) (wide - 1) (omega (arith, wider)) s ts)
 
-  arguments_both : (s : HeldScopes) (ts : List Lexeme) → Both S (1 ≤ room) ts (arguments_with inner room s ts) (arguments_with other wide s ts)
+  arguments_both : (s : HeldScopes) (ts : List Lexeme)
+      → Both S (1 ≤ room) ts (arguments_with inner room s ts) (arguments_with other wide s ts)
   unfolding arguments_with next_argument
   arguments_both s ts =
       both_if (is_close_paren (kind_at ts)) _ _ _ _ (ready _)
       (both_bind _ _ _ _ (both_listed (inner.expr Assigned nothing (room - 1)) (other.expr Assigned nothing (wide - 1)) (next_argument inner room) (next_argument other wide) s ts (inside Assigned nothing s ts) (λ x one is. one)
       (λ token s ts. both_bind _ _ _ _ (inside Assigned nothing s ts) (λ e. ready _))) (λ es. ready _))
 
-  postfix_both : (D : Type 0) (e : Expr) (s : HeldScopes) (ts : List Lexeme) → BothTurn S D ts (postfix_turn inner room e s ts) (postfix_turn other wide e s ts)
+  postfix_both : (D : Type 0) (e : Expr) (s : HeldScopes) (ts : List Lexeme)
+      → BothTurn S D ts (postfix_turn inner room e s ts) (postfix_turn other wide e s ts)
   unfolding index_with call_with dot_with arrow_with post_with
   postfix_both D e s ts = by_form (form_of (kind_at ts))
     where
-      by_form : (form : PostfixForm) → BothTurn S D ts (lowered inner (expr_height e) room ts (postfix_by inner form room e s ts)) (lowered other (expr_height e) wide ts (postfix_by other form wide e s ts))
+      by_form : (form : PostfixForm)
+          → BothTurn S D ts (lowered inner (expr_height e) room ts (postfix_by inner form room e s ts)) (lowered other (expr_height e) wide ts (postfix_by other form wide e s ts))
       by_form forms.Index =
           both_asks (suc (expr_height e)) room wide s ts _ _ wider.0 (λ opening. both_bind _ _ _ _ (when (λ fit. omega (arith, fit)) (inside Whole nothing opening.scopes opening.rest))
           (λ e2. both_then _ _ _ (late_token is_close_bracket e2.scopes e2.rest) (λ closing. ready _)))
@@ -59,35 +63,42 @@ module _ {S : Type 0} (n gap : ℕ) (inner other : Inner) (m : InnerBoth S n gap
       by_form (forms.Post p) = both_asks (suc (expr_height e)) room wide s ts _ _ wider.0 (λ token. ready _)
       by_form forms.Nothing = tt
 
-  postfixed_both : {D : Type 0} (e : Expr) (s : HeldScopes) (ts : List Lexeme) → Both S D ts (postfixed inner room e s ts) (postfixed other wide e s ts)
+  postfixed_both : {D : Type 0} (e : Expr) (s : HeldScopes) (ts : List Lexeme)
+      → Both S D ts (postfixed inner room e s ts) (postfixed other wide e s ts)
   unfolding postfixed
   postfixed_both {D} e s ts = both_run (postfix_turn inner room) (postfix_turn other wide) (postfix_both D) e s ts
 
-  primary_both : {D : Type 0} (make : ℕ → Expr) (s : HeldScopes) (ts : List Lexeme) → Ahead S D ts (primary_with inner make room s ts) (primary_with other make wide s ts)
+  primary_both : {D : Type 0} (make : ℕ → Expr) (s : HeldScopes) (ts : List Lexeme)
+      → Ahead S D ts (primary_with inner make room s ts) (primary_with other make wide s ts)
   primary_both make s ts = both_takes 1 room wide s ts _ _ wider.0 (λ token. postfixed_both (make token.tree) token.scopes token.rest)
 
-  text_both : {D : Type 0} (s : HeldScopes) (ts : List Lexeme) → Ahead S D ts (text_with inner room s ts) (text_with other wide s ts)
+  text_both : {D : Type 0} (s : HeldScopes) (ts : List Lexeme)
+      → Ahead S D ts (text_with inner room s ts) (text_with other wide s ts)
   unfolding text_with
   text_both s ts = both_takes 1 room wide s ts _ _ wider.0 (λ token. both_then _ _ _ (late_texts token.scopes token.rest) (λ texts. postfixed_both _ texts.scopes texts.rest))
 
-  compound_both : (opening : ℕ) (t : TypeName) (closing : ℕ) (s : HeldScopes) (ts : List Lexeme) → Both S (1 ≤ room) ts (compound_with inner opening t closing room s ts) (compound_with other opening t closing wide s ts)
+  compound_both : (opening : ℕ) (t : TypeName) (closing : ℕ) (s : HeldScopes) (ts : List Lexeme)
+      → Both S (1 ≤ room) ts (compound_with inner opening t closing room s ts) (compound_with other opening t closing wide s ts)
   unfolding compound_with
   compound_both opening t closing s ts =
       both_bind _ _ _ _ (when (λ one. omega (arith, less, one)) (m.lists (room - 1) (wide - 1) (omega (arith, wider)) s ts)) (λ list. postfixed_both _ list.scopes list.rest)
 
-  compound_past : S → (opening : ℕ) (t : TypeName) (closing : ℕ) (s : HeldScopes) (ts : List Lexeme) → is_open_brace (kind_at ts) ≡ true → Late (behind_first ts) (compound_with other opening t closing wide s ts)
+  compound_past : S → (opening : ℕ) (t : TypeName) (closing : ℕ) (s : HeldScopes) (ts : List Lexeme)
+      → is_open_brace (kind_at ts) ≡ true → Late (behind_first ts) (compound_with other opening t closing wide s ts)
   unfolding compound_with
   compound_past strict opening t closing s ts is =
       late_bind (behind_first ts) _ _ (m.list_first strict (wide - 1) (omega (arith, less, wider)) s ts is) (λ list. let both : Both S ⊥ list.rest _ _ = postfixed_both _ list.scopes list.rest in both.late)
 
-  typed_both : (casts : Bool) (opening : ℕ) (s : HeldScopes) (ts : List Lexeme) → Both S (2 ≤ room) ts (typed_with inner casts opening room s ts) (typed_with other casts opening wide s ts)
+  typed_both : (casts : Bool) (opening : ℕ) (s : HeldScopes) (ts : List Lexeme)
+      → Both S (2 ≤ room) ts (typed_with inner casts opening room s ts) (typed_with other casts opening wide s ts)
   unfolding typed_with typed_behind cast_behind
   typed_both casts opening s ts =
       both_bind _ _ _ _ (when (λ two. (omega (arith, less, two), omega (arith, two))) (m.types (room - 1) (wide - 1) (omega (arith, wider)) s ts)) (λ t. both_then _ _ _ (late_token is_close_paren t.scopes t.rest)
       (λ closing. both_if (is_open_brace (kind_at closing.rest)) _ _ _ _ (when (λ two. omega (arith, two)) (compound_both opening t.tree closing.tree closing.scopes closing.rest))
       (both_if casts _ _ _ _ (both_bind _ _ _ _ (when (λ two. omega (arith, two)) (inside Castable nothing closing.scopes closing.rest)) (λ e. ready _)) (refused _ closing.rest))))
 
-  opened_both : {D : Type 0} (casts : Bool) (s : HeldScopes) (ts : List Lexeme) → Ahead S D ts (opened_with inner casts room s ts) (opened_with other casts wide s ts)
+  opened_both : {D : Type 0} (casts : Bool) (s : HeldScopes) (ts : List Lexeme)
+      → Ahead S D ts (opened_with inner casts room s ts) (opened_with other casts wide s ts)
   unfolding opened_with opened_by statement_with paren_with
   opened_both casts s ts =
       both_takes 2 room wide s ts _ _ wider.0 (λ opening. both_if (begins_specs opening.scopes (kind_at opening.rest)) _ _ _ _ (typed_both casts opening.tree opening.scopes opening.rest)
@@ -97,23 +108,28 @@ module _ {S : Type 0} (n gap : ℕ) (inner other : Inner) (m : InnerBoth S n gap
       (both_bind _ _ _ _ (when (λ two. omega (arith, two)) (inside Whole nothing opening.scopes opening.rest))
       (λ e. both_then _ _ _ (late_token is_close_paren e.scopes e.rest) (λ closing. postfixed_both _ closing.scopes closing.rest)))))
 
-  prefix_both : {D : Type 0} (p : Punct) (reach : Reach) (s : HeldScopes) (ts : List Lexeme) → Ahead S D ts (prefix_with inner p reach room s ts) (prefix_with other p reach wide s ts)
+  prefix_both : {D : Type 0} (p : Punct) (reach : Reach) (s : HeldScopes) (ts : List Lexeme)
+      → Ahead S D ts (prefix_with inner p reach room s ts) (prefix_with other p reach wide s ts)
   unfolding prefix_with
   prefix_both p reach s ts = both_takes 2 room wide s ts _ _ wider.0 (λ token. both_bind _ _ _ _ (when (λ two. omega (arith, two)) (inside reach nothing token.scopes token.rest)) (λ e. ready _))
 
-  extension_both : {D : Type 0} (s : HeldScopes) (ts : List Lexeme) → Ahead S D ts (extension_with inner room s ts) (extension_with other wide s ts)
+  extension_both : {D : Type 0} (s : HeldScopes) (ts : List Lexeme)
+      → Ahead S D ts (extension_with inner room s ts) (extension_with other wide s ts)
   unfolding extension_with
   extension_both s ts = both_takes 2 room wide s ts _ _ wider.0 (λ token. both_bind _ _ _ _ (when (λ two. omega (arith, two)) (inside Castable nothing token.scopes token.rest)) (λ e. ready _))
 
-  value_both : (word : Word) (s : HeldScopes) (ts : List Lexeme) → Both S (1 ≤ room) ts (sizeof_value_with inner word room s ts) (sizeof_value_with other word wide s ts)
+  value_both : (word : Word) (s : HeldScopes) (ts : List Lexeme)
+      → Both S (1 ≤ room) ts (sizeof_value_with inner word room s ts) (sizeof_value_with other word wide s ts)
   unfolding sizeof_value_with
   value_both word s ts = both_bind _ _ _ _ (inside Unary nothing s ts) (λ e. ready _)
 
-  value_past : S → (word : Word) (s : HeldScopes) (ts : List Lexeme) → is_open_paren (kind_at ts) ≡ true → Late (behind_first ts) (sizeof_value_with other word wide s ts)
+  value_past : S → (word : Word) (s : HeldScopes) (ts : List Lexeme) → is_open_paren (kind_at ts) ≡ true
+      → Late (behind_first ts) (sizeof_value_with other word wide s ts)
   unfolding sizeof_value_with
   value_past strict word s ts is = late_bind (behind_first ts) _ _ (m.unary_first strict (wide - 1) (omega (arith, less, wider)) s ts is) (λ e. all_left e.rest)
 
-  va_arg_both : {D : Type 0} (s : HeldScopes) (ts : List Lexeme) → Ahead S D ts (va_arg_with inner room s ts) (va_arg_with other wide s ts)
+  va_arg_both : {D : Type 0} (s : HeldScopes) (ts : List Lexeme)
+      → Ahead S D ts (va_arg_with inner room s ts) (va_arg_with other wide s ts)
   unfolding va_arg_with
   va_arg_both s ts =
       both_takes 3 room wide s ts _ _ wider.0 (λ keyword. both_then _ _ _ (late_token is_open_paren keyword.scopes keyword.rest)
@@ -121,7 +137,8 @@ module _ {S : Type 0} (n gap : ℕ) (inner other : Inner) (m : InnerBoth S n gap
       (λ separator. both_bind _ _ _ _ (when (λ three. (omega (arith, less, three), omega (arith, three))) (m.types (room - 1) (wide - 1) (omega (arith, wider)) separator.scopes separator.rest))
       (λ t. both_then _ _ _ (late_token is_close_paren t.scopes t.rest) (λ closing. postfixed_both _ closing.scopes closing.rest))))))
 
-  va_two_both : {D : Type 0} (make : ℕ → ℕ → Expr → ℕ → Expr → ℕ → Expr) (s : HeldScopes) (ts : List Lexeme) → Ahead S D ts (va_two_with inner make room s ts) (va_two_with other make wide s ts)
+  va_two_both : {D : Type 0} (make : ℕ → ℕ → Expr → ℕ → Expr → ℕ → Expr) (s : HeldScopes) (ts : List Lexeme)
+      → Ahead S D ts (va_two_with inner make room s ts) (va_two_with other make wide s ts)
   unfolding va_two_with
   va_two_both make s ts =
       both_takes 2 room wide s ts _ _ wider.0 (λ keyword. both_then _ _ _ (late_token is_open_paren keyword.scopes keyword.rest)
@@ -129,13 +146,15 @@ module _ {S : Type 0} (n gap : ℕ) (inner other : Inner) (m : InnerBoth S n gap
       (λ separator. both_bind _ _ _ _ (when (λ two. omega (arith, two)) (inside Assigned nothing separator.scopes separator.rest))
       (λ e2. both_then _ _ _ (late_token is_close_paren e2.scopes e2.rest) (λ closing. postfixed_both _ closing.scopes closing.rest))))))
 
-  step_both : (s : HeldScopes) (ts : List Lexeme) → Both S (1 ≤ room) ts (step_with inner room s ts) (step_with other wide s ts)
+  step_both : (s : HeldScopes) (ts : List Lexeme)
+      → Both S (1 ≤ room) ts (step_with inner room s ts) (step_with other wide s ts)
   unfolding step_with
   step_both s ts =
       both_if (is_dot (kind_at ts)) _ _ _ _ (both_then _ _ _ (late_take s ts) (λ token. both_then _ _ _ (late_name token.scopes token.rest) (λ name. ready _)))
       (both_then _ _ _ (late_take s ts) (λ opening. both_bind _ _ _ _ (inside Whole nothing opening.scopes opening.rest) (λ e. both_then _ _ _ (late_token is_close_bracket e.scopes e.rest) (λ closing. ready _))))
 
-  offset_both : {D : Type 0} (s : HeldScopes) (ts : List Lexeme) → Ahead S D ts (offset_with inner room s ts) (offset_with other wide s ts)
+  offset_both : {D : Type 0} (s : HeldScopes) (ts : List Lexeme)
+      → Ahead S D ts (offset_with inner room s ts) (offset_with other wide s ts)
   unfolding offset_with
   offset_both s ts =
       both_takes 3 room wide s ts _ _ wider.0 (λ keyword. both_then _ _ _ (late_token is_open_paren keyword.scopes keyword.rest)
@@ -144,7 +163,8 @@ module _ {S : Type 0} (n gap : ℕ) (inner other : Inner) (m : InnerBoth S n gap
       (λ name. both_bind _ _ _ _ (when (λ three. omega (arith, three)) (both_repeated begins_desig (step_with inner room) (step_with other wide) (λ s ts is. step_both s ts) name.scopes name.rest))
       (λ steps. both_then _ _ _ (late_token is_close_paren steps.scopes steps.rest) (λ closing. postfixed_both _ closing.scopes closing.rest)))))))
 
-  part_both : {D : Type 0} (s : HeldScopes) (ts : List Lexeme) → Ahead S D ts (part_with inner room s ts) (part_with other wide s ts)
+  part_both : {D : Type 0} (s : HeldScopes) (ts : List Lexeme)
+      → Ahead S D ts (part_with inner room s ts) (part_with other wide s ts)
   unfolding part_with
   part_both s ts = both_takes 2 room wide s ts _ _ wider.0 (λ token. both_bind _ _ _ _ (when (λ two. omega (arith, two)) (inside Castable nothing token.scopes token.rest)) (λ e. ready _))
 
@@ -153,15 +173,18 @@ module _ {S : Type 0} (n gap : ℕ) (inner other : Inner) (m : InnerBoth S n gap
       (fits 1 wide ts (and_then (take_one s ts) (λ token. and_then (name_at token.scopes token.rest) (λ name. ends (label_use token.tree name.tree) name.scopes name.rest))))
   label_asked s ts = both_takes 1 room wide s ts _ _ wider.0 (λ token. both_then _ _ _ (late_name token.scopes token.rest) (λ name. ready _))
 
-  label_use_both : {D : Type 0} (s : HeldScopes) (ts : List Lexeme) → Both S D ts (label_use_with inner room s ts) (label_use_with other wide s ts)
+  label_use_both : {D : Type 0} (s : HeldScopes) (ts : List Lexeme)
+      → Both S D ts (label_use_with inner room s ts) (label_use_with other wide s ts)
   unfolding label_use_with
   label_use_both s ts = both_if (is_wide s) _ _ _ _ (label_asked s ts).both (refused _ ts)
 
-  label_use_past : (s : HeldScopes) (ts : List Lexeme) → is_wide s ≡ true → Late (behind_first ts) (label_use_with other wide s ts)
+  label_use_past : (s : HeldScopes) (ts : List Lexeme) → is_wide s ≡ true
+      → Late (behind_first ts) (label_use_with other wide s ts)
   unfolding label_use_with
   label_use_past s ts is = late_if (behind_first ts) (is_wide s) _ _ (λ on. (label_asked {D = ⊥} s ts).past) (λ off. absurd cc)
 
-  compat_both : {D : Type 0} (s : HeldScopes) (ts : List Lexeme) → Ahead S D ts (compat_with inner room s ts) (compat_with other wide s ts)
+  compat_both : {D : Type 0} (s : HeldScopes) (ts : List Lexeme)
+      → Ahead S D ts (compat_with inner room s ts) (compat_with other wide s ts)
   unfolding compat_with
   compat_both s ts =
       both_takes 3 room wide s ts _ _ wider.0 (λ keyword. both_then _ _ _ (late_token is_open_paren keyword.scopes keyword.rest)
@@ -170,7 +193,8 @@ module _ {S : Type 0} (n gap : ℕ) (inner other : Inner) (m : InnerBoth S n gap
       (λ separator. both_bind _ _ _ _ (when (λ three. (omega (arith, less, three), omega (arith, three))) (m.types (room - 1) (wide - 1) (omega (arith, wider)) separator.scopes separator.rest))
       (λ t2. both_then _ _ _ (late_token is_close_paren t2.scopes t2.rest) (λ closing. postfixed_both _ closing.scopes closing.rest))))))
 
-  choose_both : {D : Type 0} (s : HeldScopes) (ts : List Lexeme) → Ahead S D ts (choose_with inner room s ts) (choose_with other wide s ts)
+  choose_both : {D : Type 0} (s : HeldScopes) (ts : List Lexeme)
+      → Ahead S D ts (choose_with inner room s ts) (choose_with other wide s ts)
   unfolding choose_with
   choose_both s ts =
       both_takes 2 room wide s ts _ _ wider.0 (λ keyword. both_then _ _ _ (late_token is_open_paren keyword.scopes keyword.rest)
@@ -180,7 +204,8 @@ module _ {S : Type 0} (n gap : ℕ) (inner other : Inner) (m : InnerBoth S n gap
       (λ e3. both_then _ _ _ (late_token is_close_paren e3.scopes e3.rest) (λ closing. postfixed_both _ closing.scopes closing.rest))))))))
 
   -- an association: behind the word `default`, or at a word that may begin a type's name
-  assoc_both : {D : Type 0} (s : HeldScopes) (ts : List Lexeme) → Both S D ts (assoc_with inner room s ts) (assoc_with other wide s ts)
+  assoc_both : {D : Type 0} (s : HeldScopes) (ts : List Lexeme)
+      → Both S D ts (assoc_with inner room s ts) (assoc_with other wide s ts)
   unfolding assoc_with default_assoc_with typed_assoc_with
   assoc_both s ts =
       both_if (is_default (kind_at ts)) _ _ _ _
@@ -194,7 +219,8 @@ module _ {S : Type 0} (n gap : ℕ) (inner other : Inner) (m : InnerBoth S n gap
       (λ t. both_then _ _ _ (late_token is_colon t.scopes t.rest) (λ colon. both_bind _ _ _ _ (when (λ three. omega (arith, three)) (inside Assigned nothing colon.scopes colon.rest)) (λ e. ready _)))))
       (λ off. refused _ ts))
 
-  next_assoc_both : {D : Type 0} (token : ℕ) (s : HeldScopes) (ts : List Lexeme) → Both S D ts (next_assoc inner room token s ts) (next_assoc other wide token s ts)
+  next_assoc_both : {D : Type 0} (token : ℕ) (s : HeldScopes) (ts : List Lexeme)
+      → Both S D ts (next_assoc inner room token s ts) (next_assoc other wide token s ts)
   unfolding next_assoc
   next_assoc_both token s ts = both_bind _ _ _ _ (assoc_both s ts) (λ x. ready _)
 
@@ -205,7 +231,8 @@ not_true false h is = cc
 module _ {S : Type 0} (n gap : ℕ) (inner other : Inner) (m : InnerBoth S n gap inner other) where
   module _ (room wide : ℕ) (less : room < suc n) (wider : Near gap room wide) where
     -- behind a type's name in parentheses a compound literal stands one level lower
-    sizeof_typed_both : {D : Type 0} (word : Word) (opening : ℕ) (t : TypeName) (closing : ℕ) (s : HeldScopes) (ts : List Lexeme) → Both S D ts (sizeof_typed inner word opening t closing room s ts) (sizeof_typed other word opening t closing wide s ts)
+    sizeof_typed_both : {D : Type 0} (word : Word) (opening : ℕ) (t : TypeName) (closing : ℕ) (s : HeldScopes) (ts : List Lexeme)
+        → Both S D ts (sizeof_typed inner word opening t closing room s ts) (sizeof_typed other word opening t closing wide s ts)
     unfolding sizeof_typed
     sizeof_typed_both word opening t closing s ts =
         both_choice (is_open_brace (kind_at ts)) _ _ _ _
@@ -217,19 +244,22 @@ module _ {S : Type 0} (n gap : ℕ) (inner other : Inner) (m : InnerBoth S n gap
         type_high : (t : TypeName) → 1 ≤ type_name_height t
         type_high t = omega arith
 
-    sizeof_type_both : (word : Word) (s : HeldScopes) (ts : List Lexeme) → Both S (3 ≤ room) ts (sizeof_type_with inner word room s ts) (sizeof_type_with other word wide s ts)
+    sizeof_type_both : (word : Word) (s : HeldScopes) (ts : List Lexeme)
+        → Both S (3 ≤ room) ts (sizeof_type_with inner word room s ts) (sizeof_type_with other word wide s ts)
     unfolding sizeof_type_with
     sizeof_type_both word s ts =
         both_then _ _ _ (late_take s ts) (λ opening. both_bind _ _ _ _ (when (λ three. (omega (arith, less, three), omega (arith, three))) (m.types (room - 1) (wide - 1) (omega (arith, wider)) opening.scopes opening.rest))
         (λ t. both_then _ _ _ (late_token is_close_paren t.scopes t.rest) (λ closing. sizeof_typed_both _ opening.tree t.tree closing.tree closing.scopes closing.rest)))
 
-    sizeof_type_past : (word : Word) (s : HeldScopes) (ts : List Lexeme) → Late (behind_first ts) (sizeof_type_with other word wide s ts)
+    sizeof_type_past : (word : Word) (s : HeldScopes) (ts : List Lexeme)
+        → Late (behind_first ts) (sizeof_type_with other word wide s ts)
     unfolding sizeof_type_with
     sizeof_type_past word s ts =
         past_take s ts _ (λ opening. late_bind opening.rest _ _ (m.types (room - 1) (wide - 1) (omega (arith, wider)) opening.scopes opening.rest).late
         (λ t. late_bind t.rest _ _ (late_token is_close_paren t.scopes t.rest) (λ closing. (sizeof_typed_both {D = ⊥} _ opening.tree t.tree closing.tree closing.scopes closing.rest).late)))
 
-    sizeof_both : {D : Type 0} (keyword : Keyword) (s : HeldScopes) (ts : List Lexeme) → Ahead S D ts (sizeof_with inner keyword room s ts) (sizeof_with other keyword wide s ts)
+    sizeof_both : {D : Type 0} (keyword : Keyword) (s : HeldScopes) (ts : List Lexeme)
+        → Ahead S D ts (sizeof_with inner keyword room s ts) (sizeof_with other keyword wide s ts)
     unfolding sizeof_with sizeof_behind
     sizeof_both keyword s ts =
         both_takes 2 room wide s ts _ _ wider.0 (λ token. both_choice (is_open_paren (kind_at token.rest)) _ _ _ _
@@ -240,7 +270,8 @@ module _ {S : Type 0} (n gap : ℕ) (inner other : Inner) (m : InnerBoth S n gap
         (when (λ three. omega (arith, three)) (value_both n gap inner other m room wide less wider _ token.scopes token.rest))))
         (λ off. when (λ two. omega (arith, two)) (value_both n gap inner other m room wide less wider _ token.scopes token.rest)))
 
-    generic_both : {D : Type 0} (s : HeldScopes) (ts : List Lexeme) → Ahead S D ts (generic_with inner room s ts) (generic_with other wide s ts)
+    generic_both : {D : Type 0} (s : HeldScopes) (ts : List Lexeme)
+        → Ahead S D ts (generic_with inner room s ts) (generic_with other wide s ts)
     unfolding generic_with
     generic_both s ts =
         both_takes 3 room wide s ts _ _ wider.0 (λ keyword. both_then _ _ _ (late_token is_open_paren keyword.scopes keyword.rest)
@@ -251,7 +282,8 @@ module _ {S : Type 0} (n gap : ℕ) (inner other : Inner) (m : InnerBoth S n gap
         (λ token s ts. next_assoc_both n gap inner other m (room - 1) (wide - 1) (omega (arith, less)) (omega (arith, wider)) token s ts))
         (λ xs. both_then _ _ _ (late_token is_close_paren xs.scopes xs.rest) (λ closing. postfixed_both n gap inner other m room wide less wider _ closing.scopes closing.rest))))))
 
-    unary_by_both : {D : Type 0} (opening : Opening) (s : HeldScopes) (ts : List Lexeme) → Both S D ts (unary_by inner opening room s ts) (unary_by other opening wide s ts)
+    unary_by_both : {D : Type 0} (opening : Opening) (s : HeldScopes) (ts : List Lexeme)
+        → Both S D ts (unary_by inner opening room s ts) (unary_by other opening wide s ts)
     unfolding unary_by
     unary_by_both (openings.Prefix p reach) s ts = (prefix_both n gap inner other m room wide less wider p reach s ts).both
     unary_by_both (openings.Sizeof keyword) s ts = (sizeof_both keyword s ts).both
@@ -273,7 +305,8 @@ module _ {S : Type 0} (n gap : ℕ) (inner other : Inner) (m : InnerBoth S n gap
     unary_by_both openings.Nothing s ts = refused _ ts
 
     -- a unary form takes the token that begins it
-    unary_by_past : (opening : Opening) (s : HeldScopes) (ts : List Lexeme) → is_opening s opening ≡ true → Late (behind_first ts) (unary_by other opening wide s ts)
+    unary_by_past : (opening : Opening) (s : HeldScopes) (ts : List Lexeme) → is_opening s opening ≡ true
+        → Late (behind_first ts) (unary_by other opening wide s ts)
     unfolding unary_by
     unary_by_past (openings.Prefix p reach) s ts is = (prefix_both n gap inner other m room wide less wider {D = ⊥} p reach s ts).past
     unary_by_past (openings.Sizeof keyword) s ts is = (sizeof_both {D = ⊥} keyword s ts).past
@@ -295,22 +328,27 @@ module _ {S : Type 0} (n gap : ℕ) (inner other : Inner) (m : InnerBoth S n gap
     unary_by_past openings.Generic s ts is = (generic_both {D = ⊥} s ts).past
     unary_by_past openings.Nothing s ts is = absurd cc
 
-    unary_both : {D : Type 0} (s : HeldScopes) (ts : List Lexeme) → Both S D ts (unary_with inner room s ts) (unary_with other wide s ts)
+    unary_both : {D : Type 0} (s : HeldScopes) (ts : List Lexeme)
+        → Both S D ts (unary_with inner room s ts) (unary_with other wide s ts)
     unfolding unary_with
     unary_both s ts = unary_by_both (opening_of (kind_at ts)) s ts
 
-    cast_both : {D : Type 0} (s : HeldScopes) (ts : List Lexeme) → Both S D ts (cast_with inner room s ts) (cast_with other wide s ts)
+    cast_both : {D : Type 0} (s : HeldScopes) (ts : List Lexeme)
+        → Both S D ts (cast_with inner room s ts) (cast_with other wide s ts)
     unfolding cast_with
     cast_both s ts = both_if (is_open_paren (kind_at ts)) _ _ _ _ (opened_both n gap inner other m room wide less wider true s ts).both (unary_both s ts)
 
-    cast_past : (s : HeldScopes) (ts : List Lexeme) → begins_expr s (kind_at ts) ≡ true → Late (behind_first ts) (cast_with other wide s ts)
+    cast_past : (s : HeldScopes) (ts : List Lexeme) → begins_expr s (kind_at ts) ≡ true
+        → Late (behind_first ts) (cast_with other wide s ts)
     unfolding cast_with unary_with
     cast_past s ts is =
         late_if (behind_first ts) (is_open_paren (kind_at ts)) _ _ (λ on. (opened_both n gap inner other m room wide less wider {D = ⊥} true s ts).past) (λ off. unary_by_past (opening_of (kind_at ts)) s ts is)
 
   -- rows of operands and operators
 
-  operand_both : {D : Type 0} (begun : Begun) (room wide : ℕ) → room < suc n → Near gap room wide → (s : HeldScopes) (ts : List Lexeme) → Both S D ts (operand_with inner begun room s ts) (operand_with other begun wide s ts)
+  operand_both : {D : Type 0} (begun : Begun) (room wide : ℕ) → room < suc n → Near gap room wide
+      → (s : HeldScopes) (ts : List Lexeme)
+      → Both S D ts (operand_with inner begun room s ts) (operand_with other begun wide s ts)
   unfolding operand_with
   operand_both nothing room wide less wider s ts = cast_both room wide less wider s ts
   operand_both (extensions tokens) room wide less wider s ts =
@@ -325,12 +363,14 @@ module _ {S : Type 0} (n gap : ℕ) (inner other : Inner) (m : InnerBoth S n gap
   expr_high e = omega arith
 
   module _ (room wide : ℕ) (less : room < suc n) (wider : Near gap room wide) where
-    operation_both : {D : Type 0} (op : Operator) (left : Settled) (s : HeldScopes) (ts : List Lexeme) → Both S D ts (operation_with inner op left room s ts) (operation_with other op left wide s ts)
+    operation_both : {D : Type 0} (op : Operator) (left : Settled) (s : HeldScopes) (ts : List Lexeme)
+        → Both S D ts (operation_with inner op left room s ts) (operation_with other op left wide s ts)
     operation_both op left s ts =
         both_asks (depth_of left + expr_height left.last) room wide s ts _ _ wider.0
         (λ token. both_bind _ _ _ _ (cast_both (room - depth_of left) (wide - depth_of left) (omega (arith, less)) (omega (arith, wider)) token.scopes token.rest) (λ e. ready _))
 
-    question_both : {D : Type 0} (left : Settled) (s : HeldScopes) (ts : List Lexeme) → Both S D ts (question_with inner left room s ts) (question_with other left wide s ts)
+    question_both : {D : Type 0} (left : Settled) (s : HeldScopes) (ts : List Lexeme)
+        → Both S D ts (question_with inner left room s ts) (question_with other left wide s ts)
     unfolding middle_with
     question_both left s ts =
         both_asks (depth_of left + expr_height left.last) room wide s ts _ _ wider.0
@@ -343,15 +383,18 @@ module _ {S : Type 0} (n gap : ℕ) (inner other : Inner) (m : InnerBoth S n gap
         lower : (left : Settled) → depth_of left + expr_height left.last ≤ room → room - depth_of left < n
         lower left fit = let high = expr_high left.last in omega (arith, fit, high, less)
 
-    operation_by_both : (D : Type 0) (reach : Reach) (infix_form : Infix) (row : Row) (s : HeldScopes) (ts : List Lexeme) → BothTurn S D ts (operation_by inner reach room infix_form row s ts) (operation_by other reach wide infix_form row s ts)
+    operation_by_both : (D : Type 0) (reach : Reach) (infix_form : Infix) (row : Row) (s : HeldScopes) (ts : List Lexeme)
+        → BothTurn S D ts (operation_by inner reach room infix_form row s ts) (operation_by other reach wide infix_form row s ts)
     operation_by_both D reach infixes.Comma row s ts = both_guarded (takes_comma reach) _ _ (λ on. operation_both comma (settled row 0) s ts)
     operation_by_both D reach (infixes.Assign p) row s ts = by_level (nat_le 14 (expr_level (settled row 1).last))
       where
-        by_reach : (c : Bool) → BothTurn S D ts (if c then Some (operation_with inner (assign p) (settled row 1) room s ts) else None) (if c then Some (operation_with other (assign p) (settled row 1) wide s ts) else None)
+        by_reach : (c : Bool)
+            → BothTurn S D ts (if c then Some (operation_with inner (assign p) (settled row 1) room s ts) else None) (if c then Some (operation_with other (assign p) (settled row 1) wide s ts) else None)
         by_reach true = operation_both (assign p) (settled row 1) s ts
         by_reach false = tt
 
-        by_level : (b : Bool) → BothTurn S D ts (if b then (if takes_assign reach then Some (operation_with inner (assign p) (settled row 1) room s ts) else None) else Some (refuses BadTarget ts))
+        by_level : (b : Bool)
+            → BothTurn S D ts (if b then (if takes_assign reach then Some (operation_with inner (assign p) (settled row 1) room s ts) else None) else Some (refuses BadTarget ts))
             (if b then (if takes_assign reach then Some (operation_with other (assign p) (settled row 1) wide s ts) else None) else Some (refuses BadTarget ts))
         by_level true = by_reach (takes_assign reach)
         by_level false = refused BadTarget ts
@@ -359,19 +402,23 @@ module _ {S : Type 0} (n gap : ℕ) (inner other : Inner) (m : InnerBoth S n gap
     operation_by_both D reach (infixes.Binary p) row s ts = operation_both (binary p) (settled row (binary_level p + 2)) s ts
     operation_by_both D reach infixes.Nothing row s ts = tt
 
-    operations_both : {D : Type 0} (reach : Reach) (row : Row) (s : HeldScopes) (ts : List Lexeme) → Both S D ts (run (operation_turn inner reach room) row s ts) (run (operation_turn other reach wide) row s ts)
+    operations_both : {D : Type 0} (reach : Reach) (row : Row) (s : HeldScopes) (ts : List Lexeme)
+        → Both S D ts (run (operation_turn inner reach room) row s ts) (run (operation_turn other reach wide) row s ts)
     operations_both {D} reach row s ts = both_run (operation_turn inner reach room) (operation_turn other reach wide) (λ row s ts. operation_by_both D reach (infix_of (kind_at ts)) row s ts) row s ts
 
-    row_both : {D : Type 0} (reach : Reach) (begun : Begun) (s : HeldScopes) (ts : List Lexeme) → Both S D ts (row_with inner reach begun room s ts) (row_with other reach begun wide s ts)
+    row_both : {D : Type 0} (reach : Reach) (begun : Begun) (s : HeldScopes) (ts : List Lexeme)
+        → Both S D ts (row_with inner reach begun room s ts) (row_with other reach begun wide s ts)
     unfolding row_with
     row_both reach begun s ts = both_bind _ _ _ _ (operand_both begun room wide less wider s ts) (λ e. both_bind _ _ _ _ (operations_both reach _ e.scopes e.rest) (λ row. ready _))
 
-    row_past : (reach : Reach) (s : HeldScopes) (ts : List Lexeme) → begins_expr s (kind_at ts) ≡ true → Late (behind_first ts) (row_with other reach nothing wide s ts)
+    row_past : (reach : Reach) (s : HeldScopes) (ts : List Lexeme) → begins_expr s (kind_at ts) ≡ true
+        → Late (behind_first ts) (row_with other reach nothing wide s ts)
     unfolding row_with operand_with
     row_past reach s ts is =
         late_bind (behind_first ts) _ _ (cast_past room wide less wider s ts is) (λ e. late_bind e.rest _ _ (operations_both {D = ⊥} reach _ e.scopes e.rest).late (λ row. all_left row.rest))
 
-    pub expr_both : {D : Type 0} (reach : Reach) (begun : Begun) (s : HeldScopes) (ts : List Lexeme) → Both S D ts (expr_with inner reach begun room s ts) (expr_with other reach begun wide s ts)
+    pub expr_both : {D : Type 0} (reach : Reach) (begun : Begun) (s : HeldScopes) (ts : List Lexeme)
+        → Both S D ts (expr_with inner reach begun room s ts) (expr_with other reach begun wide s ts)
     unfolding expr_with
     expr_both Whole begun s ts = row_both Whole begun s ts
     expr_both Assigned begun s ts = row_both Assigned begun s ts
@@ -379,7 +426,8 @@ module _ {S : Type 0} (n gap : ℕ) (inner other : Inner) (m : InnerBoth S n gap
     expr_both Castable begun s ts = operand_both begun room wide less wider s ts
     expr_both Unary begun s ts = unary_both room wide less wider s ts
 
-    unary_past : (s : HeldScopes) (ts : List Lexeme) → is_open_paren (kind_at ts) ≡ true → Late (behind_first ts) (unary_with other wide s ts)
+    unary_past : (s : HeldScopes) (ts : List Lexeme) → is_open_paren (kind_at ts) ≡ true
+        → Late (behind_first ts) (unary_with other wide s ts)
     unfolding unary_with
     unary_past s ts is = unary_by_past room wide less wider (opening_of (kind_at ts)) s ts (paren_begins (kind_at ts) is)
       where
@@ -388,14 +436,17 @@ module _ {S : Type 0} (n gap : ℕ) (inner other : Inner) (m : InnerBoth S n gap
         paren_begins (kinds.Punct p) h = absurd cc
         paren_begins kind h = absurd cc
 
-    pub expr_past : (s : HeldScopes) (ts : List Lexeme) → is_open_paren (kind_at ts) ≡ true → Late (behind_first ts) (expr_with other Unary nothing wide s ts)
+    pub expr_past : (s : HeldScopes) (ts : List Lexeme) → is_open_paren (kind_at ts) ≡ true
+        → Late (behind_first ts) (expr_with other Unary nothing wide s ts)
     unfolding expr_with
     expr_past s ts is = unary_past s ts is
 
-    pub whole_past : (s : HeldScopes) (ts : List Lexeme) → begins_expr s (kind_at ts) ≡ true → Late (behind_first ts) (expr_with other Whole nothing wide s ts)
+    pub whole_past : (s : HeldScopes) (ts : List Lexeme) → begins_expr s (kind_at ts) ≡ true
+        → Late (behind_first ts) (expr_with other Whole nothing wide s ts)
     unfolding expr_with
     whole_past s ts is = row_past Whole s ts is
 
-    pub assigned_past : (s : HeldScopes) (ts : List Lexeme) → begins_expr s (kind_at ts) ≡ true → Late (behind_first ts) (expr_with other Assigned nothing wide s ts)
+    pub assigned_past : (s : HeldScopes) (ts : List Lexeme) → begins_expr s (kind_at ts) ≡ true
+        → Late (behind_first ts) (expr_with other Assigned nothing wide s ts)
     unfolding expr_with
     assigned_past s ts is = row_past Assigned s ts is

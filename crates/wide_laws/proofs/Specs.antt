@@ -33,7 +33,8 @@ pub late_present : (d : SomeDeclr) (s : HeldScopes) (ts : List Lexeme) → Late 
 late_present no_declr s ts = inr (late_refused ts)
 late_present (some_declr d) s ts = all_left ts
 
-late_without : {A : Type 0} (tag : Option Identifier) (a : A) (s : HeldScopes) (ts : List Lexeme) → Late ts (without_body tag a s ts)
+late_without : {A : Type 0} (tag : Option Identifier) (a : A) (s : HeldScopes) (ts : List Lexeme)
+    → Late ts (without_body tag a s ts)
 late_without None a s ts = inr (late_refused ts)
 late_without (Some tag) a s ts = all_left ts
 
@@ -42,15 +43,18 @@ late_declared a None ts = inr (late_refused ts)
 late_declared a (Some s) ts = all_left ts
 
 -- only the word `attribute` begins an attribute
-attribute_at : (s : HeldScopes) (typed : Bool) (kind : TokenKind) → start_at s typed kind ≡ starts.Attribute → is_attribute kind ≡ true
+attribute_at : (s : HeldScopes) (typed : Bool) (kind : TokenKind) → start_at s typed kind ≡ starts.Attribute
+    → is_attribute kind ≡ true
 attribute_at s typed (kinds.Keyword keyword) is = by_word keyword is
   where
-    by_word : (keyword : Keyword) → typed_start s typed (keyword_start keyword) ≡ starts.Attribute → is_attribute (kinds.Keyword keyword) ≡ true
+    by_word : (keyword : Keyword) → typed_start s typed (keyword_start keyword) ≡ starts.Attribute
+        → is_attribute (kinds.Keyword keyword) ≡ true
     by_word keywords.Attribute is = refl
     by_word keyword is = absurd cc
 attribute_at s typed (kinds.Name name) is = by_test (names_type s name && not typed) is
   where
-    by_test : (b : Bool) → (if b then starts.Name name else starts.Nothing) ≡ starts.Attribute → is_attribute (kinds.Name name) ≡ true
+    by_test : (b : Bool) → (if b then starts.Name name else starts.Nothing) ≡ starts.Attribute
+        → is_attribute (kinds.Name name) ≡ true
     by_test true is = absurd cc
     by_test false is = absurd cc
 attribute_at s typed (kinds.Qual lattice elem) is = absurd cc
@@ -58,10 +62,12 @@ attribute_at s typed kinds.Index is = absurd cc
 attribute_at s typed kind is = absurd cc
 
 -- any word may come first
-first_goes : (s : HeldScopes) (kind : TokenKind) → is_start (start_at s false kind) ≡ true → goes_on no_words (class_of_start (start_at s false kind)) ≡ true
+first_goes : (s : HeldScopes) (kind : TokenKind) → is_start (start_at s false kind) ≡ true
+    → goes_on no_words (class_of_start (start_at s false kind)) ≡ true
 first_goes s (kinds.Name name) is = by_test (names_type s name && not false) is
   where
-    by_test : (b : Bool) → is_start (if b then starts.Name name else starts.Nothing) ≡ true → goes_on no_words (class_of_start (if b then starts.Name name else starts.Nothing)) ≡ true
+    by_test : (b : Bool) → is_start (if b then starts.Name name else starts.Nothing) ≡ true
+        → goes_on no_words (class_of_start (if b then starts.Name name else starts.Nothing)) ≡ true
     by_test true is = refl
     by_test false is = absurd cc
 first_goes s (kinds.Qual lattice elem) is = refl
@@ -106,38 +112,45 @@ first_goes s kind is = absurd cc
 
 module _ {S : Type 0} (n gap : ℕ) (inner other : Inner) (m : InnerBoth S n gap inner other) where
   module _ (room wide : ℕ) (less : room < suc n) (wider : Near gap room wide) where
-    pub specs_here_both : {D : Type 0} (role : Role) (s : HeldScopes) (ts : List Lexeme) → Both S D ts (specs_here inner role room s ts) (specs_here other role wide s ts)
+    pub specs_here_both : {D : Type 0} (role : Role) (s : HeldScopes) (ts : List Lexeme)
+        → Both S D ts (specs_here inner role room s ts) (specs_here other role wide s ts)
     unfolding specs_here
     specs_here_both role s ts =
         both_choice (begins_role role s (kind_at ts)) _ _ _ _
         (λ is. both_fits 2 room wide ts _ _ wider.0 (λ strict. m.words_first strict role (wide - 1) (omega (arith, less, wider)) s ts is) (when (λ two. omega (arith, less, two)) (m.words role no_words (room - 1) (wide - 1) (omega (arith, wider)) s ts)))
         (λ off. refused _ ts)
 
-    pub value_both : {D : Type 0} (test : TokenKind → Bool) (s : HeldScopes) (ts : List Lexeme) → Both S D ts (value_with inner test room s ts) (value_with other test wide s ts)
+    pub value_both : {D : Type 0} (test : TokenKind → Bool) (s : HeldScopes) (ts : List Lexeme)
+        → Both S D ts (value_with inner test room s ts) (value_with other test wide s ts)
     unfolding value_with
     value_both test s ts =
         both_if (test (kind_at ts)) _ _ _ _
         (both_asks 2 room wide s ts _ _ wider.0 (λ token. both_bind _ _ _ _ (when (λ two. omega (arith, less, two)) (m.exprs Conditional nothing (room - 1) (wide - 1) (omega (arith, wider)) token.scopes token.rest)) (λ e. ready _))) (ready _)
 
-    width_both : {D : Type 0} (s : HeldScopes) (ts : List Lexeme) → Both S D ts (width_with inner room s ts) (width_with other wide s ts)
+    width_both : {D : Type 0} (s : HeldScopes) (ts : List Lexeme)
+        → Both S D ts (width_with inner room s ts) (width_with other wide s ts)
     unfolding width_with
     width_both s ts =
         both_asks 2 room wide s ts _ _ wider.0 (λ colon. both_bind _ _ _ _ (when (λ two. omega (arith, less, two)) (m.exprs Conditional nothing (room - 1) (wide - 1) (omega (arith, wider)) colon.scopes colon.rest))
         (λ e. both_bind _ _ _ _ (attrs_both room wide wider.0 e.scopes e.rest) (λ attrs. ready _)))
 
-  pub named_declr_both : (wanted : Option Kind) (room wide : ℕ) → Near gap room wide → (s : HeldScopes) (ts : List Lexeme) → Both S (room < n) ts (named_declr inner wanted room s ts) (named_declr other wanted wide s ts)
+  pub named_declr_both : (wanted : Option Kind) (room wide : ℕ) → Near gap room wide
+      → (s : HeldScopes) (ts : List Lexeme)
+      → Both S (room < n) ts (named_declr inner wanted room s ts) (named_declr other wanted wide s ts)
   unfolding named_declr
   named_declr_both wanted room wide wider s ts = both_bind _ _ _ _ (m.declrs Named wanted false room wide wider s ts) (λ d. both_same _ (late_present d.tree.declr d.scopes d.rest))
 
   module _ (room wide : ℕ) (less : room < suc n) (wider : Near gap room wide) where
-    mem_declr_both : (s : HeldScopes) (ts : List Lexeme) → Both S (1 ≤ room) ts (mem_declr_with inner room s ts) (mem_declr_with other wide s ts)
+    mem_declr_both : (s : HeldScopes) (ts : List Lexeme)
+        → Both S (1 ≤ room) ts (mem_declr_with inner room s ts) (mem_declr_with other wide s ts)
     unfolding mem_declr_with field_with
     mem_declr_both s ts =
         both_if (is_colon (kind_at ts)) _ _ _ _ (width_both room wide less wider s ts)
         (both_bind _ _ _ _ (when (λ one. omega (arith, less, one)) (named_declr_both None (room - 1) (wide - 1) (omega (arith, wider)) s ts))
         (λ d. both_bind _ _ _ _ (value_both room wide less wider is_colon d.scopes d.rest) (λ width. both_bind _ _ _ _ (attrs_both room wide wider.0 width.scopes width.rest) (λ attrs. ready _))))
 
-    mem_declrs_both : (s : HeldScopes) (ts : List Lexeme) → Both S (1 ≤ room) ts (mem_declrs_with inner room s ts) (mem_declrs_with other wide s ts)
+    mem_declrs_both : (s : HeldScopes) (ts : List Lexeme)
+        → Both S (1 ≤ room) ts (mem_declrs_with inner room s ts) (mem_declrs_with other wide s ts)
     unfolding mem_declrs_with first_member next_member
     mem_declrs_both s ts =
         both_if (is_semicolon (kind_at ts)) _ _ _ _ (ready _)
@@ -145,12 +158,14 @@ module _ {S : Type 0} (n gap : ℕ) (inner other : Inner) (m : InnerBoth S n gap
         (λ comma s ts. both_bind _ _ _ _ (attrs_both room wide wider.0 s ts) (λ attrs. both_bind _ _ _ _ (mem_declr_both attrs.scopes attrs.rest) (λ d. ready _)))) (λ ds. ready _))
 
   -- specifiers that were read had room for two levels
-  pub specs_two : (role : Role) (room : ℕ) (s : HeldScopes) (ts : List Lexeme) (x : Found SpecWords) → specs_here inner role room s ts ≡ Ok x → 2 ≤ room
+  pub specs_two : (role : Role) (room : ℕ) (s : HeldScopes) (ts : List Lexeme) (x : Found SpecWords)
+      → specs_here inner role room s ts ≡ Ok x → 2 ≤ room
   unfolding specs_here
   specs_two role room s ts x e = if_ok (begins_role role s (kind_at ts)) e (λ is e. (fits_ok 2 room ts e).0) (λ is e. absurd cc)
 
   module _ (room wide : ℕ) (less : room < suc n) (wider : Near gap room wide) where
-    struct_item_both : {D : Type 0} (s : HeldScopes) (ts : List Lexeme) → Both S D ts (struct_item_with inner room s ts) (struct_item_with other wide s ts)
+    struct_item_both : {D : Type 0} (s : HeldScopes) (ts : List Lexeme)
+        → Both S D ts (struct_item_with inner room s ts) (struct_item_with other wide s ts)
     unfolding struct_item_with member_with
     struct_item_both s ts =
         both_if (is_semicolon (kind_at ts)) _ _ _ _ (both_asks 1 room wide s ts _ _ wider.0 (λ semi. ready _))
@@ -160,7 +175,8 @@ module _ {S : Type 0} (n gap : ℕ) (inner other : Inner) (m : InnerBoth S n gap
         (λ ds. both_then _ _ _ (late_token is_semicolon ds.scopes ds.rest) (λ semi. ready _))))))
 
   module _ (room wide : ℕ) (less : room < suc n) (wider : Near gap room wide) where
-    body_both : {D : Type 0} (tag : Option Identifier) (s : HeldScopes) (ts : List Lexeme) → Both S D ts (body_with inner tag room s ts) (body_with other tag wide s ts)
+    body_both : {D : Type 0} (tag : Option Identifier) (s : HeldScopes) (ts : List Lexeme)
+        → Both S D ts (body_with inner tag room s ts) (body_with other tag wide s ts)
     unfolding body_with members_with
     body_both tag s ts =
         both_if (is_open_brace (kind_at ts)) _ _ _ _
@@ -177,16 +193,19 @@ module _ {S : Type 0} (n gap : ℕ) (inner other : Inner) (m : InnerBoth S n gap
         both_bind _ _ _ _ (attrs_both room wide wider.0 token.scopes token.rest) (λ attrs. both_then _ _ _ (late_tag attrs.scopes attrs.rest)
         (λ tag. both_bind _ _ _ _ (body_both tag.tree tag.scopes tag.rest) (λ body. ready _)))
 
-    enumerator_behind_both : {D : Type 0} (name : Identifier) (s : HeldScopes) (ts : List Lexeme) → Both S D ts (enumerator_behind inner name room s ts) (enumerator_behind other name wide s ts)
+    enumerator_behind_both : {D : Type 0} (name : Identifier) (s : HeldScopes) (ts : List Lexeme)
+        → Both S D ts (enumerator_behind inner name room s ts) (enumerator_behind other name wide s ts)
     unfolding enumerator_behind
     enumerator_behind_both name s ts =
         both_bind _ _ _ _ (attrs_both room wide wider.0 s ts) (λ attrs. both_bind _ _ _ _ (value_both room wide less wider is_equal attrs.scopes attrs.rest) (λ value. both_same _ (late_declared _ _ value.rest)))
 
-    enumerator_both : {D : Type 0} (s : HeldScopes) (ts : List Lexeme) → Both S D ts (enumerator_with inner room s ts) (enumerator_with other wide s ts)
+    enumerator_both : {D : Type 0} (s : HeldScopes) (ts : List Lexeme)
+        → Both S D ts (enumerator_with inner room s ts) (enumerator_with other wide s ts)
     unfolding enumerator_with and_then enumerator_named
     enumerator_both {D} s ts = by_tokens ts
       where
-        by_name : (o : Option ℕ) (t : Lexeme) (ts : List Lexeme) → Both S D (t ∷ ts) (and_then (name_by o t s ts) (λ name. enumerator_named inner name.tree room (t ∷ ts) name.scopes name.rest))
+        by_name : (o : Option ℕ) (t : Lexeme) (ts : List Lexeme)
+            → Both S D (t ∷ ts) (and_then (name_by o t s ts) (λ name. enumerator_named inner name.tree room (t ∷ ts) name.scopes name.rest))
             (and_then (name_by o t s ts) (λ name. enumerator_named other name.tree wide (t ∷ ts) name.scopes name.rest))
         by_name None t ts = refused _ (t ∷ ts)
         by_name (Some name) t ts =
@@ -195,12 +214,14 @@ module _ {S : Type 0} (n gap : ℕ) (inner other : Inner) (m : InnerBoth S n gap
             (both_fits 1 room wide (t ∷ ts) _ _ wider.0 (λ strict. (enumerator_behind_both {D = ⊥} _ s ts).late) (higher t ts _ _ (enumerator_behind_both _ s ts))))
             (refused _ (t ∷ ts))
 
-        by_tokens : (ts : List Lexeme) → Both S D ts (and_then (name_at s ts) (λ name. enumerator_named inner name.tree room ts name.scopes name.rest)) (and_then (name_at s ts) (λ name. enumerator_named other name.tree wide ts name.scopes name.rest))
+        by_tokens : (ts : List Lexeme)
+            → Both S D ts (and_then (name_at s ts) (λ name. enumerator_named inner name.tree room ts name.scopes name.rest)) (and_then (name_at s ts) (λ name. enumerator_named other name.tree wide ts name.scopes name.rest))
         by_tokens [] = refused _ []
         by_tokens (t ∷ ts) = by_name (spelled_name t.kind) t ts
 
   module _ (room wide : ℕ) (less : room < suc n) (wider : Near gap room wide) where
-    enum_body_both : {D : Type 0} (tag : Option Identifier) (s : HeldScopes) (ts : List Lexeme) → Both S D ts (enum_body_with inner tag room s ts) (enum_body_with other tag wide s ts)
+    enum_body_both : {D : Type 0} (tag : Option Identifier) (s : HeldScopes) (ts : List Lexeme)
+        → Both S D ts (enum_body_with inner tag room s ts) (enum_body_with other tag wide s ts)
     unfolding enum_body_with enumerators_with next_enumerator
     enum_body_both tag s ts =
         both_if (is_open_brace (kind_at ts)) _ _ _ _
@@ -221,12 +242,14 @@ module _ {S : Type 0} (n gap : ℕ) (inner other : Inner) (m : InnerBoth S n gap
   module _ (room wide : ℕ) (less : room < suc n) (wider : Near gap room wide) where
     -- types of values and types in parentheses, behind the word
 
-    typed_word_both : (keyword : Keyword) (token opening : ℕ) (s : HeldScopes) (ts : List Lexeme) → Both S (2 ≤ room) ts (typed_word_with inner keyword token opening room s ts) (typed_word_with other keyword token opening wide s ts)
+    typed_word_both : (keyword : Keyword) (token opening : ℕ) (s : HeldScopes) (ts : List Lexeme)
+        → Both S (2 ≤ room) ts (typed_word_with inner keyword token opening room s ts) (typed_word_with other keyword token opening wide s ts)
     unfolding typed_word_with
     typed_word_both keyword token opening s ts =
         both_bind _ _ _ _ (when (λ two. (omega (arith, less, two), omega (arith, two))) (m.types (room - 1) (wide - 1) (omega (arith, wider)) s ts)) (λ t. both_then _ _ _ (late_token is_close_paren t.scopes t.rest) (λ closing. ready _))
 
-    typeof_both : (s : HeldScopes) (ts : List Lexeme) → Ahead S (2 ≤ room) ts (typeof_with inner room s ts) (typeof_with other wide s ts)
+    typeof_both : (s : HeldScopes) (ts : List Lexeme)
+        → Ahead S (2 ≤ room) ts (typeof_with inner room s ts) (typeof_with other wide s ts)
     unfolding typeof_with typeof_value_with
     typeof_both s ts =
         ahead_take s ts _ _ (λ keyword. both_then _ _ _ (late_token is_open_paren keyword.scopes keyword.rest)
@@ -234,14 +257,16 @@ module _ {S : Type 0} (n gap : ℕ) (inner other : Inner) (m : InnerBoth S n gap
         (both_bind _ _ _ _ (when (λ two. omega (arith, less, two)) (m.exprs Whole nothing (room - 1) (wide - 1) (omega (arith, wider)) opening.scopes opening.rest))
         (λ e. both_then _ _ _ (late_token is_close_paren e.scopes e.rest) (λ closing. ready _)))))
 
-    atomic_both : (s : HeldScopes) (ts : List Lexeme) → Ahead S (2 ≤ room) ts (atomic_with inner room s ts) (atomic_with other wide s ts)
+    atomic_both : (s : HeldScopes) (ts : List Lexeme)
+        → Ahead S (2 ≤ room) ts (atomic_with inner room s ts) (atomic_with other wide s ts)
     unfolding atomic_with
     atomic_both s ts =
         ahead_take s ts _ _ (λ keyword. both_then _ _ _ (late_token is_open_paren keyword.scopes keyword.rest)
         (λ opening. typed_word_both _ keyword.tree opening.tree opening.scopes opening.rest))
 
   module _ (room wide : ℕ) (less : room < suc n) (wider : Near gap room wide) where
-    word_by_both : (start : SpecStart) (s : HeldScopes) (ts : List Lexeme) → Both S (least_of start ≤ room) ts (word_by inner start room s ts) (word_by other start wide s ts)
+    word_by_both : (start : SpecStart) (s : HeldScopes) (ts : List Lexeme)
+        → Both S (least_of start ≤ room) ts (word_by inner start room s ts) (word_by other start wide s ts)
     unfolding word_by struct_with enum_with
     word_by_both (starts.Storage keyword) s ts = both_then _ _ _ (late_take s ts) (λ token. ready _)
     word_by_both starts.Thread s ts = both_then _ _ _ (late_take s ts) (λ token. ready _)
@@ -262,7 +287,9 @@ module _ {S : Type 0} (n gap : ℕ) (inner other : Inner) (m : InnerBoth S n gap
     word_by_both starts.Nothing s ts = refused _ ts
 
     -- a word takes the token that begins it
-    word_by_past : (kind : TokenKind) (start : SpecStart) (s : HeldScopes) (ts : List Lexeme) → is_start start ≡ true → (start ≡ starts.Attribute → is_attribute (kind_at ts) ≡ true) → Late (behind_first ts) (word_by other start wide s ts)
+    word_by_past : (kind : TokenKind) (start : SpecStart) (s : HeldScopes) (ts : List Lexeme) → is_start start ≡ true
+        → (start ≡ starts.Attribute → is_attribute (kind_at ts) ≡ true)
+        → Late (behind_first ts) (word_by other start wide s ts)
     unfolding word_by struct_with enum_with
     word_by_past kind (starts.Storage keyword) s ts is at = past_take s ts _ (λ token. all_left token.rest)
     word_by_past kind starts.Thread s ts is at = past_take s ts _ (λ token. all_left token.rest)
@@ -283,7 +310,8 @@ module _ {S : Type 0} (n gap : ℕ) (inner other : Inner) (m : InnerBoth S n gap
     word_by_past kind starts.Nothing s ts is at = absurd cc
 
     -- one turn, and those behind it
-    turn_both : {D : Type 0} (role : Role) (words : SpecWords) (start : SpecStart) (s : HeldScopes) (ts : List Lexeme) → (is_start start ≡ true) → (start ≡ starts.Attribute → is_attribute (kind_at ts) ≡ true) →
+    turn_both : {D : Type 0} (role : Role) (words : SpecWords) (start : SpecStart) (s : HeldScopes) (ts : List Lexeme)
+        → (is_start start ≡ true) → (start ≡ starts.Attribute → is_attribute (kind_at ts) ≡ true) →
         Both S D ts (and_then (word_with inner role words start room s ts) (λ word. ends (pushed words word.tree) word.scopes word.rest)) (and_then (word_with other role words start wide s ts) (λ word. ends (pushed words word.tree) word.scopes word.rest))
     unfolding word_with
     turn_both role words start s ts is at =
@@ -292,7 +320,8 @@ module _ {S : Type 0} (n gap : ℕ) (inner other : Inner) (m : InnerBoth S n gap
         (both_fits (max (least_of start) (specs_height words)) room wide ts _ _ wider.0 (λ strict. word_by_past (kind_at ts) start s ts is at) (when (λ fit. omega (arith, fit)) (word_by_both start s ts))) (refused _ ts)) (refused _ ts))
         (λ word. ready _)
 
-    words_both : {D : Type 0} (role : Role) (words : SpecWords) (s : HeldScopes) (ts : List Lexeme) → Both S D ts (run (word_turn inner role room) words s ts) (run (word_turn other role wide) words s ts)
+    words_both : {D : Type 0} (role : Role) (words : SpecWords) (s : HeldScopes) (ts : List Lexeme)
+        → Both S D ts (run (word_turn inner role room) words s ts) (run (word_turn other role wide) words s ts)
     words_both {D} role words s ts =
         both_run (word_turn inner role room) (word_turn other role wide)
         (λ words s ts. both_unless S D ts (ends_before s words (start_at s (is_typed words) (kind_at ts))) _ _
@@ -301,12 +330,14 @@ module _ {S : Type 0} (n gap : ℕ) (inner other : Inner) (m : InnerBoth S n gap
     late_whole : (words : SpecWords) (s : HeldScopes) (ts : List Lexeme) → Late ts (whole other words s ts)
     late_whole words s ts = late_if ts (is_whole_mix words) _ _ (λ is. all_left ts) (λ is. inr (late_refused ts))
 
-    pub specs_both : {D : Type 0} (role : Role) (words : SpecWords) (s : HeldScopes) (ts : List Lexeme) → Both S D ts (specs_with inner role words room s ts) (specs_with other role words wide s ts)
+    pub specs_both : {D : Type 0} (role : Role) (words : SpecWords) (s : HeldScopes) (ts : List Lexeme)
+        → Both S D ts (specs_with inner role words room s ts) (specs_with other role words wide s ts)
     unfolding specs_with
     specs_both role words s ts = both_bind _ _ _ _ (words_both role words s ts) (λ all. both_same _ (late_whole all.tree all.scopes all.rest))
 
     -- specifiers take the token that begins them, which may stand there
-    first_word_past : (role : Role) (s : HeldScopes) (ts : List Lexeme) → begins_specs s (kind_at ts) ≡ true → may_stand role (start_at s false (kind_at ts)) ≡ true →
+    first_word_past : (role : Role) (s : HeldScopes) (ts : List Lexeme) → begins_specs s (kind_at ts) ≡ true
+        → may_stand role (start_at s false (kind_at ts)) ≡ true →
         Late (behind_first ts) (word_with other role no_words (start_at s false (kind_at ts)) wide s ts)
     unfolding word_with
     first_word_past role s ts is stands =
@@ -320,7 +351,8 @@ module _ {S : Type 0} (n gap : ℕ) (inner other : Inner) (m : InnerBoth S n gap
         both_ways true h k = cc
         both_ways false h k = cc
 
-    pub specs_past : (role : Role) (s : HeldScopes) (ts : List Lexeme) → begins_role role s (kind_at ts) ≡ true → Late (behind_first ts) (specs_with other role no_words wide s ts)
+    pub specs_past : (role : Role) (s : HeldScopes) (ts : List Lexeme) → begins_role role s (kind_at ts) ≡ true
+        → Late (behind_first ts) (specs_with other role no_words wide s ts)
     unfolding specs_with
     specs_past role s ts both =
         late_bind (behind_first ts) _ _
@@ -338,17 +370,20 @@ module _ {S : Type 0} (n gap : ℕ) (inner other : Inner) (m : InnerBoth S n gap
             by true false h = absurd cc
             by false c h = absurd cc
 
-        front : (begins_specs s (kind_at ts) ≡ true) × (may_stand role (start_at s false (kind_at ts)) ≡ true) → begins_specs s (kind_at ts) ≡ true
+        front : (begins_specs s (kind_at ts) ≡ true) × (may_stand role (start_at s false (kind_at ts)) ≡ true)
+            → begins_specs s (kind_at ts) ≡ true
         front h = h.0
 
-        back : (begins_specs s (kind_at ts) ≡ true) × (may_stand role (start_at s false (kind_at ts)) ≡ true) → may_stand role (start_at s false (kind_at ts)) ≡ true
+        back : (begins_specs s (kind_at ts) ≡ true) × (may_stand role (start_at s false (kind_at ts)) ≡ true)
+            → may_stand role (start_at s false (kind_at ts)) ≡ true
         back h = h.1
 
         -- no words before: they do not end here
         none_end : (s : HeldScopes) (start : SpecStart) → ends_before s no_words start ≡ false
         none_end s start = by ((is_wide s || false) && is_base_start start)
           where
-            by : (b : Bool) → b && false && is_whole_mix no_words && not (goes_on no_words (class_of_start start)) ≡ false
+            by : (b : Bool)
+                → b && false && is_whole_mix no_words && not (goes_on no_words (class_of_start start)) ≡ false
             by true = refl
             by false = refl
 
@@ -359,7 +394,8 @@ module _ {S : Type 0} (n gap : ℕ) (inner other : Inner) (m : InnerBoth S n gap
         guarded false false g h = absurd cc
         guarded true b g h = absurd cc
 
-        turn_late : (words : SpecWords) (s : HeldScopes) (ts : List Lexeme) → BothTurn ⊥ ⊥ ts (word_turn other role wide words s ts) (word_turn other role wide words s ts)
+        turn_late : (words : SpecWords) (s : HeldScopes) (ts : List Lexeme)
+            → BothTurn ⊥ ⊥ ts (word_turn other role wide words s ts) (word_turn other role wide words s ts)
         turn_late words s ts =
             both_unless ⊥ ⊥ ts (ends_before s words (start_at s (is_typed words) (kind_at ts))) _ _
             (both_guarded (is_start (start_at s (is_typed words) (kind_at ts))) _ _

@@ -40,31 +40,38 @@ no_comma (kinds.Punct p) h = absurd cc
 no_comma kind h = absurd cc
 
 -- behind a comma
-commas_past : {T E : Type 0} (next : ℕ → Reader (Next T E)) → ((comma : ℕ) (s : HeldScopes) (ts : List Lexeme) → Late ts (next comma s ts)) → (items : List T) (s : HeldScopes) (ts : List Lexeme) → is_comma (kind_at ts) ≡ true →
+commas_past : {T E : Type 0} (next : ℕ → Reader (Next T E))
+    → ((comma : ℕ) (s : HeldScopes) (ts : List Lexeme) → Late ts (next comma s ts))
+    → (items : List T) (s : HeldScopes) (ts : List Lexeme) → is_comma (kind_at ts) ≡ true →
     Late (behind_first ts) (run (comma_turn next) (record { items = items; ending = None }) s ts)
 commas_past next late items s [] is = absurd cc
 commas_past {T} {E} next late items s (t ∷ ts) is =
     past_run (comma_turn next) turn_late ts (record { items = items; ending = None }) s (t ∷ ts) (and_then (next t.at s ts) (λ x. ends (with_next items x.tree) x.scopes x.rest)) (guarded (is_comma t.kind) is)
     (late_bind ts _ _ (late t.at s ts) (λ x. all_left x.rest))
   where
-    guarded : (b : Bool) → b ≡ true → (if b then Some (and_then (next t.at s ts) (λ x. ends (with_next items x.tree) x.scopes x.rest)) else None) ≡ Some (and_then (next t.at s ts) (λ x. ends (with_next items x.tree) x.scopes x.rest))
+    guarded : (b : Bool) → b ≡ true
+        → (if b then Some (and_then (next t.at s ts) (λ x. ends (with_next items x.tree) x.scopes x.rest)) else None) ≡ Some (and_then (next t.at s ts) (λ x. ends (with_next items x.tree) x.scopes x.rest))
     guarded true h = refl
     guarded false h = absurd cc
 
-    turn_late : (a : CommaList T E) (s : HeldScopes) (ts : List Lexeme) → BothTurn ⊥ ⊥ ts (comma_turn next a s ts) (comma_turn next a s ts)
+    turn_late : (a : CommaList T E) (s : HeldScopes) (ts : List Lexeme)
+        → BothTurn ⊥ ⊥ ts (comma_turn next a s ts) (comma_turn next a s ts)
     turn_late a s ts = by_ending a.ending ts
       where
-        by_ending : (o : Option E) (ts : List Lexeme) → BothTurn ⊥ ⊥ ts (comma_turn_by next o a.items s ts) (comma_turn_by next o a.items s ts)
+        by_ending : (o : Option E) (ts : List Lexeme)
+            → BothTurn ⊥ ⊥ ts (comma_turn_by next o a.items s ts) (comma_turn_by next o a.items s ts)
         by_ending (Some e) ts = tt
         by_ending None [] = tt
         by_ending None (t ∷ ts) =
             both_guarded (is_comma t.kind) _ _ (λ is. both_same _ (late_bind (t ∷ ts) _ _ (late_down (behind_left (t ∷ ts)) _ (late t.at s ts)) (λ x. all_left x.rest)))
 
 -- no turn at a semicolon
-commas_end : {T E : Type 0} (next : ℕ → Reader (Next T E)) (a : CommaList T E) (s : HeldScopes) (ts : List Lexeme) → is_semicolon (kind_at ts) ≡ true → run (comma_turn next) a s ts ≡ Ok (record { tree = a; scopes = s; rest = ts })
+commas_end : {T E : Type 0} (next : ℕ → Reader (Next T E)) (a : CommaList T E) (s : HeldScopes) (ts : List Lexeme)
+    → is_semicolon (kind_at ts) ≡ true → run (comma_turn next) a s ts ≡ Ok (record { tree = a; scopes = s; rest = ts })
 commas_end {T} {E} next a s ts is = run_ends (comma_turn next) a s ts (no_turn a.ending ts is)
   where
-    no_turn : (o : Option E) (ts : List Lexeme) → is_semicolon (kind_at ts) ≡ true → comma_turn_by next o a.items s ts ≡ None
+    no_turn : (o : Option E) (ts : List Lexeme) → is_semicolon (kind_at ts) ≡ true
+        → comma_turn_by next o a.items s ts ≡ None
     no_turn (Some e) ts is = refl
     no_turn None [] is = refl
     no_turn None (t ∷ ts) is = rw (no_comma t.kind is) refl
@@ -73,27 +80,33 @@ module _ {S : Type 0} (n gap : ℕ) (inner other : Inner) (m : InnerBoth S n gap
   -- Items of a unit.
 
   module _ (room wide : ℕ) (less : room < suc n) (wider : Near gap room wide) where
-    attrs_behind_both : (d : Declr) (attrs : List Attr) (s : HeldScopes) (ts : List Lexeme) → Both S (2 ≤ room) ts (attrs_behind inner d attrs (room - 1) s ts) (attrs_behind other d attrs (wide - 1) s ts)
+    attrs_behind_both : (d : Declr) (attrs : List Attr) (s : HeldScopes) (ts : List Lexeme)
+        → Both S (2 ≤ room) ts (attrs_behind inner d attrs (room - 1) s ts) (attrs_behind other d attrs (wide - 1) s ts)
     unfolding attrs_behind
     attrs_behind_both d attrs s ts =
         both_bind _ _ _ _ (when (λ two. omega (arith, two)) (some_init_both n gap inner other m (room - 1) (wide - 1) (omega (arith, less)) (omega (arith, wider)) s ts)) (λ init. ready _)
 
-    next_late : (kind : Kind) (comma : ℕ) (s : HeldScopes) (ts : List Lexeme) → Late ts (next_init_declr other kind (wide - 1) comma s ts)
+    next_late : (kind : Kind) (comma : ℕ) (s : HeldScopes) (ts : List Lexeme)
+        → Late ts (next_init_declr other kind (wide - 1) comma s ts)
     next_late kind comma s ts = (next_init_declr_both n gap inner other m (room - 1) (wide - 1) (omega (arith, less)) (omega (arith, wider)) kind comma s ts).late
 
     -- behind a first that goes on behind the first token
-    declrs_past : (exts : List ℕ) (words : SpecWords) (kind : Kind) (first : Reader DeclrItem) (s : HeldScopes) (ts : List Lexeme) → Late (behind_first ts) (first s ts) → Late (behind_first ts) (declrs_with other exts words kind wide first s ts)
+    declrs_past : (exts : List ℕ) (words : SpecWords) (kind : Kind) (first : Reader DeclrItem) (s : HeldScopes) (ts : List Lexeme)
+        → Late (behind_first ts) (first s ts)
+        → Late (behind_first ts) (declrs_with other exts words kind wide first s ts)
     unfolding declrs_with listed
     declrs_past exts words kind first s ts h =
         late_bind (behind_first ts) _ _ (late_bind (behind_first ts) _ _ h (λ x. commas_late x)) (λ ds. late_bind ds.rest _ _ (late_token is_semicolon ds.scopes ds.rest) (λ semi. all_left semi.rest))
       where
-        commas_late : (x : Found DeclrItem) → Late x.rest (run (comma_turn (next_init_declr other kind (wide - 1))) (record { items = x.tree ∷ []; ending = None }) x.scopes x.rest)
+        commas_late : (x : Found DeclrItem)
+            → Late x.rest (run (comma_turn (next_init_declr other kind (wide - 1))) (record { items = x.tree ∷ []; ending = None }) x.scopes x.rest)
         commas_late x =
             let both : Both ⊥ ⊥ x.rest (run (comma_turn (next_init_declr other kind (wide - 1))) (record { items = x.tree ∷ []; ending = None }) x.scopes x.rest)
             (run (comma_turn (next_init_declr other kind (wide - 1))) (record { items = x.tree ∷ []; ending = None }) x.scopes x.rest) =
             both_commas (next_init_declr other kind (wide - 1)) (next_init_declr other kind (wide - 1)) (λ comma s ts. both_same _ (next_late kind comma s ts)) (record { items = x.tree ∷ []; ending = None }) x.scopes x.rest in both.late
 
-    declrs_of : (exts : List ℕ) (words : SpecWords) (kind : Kind) (first : Reader DeclrItem) (item : DeclrItem) (s : HeldScopes) (ts : List Lexeme) → first s ts ≡ Ok (record { tree = item; scopes = s; rest = ts }) →
+    declrs_of : (exts : List ℕ) (words : SpecWords) (kind : Kind) (first : Reader DeclrItem) (item : DeclrItem) (s : HeldScopes) (ts : List Lexeme)
+        → first s ts ≡ Ok (record { tree = item; scopes = s; rest = ts }) →
         Late (behind_first ts) (and_then (run (comma_turn (next_init_declr other kind (wide - 1))) (record { items = item ∷ []; ending = None }) s ts)
         (λ ds. and_then (token_at is_semicolon ds.scopes ds.rest) (λ semi. ends (declaration exts words (init_declrs_from ds.tree.items) semi.tree) semi.scopes semi.rest))) →
         Late (behind_first ts) (declrs_with other exts words kind wide first s ts)
@@ -101,8 +114,10 @@ module _ {S : Type 0} (n gap : ℕ) (inner other : Inner) (m : InnerBoth S n gap
     declrs_of exts words kind first item s ts is h = rw is h
 
     -- behind a first that takes nothing
-    declrs_on : (exts : List ℕ) (words : SpecWords) (kind : Kind) (first : Reader DeclrItem) (item : DeclrItem) (s : HeldScopes) (ts : List Lexeme) → first s ts ≡ Ok (record { tree = item; scopes = s; rest = ts }) →
-        (is_comma (kind_at ts) ≡ true) ⊎ (is_semicolon (kind_at ts) ≡ true) → Late (behind_first ts) (declrs_with other exts words kind wide first s ts)
+    declrs_on : (exts : List ℕ) (words : SpecWords) (kind : Kind) (first : Reader DeclrItem) (item : DeclrItem) (s : HeldScopes) (ts : List Lexeme)
+        → first s ts ≡ Ok (record { tree = item; scopes = s; rest = ts }) →
+        (is_comma (kind_at ts) ≡ true) ⊎ (is_semicolon (kind_at ts) ≡ true)
+        → Late (behind_first ts) (declrs_with other exts words kind wide first s ts)
     unfolding and_then
     declrs_on exts words kind first item s ts is (inl comma) =
         declrs_of exts words kind first item s ts is (late_bind (behind_first ts) _ _ (commas_past (next_init_declr other kind (wide - 1)) (next_late kind) (item ∷ []) s ts comma)
@@ -110,7 +125,8 @@ module _ {S : Type 0} (n gap : ℕ) (inner other : Inner) (m : InnerBoth S n gap
     declrs_on exts words kind first item s ts is (inr semi) =
         declrs_of exts words kind first item s ts is (rw (commas_end (next_init_declr other kind (wide - 1)) (record { items = item ∷ []; ending = None }) s ts semi) (past_token is_semicolon s ts _ semi (λ semi. all_left semi.rest)))
 
-    attrs_behind_past : (d : Declr) (attrs : List Attr) (s : HeldScopes) (ts : List Lexeme) → is_equal (kind_at ts) ≡ true → Late (behind_first ts) (attrs_behind other d attrs (wide - 1) s ts)
+    attrs_behind_past : (d : Declr) (attrs : List Attr) (s : HeldScopes) (ts : List Lexeme)
+        → is_equal (kind_at ts) ≡ true → Late (behind_first ts) (attrs_behind other d attrs (wide - 1) s ts)
     unfolding attrs_behind some_init_with
     attrs_behind_past d attrs s ts is =
         late_bind (behind_first ts) _ _
@@ -118,16 +134,19 @@ module _ {S : Type 0} (n gap : ℕ) (inner other : Inner) (m : InnerBoth S n gap
         (λ on. past_take s ts _ (λ equal. late_bind equal.rest _ _ (init_both n gap inner other m (room - 1 - 1) (wide - 1 - 1) (omega (arith, wider)) equal.scopes equal.rest).late (λ init. all_left init.rest))) (λ off. absurd cc))
         (λ init. all_left init.rest)
 
-    attrs_behind_is : (d : Declr) (attrs : List Attr) (s : HeldScopes) (ts : List Lexeme) → is_equal (kind_at ts) ≡ false →
+    attrs_behind_is : (d : Declr) (attrs : List Attr) (s : HeldScopes) (ts : List Lexeme)
+        → is_equal (kind_at ts) ≡ false →
         attrs_behind other d attrs (wide - 1) s ts ≡ Ok (record { tree = record { before = []; declr = d; label = None; attrs = attrs; init = no_init }; scopes = s; rest = ts })
     unfolding attrs_behind some_init_with and_then
     attrs_behind_is d attrs s ts off = rw off refl
 
-    goes_past : (exts : List ℕ) (words : SpecWords) (d : Declr) (attrs : List Attr) (s : HeldScopes) (ts : List Lexeme) → goes_on_declared (kind_at ts) ≡ true →
+    goes_past : (exts : List ℕ) (words : SpecWords) (d : Declr) (attrs : List Attr) (s : HeldScopes) (ts : List Lexeme)
+        → goes_on_declared (kind_at ts) ≡ true →
         Late (behind_first ts) (declrs_with other exts words Value wide (attrs_behind other d attrs (wide - 1)) s ts)
     goes_past exts words d attrs s ts is = by_kind (is_equal (kind_at ts)) (is_comma (kind_at ts)) refl refl is
       where
-        by_kind : (b c : Bool) → is_equal (kind_at ts) ≡ b → is_comma (kind_at ts) ≡ c → (if b then true else if c then true else is_semicolon (kind_at ts)) ≡ true →
+        by_kind : (b c : Bool) → is_equal (kind_at ts) ≡ b → is_comma (kind_at ts) ≡ c
+            → (if b then true else if c then true else is_semicolon (kind_at ts)) ≡ true →
             Late (behind_first ts) (declrs_with other exts words Value wide (attrs_behind other d attrs (wide - 1)) s ts)
         by_kind true c at k h = declrs_past exts words Value (attrs_behind other d attrs (wide - 1)) s ts (attrs_behind_past d attrs s ts at)
         by_kind false true at k h = declrs_on exts words Value (attrs_behind other d attrs (wide - 1)) _ s ts (attrs_behind_is d attrs s ts at) (inl k)
@@ -143,10 +162,12 @@ module _ {S : Type 0} (n gap : ℕ) (inner other : Inner) (m : InnerBoth S n gap
         (λ is. both_fits (2 + declr_height d) room wide ts _ _ wider.0 (λ strict. late_bind (behind_first ts) _ _ (goes_past exts words d attrs s ts is) (λ d. all_left d.rest))
         (when (λ fit. omega (arith, fit)) (both_bind _ _ _ _ (declrs_both n gap inner other m room wide less wider exts words Value _ _ s ts (attrs_behind_both d attrs s ts)) (λ d. ready _)))) (λ off. refused _ ts))
 
-    declared_both : (d : Declr) (s : HeldScopes) (ts : List Lexeme) → Both S (2 ≤ room) ts (declr_behind inner [] d (room - 1) s ts) (declr_behind other [] d (wide - 1) s ts)
+    declared_both : (d : Declr) (s : HeldScopes) (ts : List Lexeme)
+        → Both S (2 ≤ room) ts (declr_behind inner [] d (room - 1) s ts) (declr_behind other [] d (wide - 1) s ts)
     declared_both d s ts = when (λ two. omega (arith, two)) (declr_behind_both n gap inner other m (room - 1) (wide - 1) (omega (arith, less)) (omega (arith, wider)) [] d s ts)
 
-    declr_behind_past : (d : Declr) (s : HeldScopes) (ts : List Lexeme) → is_asm (kind_at ts) ≡ true → Late (behind_first ts) (declr_behind other [] d (wide - 1) s ts)
+    declr_behind_past : (d : Declr) (s : HeldScopes) (ts : List Lexeme) → is_asm (kind_at ts) ≡ true
+        → Late (behind_first ts) (declr_behind other [] d (wide - 1) s ts)
     unfolding declr_behind
     declr_behind_past d s ts is =
         late_bind (behind_first ts) _ _ (past_label s ts is) (λ name. late_bind name.rest _ _ (attrs_both {S = ⊥} {D = ⊥} (room - 1) (wide - 1) (omega (arith, wider)) name.scopes name.rest).late
@@ -164,7 +185,8 @@ module _ {S : Type 0} (n gap : ℕ) (inner other : Inner) (m : InnerBoth S n gap
         (λ off. both_bind _ _ _ _ (attrs_both room wide wider.0 s ts) (λ attrs. function_or_not_both exts words d attrs.tree closed attrs.scopes attrs.rest))
 
     -- declarations behind a list of identifiers
-    old_declaration_both : {D : Type 0} (s : HeldScopes) (ts : List Lexeme) → Both S D ts (old_declaration inner (room - 1) s ts) (old_declaration other (wide - 1) s ts)
+    old_declaration_both : {D : Type 0} (s : HeldScopes) (ts : List Lexeme)
+        → Both S D ts (old_declaration inner (room - 1) s ts) (old_declaration other (wide - 1) s ts)
     unfolding old_declaration
     old_declaration_both s ts =
         both_bind _ _ _ _ (exts_both (room - 1) (wide - 1) (omega (arith, wider)) s ts)
@@ -172,7 +194,8 @@ module _ {S : Type 0} (n gap : ℕ) (inner other : Inner) (m : InnerBoth S n gap
         (λ words. when (λ d. specs_two n gap inner other m Declaring (room - 1) exts.scopes exts.rest words d.1)
         (declaration_behind_both n gap inner other m (room - 1) (wide - 1) (omega (arith, less)) (omega (arith, wider)) exts.tree words.tree words.scopes words.rest)))
 
-    old_function_both : (exts : List ℕ) (words : SpecWords) (d : Declr) (s : HeldScopes) (ts : List Lexeme) → Both S (2 ≤ room) ts (old_function_with inner exts words d room s ts) (old_function_with other exts words d wide s ts)
+    old_function_both : (exts : List ℕ) (words : SpecWords) (d : Declr) (s : HeldScopes) (ts : List Lexeme)
+        → Both S (2 ≤ room) ts (old_function_with inner exts words d room s ts) (old_function_with other exts words d wide s ts)
     unfolding old_function_with
     old_function_both exts words d s ts =
         both_bind _ _ _ _ (attrs_both room wide wider.0 s ts)
@@ -181,7 +204,8 @@ module _ {S : Type 0} (n gap : ℕ) (inner other : Inner) (m : InnerBoth S n gap
         (when (λ two. omega (arith, two)) (block_body_both n gap inner other m (room - 1) (wide - 1) (omega (arith, less)) (omega (arith, wider)) (reopen (innermost ds.scopes) (release Value (leave ds.scopes))) ds.rest).both)
         (λ body. ready _)))
 
-    first_declr_both : (exts : List ℕ) (words : SpecWords) (s : HeldScopes) (ts : List Lexeme) → Both S (2 ≤ room) ts (first_declr inner exts words room s ts) (first_declr other exts words wide s ts)
+    first_declr_both : (exts : List ℕ) (words : SpecWords) (s : HeldScopes) (ts : List Lexeme)
+        → Both S (2 ≤ room) ts (first_declr inner exts words room s ts) (first_declr other exts words wide s ts)
     unfolding first_declr
     first_declr_both exts words s ts =
         both_bind _ _ _ _ (when (λ two. omega (arith, less, two)) (m.declrs Named (Some Value) true (room - 2) (wide - 2) (omega (arith, wider)) s ts))
@@ -189,7 +213,8 @@ module _ {S : Type 0} (n gap : ℕ) (inner other : Inner) (m : InnerBoth S n gap
         (behind_declr_both exts words known.tree d.tree.closed (release Value known.scopes) known.rest)))
 
   module _ (room wide : ℕ) (less : room < suc n) (wider : Near gap room wide) where
-    declared_item_both : {D : Type 0} (s : HeldScopes) (ts : List Lexeme) → Both S D ts (declared_item inner room s ts) (declared_item other wide s ts)
+    declared_item_both : {D : Type 0} (s : HeldScopes) (ts : List Lexeme)
+        → Both S D ts (declared_item inner room s ts) (declared_item other wide s ts)
     unfolding declared_item
     declared_item_both s ts =
         both_bind _ _ _ _ (exts_both room wide wider.0 s ts) (λ exts. both_behind _ _ _ _ (specs_here_both n gap inner other m room wide less wider Declaring exts.scopes exts.rest)
@@ -199,7 +224,8 @@ module _ {S : Type 0} (n gap : ℕ) (inner other : Inner) (m : InnerBoth S n gap
         (both_if (has_typedef_word (storage_words words.tree)) _ _ _ _ (both_bind _ _ _ _ (declaration_behind_both n gap inner other m room wide less wider exts.tree words.tree words.scopes words.rest) (λ d. ready _))
         (first_declr_both room wide less wider exts.tree words.tree words.scopes words.rest))))))
 
-    item_both : {D : Type 0} (s : HeldScopes) (ts : List Lexeme) → Both S D ts (item_with inner room s ts) (item_with other wide s ts)
+    item_both : {D : Type 0} (s : HeldScopes) (ts : List Lexeme)
+        → Both S D ts (item_with inner room s ts) (item_with other wide s ts)
     unfolding item_with asm_item_with
     item_both s ts =
         both_if (is_semicolon (kind_at ts)) _ _ _ _ (both_asks 1 room wide s ts _ _ wider.0 (λ semi. ready _))
@@ -207,7 +233,8 @@ module _ {S : Type 0} (n gap : ℕ) (inner other : Inner) (m : InnerBoth S n gap
         (both_asks 1 room wide s ts _ _ wider.0 (λ keyword. both_then _ _ _ (late_group keyword.scopes keyword.rest) (λ group. both_then _ _ _ (late_token is_semicolon group.scopes group.rest) (λ semi. ready _))))
         (both_choice (is_static_assert (kind_at ts)) _ _ _ _ (λ is. assert_both room wide wider.0 s ts _ is (λ it. all_left it.rest)) (λ off. declared_item_both s ts)))
 
-    items_both : {D : Type 0} (s : HeldScopes) (ts : List Lexeme) → Both S D ts (items_with inner room s ts) (items_with other wide s ts)
+    items_both : {D : Type 0} (s : HeldScopes) (ts : List Lexeme)
+        → Both S D ts (items_with inner room s ts) (items_with other wide s ts)
     unfolding items_with
     items_both s ts = both_repeated (λ kind. not (is_end kind)) (item_with inner room) (item_with other wide) (λ s ts is. item_both s ts) s ts
 
@@ -232,7 +259,8 @@ slack n k gap inner other m = record {
 }
 
 -- what is late in any case passes where there is room
-split : {A S D : Type 0} {ts : List Lexeme} {r q : Read A} → Both ⊥ ⊥ ts r q → (D → Both S (Unit {0}) ts r q) → Both S D ts r q
+split : {A S D : Type 0} {ts : List Lexeme} {r q : Read A} → Both ⊥ ⊥ ts r q → (D → Both S (Unit {0}) ts r q)
+    → Both S D ts r q
 split h k = record { late = h.late; pass = λ s d. (k d).pass s tt }
 
 numbered : (flag : Bool) (room : ℕ) → number_of flag room < suc (suc (suc room))
@@ -315,7 +343,8 @@ tied_any n inner other m words_on =
     }
 
 -- specifiers of every number go on behind the first token
-specs_on : (d wide : ℕ) → wide ≤ d → (s : HeldScopes) (ts : List Lexeme) → begins_role Naming s (kind_at ts) ≡ true → Late (behind_first ts) ((knot d).specs Naming no_words wide s ts)
+specs_on : (d wide : ℕ) → wide ≤ d → (s : HeldScopes) (ts : List Lexeme) → begins_role Naming s (kind_at ts) ≡ true
+    → Late (behind_first ts) ((knot d).specs Naming no_words wide s ts)
 unfolding knot
 specs_on zero wide bound s ts is = specs_past 0 0 never never nothing_both wide wide (omega (arith, bound)) (omega arith) Naming s ts is
 specs_on (suc d) wide bound s ts is = specs_past (suc d) 0 (knot d) (knot d) (knot_late d) wide wide (omega (arith, bound)) (omega arith) Naming s ts is
@@ -341,7 +370,8 @@ late_alone : (dialect : Bool) (items : List Item) (ts : List Lexeme) → Late ts
 late_alone dialect items [] = all_left []
 late_alone dialect items (t ∷ ts) = inr (late_refused (t ∷ ts))
 
-unit_both : (room wide : ℕ) → 1 ≤ room → room < wide → (dialect : Bool) (all : List Lexeme) → Both (Unit {0}) (Unit {0}) all (unit_of room dialect all) (unit_of wide dialect all)
+unit_both : (room wide : ℕ) → 1 ≤ room → room < wide → (dialect : Bool) (all : List Lexeme)
+    → Both (Unit {0}) (Unit {0}) all (unit_of room dialect all) (unit_of wide dialect all)
 unit_both room wide one less dialect all =
     both_bind _ _ _ _ (items_both (suc room) (wide - room) (knot room) (knot wide) (knot_both room wide (wide - room) (omega (arith, less)) (omega (arith, less))) (room - 1) (wide - 1) (omega arith) (omega (arith, one, less)) _ all)
     (λ items. both_same _ (late_bind items.rest _ _ (late_token is_end items.scopes items.rest) (λ last. late_alone dialect items.tree last.rest)))

@@ -17,7 +17,9 @@ late_token test s [] = inr (late_refused [])
 late_token test s (t ∷ ts) = late_if (t ∷ ts) (test t.kind) _ _ (λ is. behind_left (t ∷ ts)) (λ is. inr (late_refused (t ∷ ts)))
 
 -- a token that passes a test is taken
-pub past_token : {A : Type 0} (test : TokenKind → Bool) (s : HeldScopes) (ts : List Lexeme) (f : Found ℕ → Read A) → test (kind_at ts) ≡ true → ((x : Found ℕ) → Late x.rest (f x)) → Late (behind_first ts) (and_then (token_at test s ts) f)
+pub past_token : {A : Type 0} (test : TokenKind → Bool) (s : HeldScopes) (ts : List Lexeme) (f : Found ℕ → Read A)
+    → test (kind_at ts) ≡ true → ((x : Found ℕ) → Late x.rest (f x))
+    → Late (behind_first ts) (and_then (token_at test s ts) f)
 unfolding and_then
 past_token test s [] f is k = inr (late_refused [])
 past_token {A} test s (t ∷ ts) f is k = by_test (test t.kind) is
@@ -42,7 +44,8 @@ late_tag s (t ∷ ts) = by_name (spelled_name t.kind)
     by_name None = all_left (t ∷ ts)
     by_name (Some name) = behind_left (t ∷ ts)
 
-late_made : {A : Type 0} (of : TokenKind → Option (ℕ → A)) (s : HeldScopes) (ts : List Lexeme) → Late ts (made_at of s ts)
+late_made : {A : Type 0} (of : TokenKind → Option (ℕ → A)) (s : HeldScopes) (ts : List Lexeme)
+    → Late ts (made_at of s ts)
 late_made of s [] = inr (late_refused [])
 late_made {A} of s (t ∷ ts) = by_made (of t.kind)
   where
@@ -79,7 +82,8 @@ late_brackets state s ts = let both : Both ⊥ ⊥ ts (run bracket_turn state s 
         by_inside Plain = behind_left (t ∷ ts)
         by_inside Stops = inr (late_refused (t ∷ ts))
 
-    turn : (state : Opened) (s : HeldScopes) (ts : List Lexeme) → BothTurn ⊥ ⊥ ts (bracket_turn state s ts) (bracket_turn state s ts)
+    turn : (state : Opened) (s : HeldScopes) (ts : List Lexeme)
+        → BothTurn ⊥ ⊥ ts (bracket_turn state s ts) (bracket_turn state s ts)
     turn state s ts = by_brackets state.brackets
       where
         by_brackets : (bs : List Bracket) → BothTurn ⊥ ⊥ ts (bracket_turn_by bs s ts) (bracket_turn_by bs s ts)
@@ -94,7 +98,8 @@ pub late_attr : (s : HeldScopes) (ts : List Lexeme) → Late ts (attr_at s ts)
 unfolding attr_at
 late_attr s ts = late_bind ts _ _ (late_token is_attribute s ts) (λ keyword. late_bind keyword.rest _ _ (late_group keyword.scopes keyword.rest) (λ group. all_left group.rest))
 
-pub past_attr : (s : HeldScopes) (ts : List Lexeme) → is_attribute (kind_at ts) ≡ true → Late (behind_first ts) (attr_at s ts)
+pub past_attr : (s : HeldScopes) (ts : List Lexeme) → is_attribute (kind_at ts) ≡ true
+    → Late (behind_first ts) (attr_at s ts)
 unfolding attr_at
 past_attr s ts is = past_token is_attribute s ts _ is (λ keyword. late_bind keyword.rest _ _ (late_group keyword.scopes keyword.rest) (λ group. all_left group.rest))
 
@@ -111,13 +116,15 @@ unfolding assert_at
 late_assert s ts =
     late_bind ts _ _ (late_token is_static_assert s ts) (λ keyword. late_bind keyword.rest _ _ (late_group keyword.scopes keyword.rest) (λ group. late_bind group.rest _ _ (late_token is_semicolon group.scopes group.rest) (λ semi. all_left semi.rest)))
 
-pub past_assert : (s : HeldScopes) (ts : List Lexeme) → is_static_assert (kind_at ts) ≡ true → Late (behind_first ts) (assert_at s ts)
+pub past_assert : (s : HeldScopes) (ts : List Lexeme) → is_static_assert (kind_at ts) ≡ true
+    → Late (behind_first ts) (assert_at s ts)
 unfolding assert_at
 past_assert s ts is =
     past_token is_static_assert s ts _ is (λ keyword. late_bind keyword.rest _ _ (late_group keyword.scopes keyword.rest) (λ group. late_bind group.rest _ _ (late_token is_semicolon group.scopes group.rest) (λ semi. all_left semi.rest)))
 
 -- what a node of one level is made of an assertion
-pub assert_both : {A S D : Type 0} (room wide : ℕ) (wider : room ≤ wide) (s : HeldScopes) (ts : List Lexeme) (f : Found _ → Read A) → is_static_assert (kind_at ts) ≡ true → ((x : Found _) → Late x.rest (f x)) →
+pub assert_both : {A S D : Type 0} (room wide : ℕ) (wider : room ≤ wide) (s : HeldScopes) (ts : List Lexeme) (f : Found _ → Read A)
+    → is_static_assert (kind_at ts) ≡ true → ((x : Found _) → Late x.rest (f x)) →
     Both S D ts (fits 1 room ts (and_then (assert_at s ts) f)) (fits 1 wide ts (and_then (assert_at s ts) f))
 assert_both room wide wider s ts f is k =
     both_fits 1 room wide ts _ _ wider (λ strict. late_bind (behind_first ts) _ _ (past_assert s ts is) k) (both_same _ (late_bind ts _ _ (late_assert s ts) k))
@@ -135,7 +142,8 @@ module _ {S D : Type 0} (room wide : ℕ) (wider : room ≤ wide) where
       past_one s [] = inr (late_refused [])
       past_one s (t ∷ ts) = all_left ts
 
-  pub pointer_words_both : (s : HeldScopes) (ts : List Lexeme) → Both S D ts (pointer_words_at room s ts) (pointer_words_at wide s ts)
+  pub pointer_words_both : (s : HeldScopes) (ts : List Lexeme)
+      → Both S D ts (pointer_words_at room s ts) (pointer_words_at wide s ts)
   unfolding pointer_words_at pointer_word_at
   pointer_words_both s ts =
       both_repeated begins_pointer_word (pointer_word_at room) (pointer_word_at wide)

@@ -7,6 +7,8 @@ use Rattle.bounds_below.proofs.flows.begin_all.Given as goal
 abbrev pub invariant-loop-n : goal.invariant-loop-n
 invariant-loop-n l = record {
   gains : Gains l.fn.work l.work;
-  sound : AreSound l.flows.graph.now l.flows.lattice l.fn.work.sets.items → AreSound l.flows.graph.now l.flows.lattice l.work.sets.items;
-  begun : (n v b : ℕ) → n < l.n → Stands l.flows.graph.now l.flows.lattice n (Bound v l.flows.lattice b) → Has l.work.sets.items v b;
+  sound : AreSound l.flows.graph.now l.flows.lattice l.fn.work.sets.items
+      → AreSound l.flows.graph.now l.flows.lattice l.work.sets.items;
+  begun : (n v b : ℕ) → n < l.n → Stands l.flows.graph.now l.flows.lattice n (Bound v l.flows.lattice b)
+      → Has l.work.sets.items v b;
 }

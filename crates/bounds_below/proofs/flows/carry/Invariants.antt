@@ -5,7 +5,8 @@ use Rattle.bounds_below.proofs.flows.carry.Given as goal
 abbrev pub invariant-loop-edge : goal.invariant-loop-edge
 invariant-loop-edge l = record {
   gains : Gains l.fn.work l.work;
-  sound : AllReach l.flows.graph.now l.flows.lattice l.had l.at → AreSound l.flows.graph.now l.flows.lattice l.fn.work.sets.items →
+  sound : AllReach l.flows.graph.now l.flows.lattice l.had l.at
+      → AreSound l.flows.graph.now l.flows.lattice l.fn.work.sets.items →
       AreSound l.flows.graph.now l.flows.lattice l.work.sets.items;
   carried : (k : ℕ) → k < l.edge-index → (n : ℕ) →
       IsCarried l.flows.graph.now l.flows.lattice l.flows.summaries.now l.had l.work.sets.items l.at (get_or l.edge-items k n);

@@ -7,7 +7,8 @@ invariant-loop-at l = record {
   size : length l.work.sets.items ≡ length l.fn.work.sets.items;
   sound : AreSound l.flows.graph.now l.flows.lattice l.work.sets.items;
   begun : AreBegun l.flows.graph.now l.flows.lattice l.work.sets.items;
-  settled : (v : ℕ) → Waits l.work v ⊎ AgreesAt l.flows.graph.now l.flows.lattice l.flows.summaries.now l.work.sets.items v;
+  settled : (v : ℕ)
+      → Waits l.work v ⊎ AgreesAt l.flows.graph.now l.flows.lattice l.flows.summaries.now l.work.sets.items v;
 }
 
 abbrev pub decreases-loop-at : goal.decreases-loop-at

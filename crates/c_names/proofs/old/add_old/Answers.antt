@@ -2,8 +2,8 @@ use Rattle.std.proofs.Common.{ℕ, true, [], ◌∷◌, ◌++◌, None, sym, ap,
 use Rattle.std.proofs.lemmas.Result.{on_ok_weaker}
 use Rattle.name_rules.specs.Faults.{fault_where, defined_twice}
 use Rattle.name_rules.specs.Scopes.{with_faults}
-use Rattle.unit_spelling.specs.Spelled.{spelling_of}
-use Rattle.unit_names.specs.Shown.{names_of}
+use Rattle.name_tables.specs.UnitSpelling.Spelled.{spelling_of}
+use Rattle.name_state.specs.UnitNames.Shown.{names_of}
 use Rattle.c_names.specs.declared.identifiers.OldParameter.{OldParameter}
 use Rattle.c_names.specs.Identifiers.{number_in}
 use Rattle.c_names.proofs.Olds.{known_is, new_is}

@@ -4,9 +4,9 @@ use Rattle.name_rules.specs.Spellings.{Place}
 use Rattle.name_rules.specs.Faults.{fault_where, defined_twice, undeclared}
 use Rattle.name_rules.specs.Scopes.{Names, with_faults}
 use Rattle.name_rules.specs.Declaring.{declared_param}
-use Rattle.name_uses.specs.Named.{named_of}
-use Rattle.unit_spelling.specs.Spelled.{spelling_of}
-use Rattle.unit_names.specs.Shown.{names_of}
+use Rattle.name_state.specs.NameUses.Named.{named_of}
+use Rattle.name_tables.specs.UnitSpelling.Spelled.{spelling_of}
+use Rattle.name_state.specs.UnitNames.Shown.{names_of}
 use Rattle.c_names.specs.Identifiers.{number_in, is_typed_in}
 use Rattle.c_names.proofs.Olds.{declared_is, undeclared_is}
 use Rattle.c_names.proofs.old.declare_old.Goals as goal

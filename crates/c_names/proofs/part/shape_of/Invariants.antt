@@ -1,8 +1,8 @@
 use Rattle.std.proofs.Common.{◌≡◌, drop}
-use Rattle.shape_steps.specs.State.{nothing}
-use Rattle.shape_steps.specs.Steps.{run}
-use Rattle.shape_stacks.specs.Views.{state_in}
-use Rattle.unit_spelling.specs.Spelled.{spelling_of}
+use Rattle.name_rules.specs.ShapeSteps.State.{nothing}
+use Rattle.name_rules.specs.ShapeSteps.Steps.{run}
+use Rattle.expr_shapes.specs.ShapeStacks.Views.{state_in}
+use Rattle.name_tables.specs.UnitSpelling.Spelled.{spelling_of}
 use Rattle.unit_shapes.specs.Views.{names_in}
 use Rattle.c_names.proofs.part.shape_of.Given as goal
 

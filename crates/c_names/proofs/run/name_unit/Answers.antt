@@ -1,9 +1,9 @@
 use Rattle.std.proofs.Common.{[], ap, ◌∙◌}
 use Rattle.name_rules.specs.Scopes.{Names}
 use Rattle.name_rules.specs.Units.{unit_begun}
-use Rattle.name_steps.specs.State.{State, with_names}
-use Rattle.name_steps.specs.Steps.{run}
-use Rattle.unit_spelling.specs.Spelled.{spelling_of}
+use Rattle.name_rules.specs.NameSteps.State.{State, with_names}
+use Rattle.name_rules.specs.NameSteps.Steps.{run}
+use Rattle.name_tables.specs.UnitSpelling.Spelled.{spelling_of}
 use Rattle.c_names.specs.Shown.{state_of, passed_by}
 use Rattle.c_names.proofs.Low.{knows_before}
 use Rattle.c_names.proofs.run.name_unit.Goals as goal

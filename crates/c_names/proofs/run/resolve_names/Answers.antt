@@ -1,9 +1,9 @@
 use Rattle.std.proofs.Common.{ap, ◌∙◌}
 use Rattle.name_rules.specs.Scopes.{Names}
 use Rattle.name_rules.specs.Units.{no_names, unit_begun}
-use Rattle.name_steps.specs.State.{with_names}
-use Rattle.name_steps.specs.Steps.{run}
-use Rattle.unit_spelling.specs.Spelled.{spelling_of}
+use Rattle.name_rules.specs.NameSteps.State.{with_names}
+use Rattle.name_rules.specs.NameSteps.Steps.{run}
+use Rattle.name_tables.specs.UnitSpelling.Spelled.{spelling_of}
 use Rattle.c_names.proofs.Alone.{begun_alone}
 use Rattle.c_names.proofs.run.resolve_names.Goals as goal
 

@@ -13,7 +13,8 @@ abbrev items_in : List Item → Read (List Item) → List Item
 items_in none (Ok x) = x.tree
 items_in none (Err refusal) = none
 
-same_items : (wide : Bool) (read : Read (List Item)) (items others : List Item) → read ≡ Ok (unit_found wide items) → read ≡ Ok (unit_found wide others) → items ≡ others
+same_items : (wide : Bool) (read : Read (List Item)) (items others : List Item) → read ≡ Ok (unit_found wide items)
+    → read ≡ Ok (unit_found wide others) → items ≡ others
 same_items wide read items others one other = ap (items_in items) (sym one ∙ other)
 
 pub returns-in-Ok-unit-clause-unit : goal.returns-in-Ok-unit-clause-unit

@@ -9,7 +9,8 @@ use Rattle.c_parser.proofs.Refusals.{IsRefused, first_of, height_of, allowed_of,
 use Rattle.c_parser.proofs.parsing.refusal.Goals as goal
 
 -- what was refused was not read
-not_read : (wide : Bool) (read : Read (List Item)) (items : List Item) (refusal : Refusal) → read ≡ Err refusal → read ≡ Ok (unit_found wide items) → ⊥
+not_read : (wide : Bool) (read : Read (List Item)) (items : List Item) (refusal : Refusal) → read ≡ Err refusal
+    → read ≡ Ok (unit_found wide items) → ⊥
 not_read wide read items refusal refused found = cc
 
 pub returns : goal.returns

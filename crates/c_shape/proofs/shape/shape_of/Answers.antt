@@ -14,7 +14,8 @@ both : {A B C : Type 0} (f : A → B → C) {a a2 : A} {b b2 : B} → a ≡ a2 �
 both f h k = rw (h, k) refl
 
 -- a node with the parts of a type's name has them through its shape too
-typed : (f : tree.SpecWords → tree.SomeDeclr → tree.Expr) (t : TypeShape) (name : TypeName) → t.words.now ≡ name.specs.words → t.declr.now ≡ name.declr →
+typed : (f : tree.SpecWords → tree.SomeDeclr → tree.Expr) (t : TypeShape) (name : TypeName)
+    → t.words.now ≡ name.specs.words → t.declr.now ≡ name.declr →
     f (words_of t) (declr_in t) ≡ f (spec_words_from name.specs.words.items) (some_declr_from name.declr)
 typed f t name words declr = both f (ap (λ (v : Vec rust_spec_word.SpecWord Global). spec_words_from v.items) words) (ap some_declr_from declr)
 

@@ -1,6 +1,6 @@
 use Rattle.std.proofs.Common.{◌≡◌, ◌∙◌, ap}
 use Rattle.std.specs.Prelude.{map}
-use Rattle.name_laws.specs.NameLaws.{tape_of_source}
+use Rattle.resolve_laws.specs.NameLaws.NameLaws.{tape_of_source}
 use Rattle.std.proofs.lemmas.Result.{IfOk-weaker, IfErr-weaker}
 use Rattle.unit_types.specs.Resolved.{tapes_of}
 use Rattle.c_types.specs.Sources.{sources_of}
@@ -11,7 +11,8 @@ use Rattle.c_types.proofs.resolving.resolve.Goals as goal
 taped : (c : goal.After-resolve_tapes) → AreTapesOf c.in-Ok.units.items (sources_of c.args.sources.now)
 taped c = record { sound = c.requires.formed; taped = c.in-Ok.ensures }
 
-units_taped : (c : goal.After-resolve_tapes) → tapes_of c.in-Ok.units.items ≡ map tape_of_source (sources_of c.args.sources.now)
+units_taped : (c : goal.After-resolve_tapes)
+    → tapes_of c.in-Ok.units.items ≡ map tape_of_source (sources_of c.args.sources.now)
 units_taped c = c.in-Ok.ensures
 
 pub returns-clause-none : goal.returns-clause-none

@@ -1,8 +1,8 @@
 use Rattle.std.proofs.Common.{◌∙◌, ap, List}
 use Rattle.tape_ops.specs.declared.op.Op.{Op}
 use Rattle.name_rules.specs.Spellings.{Spelling}
-use Rattle.name_steps.specs.Units.{Tape}
-use Rattle.source_spelling.specs.Tokens.{spelling_behind}
+use Rattle.name_rules.specs.NameSteps.Units.{Tape}
+use Rattle.c_types.specs.SourceSpelling.Tokens.{spelling_behind}
 use Rattle.c_types.proofs.tapes.unit_tape.Goals as goal
 
 pub returns : goal.returns

@@ -1,7 +1,7 @@
 use Rattle.std.proofs.Common.{◌≡◌, ◌++◌, ◌<◌, List, length, map, drop}
 use Rattle.c_lexer.specs.Tokens.{Lexed}
-use Rattle.name_laws.specs.NameLaws.{tape_of_source}
-use Rattle.source_spelling.specs.Keys.{AreNamesOf}
+use Rattle.resolve_laws.specs.NameLaws.NameLaws.{tape_of_source}
+use Rattle.c_types.specs.SourceSpelling.Keys.{AreNamesOf}
 use Rattle.unit_types.specs.Resolved.{tapes_of}
 use Rattle.c_types.specs.Sources.{sources_of}
 use Rattle.c_types.proofs.Sources.{tapes_from}

@@ -1,7 +1,7 @@
 use Rattle.std.proofs.Common.{List, sym, subst}
 use Rattle.std.proofs.lemmas.Result.{on_ok_weaker}
 use Rattle.c_lexer.specs.Tokens.{Lexed}
-use Rattle.source_spelling.specs.Keys.{AreNamesOf}
+use Rattle.c_types.specs.SourceSpelling.Keys.{AreNamesOf}
 use Rattle.c_types.specs.Units.{all_but_last}
 use Rattle.c_types.proofs.Joined.{last_behind}
 use Rattle.c_types.proofs.units.name_last.Goals as goal

@@ -2,11 +2,11 @@ use Rattle.std.proofs.Common.{◌≡◌, ◌<◌, ◌≤◌, ℕ, Bool, Err, IsE
 use Rattle.lattice_core.specs.View.{orders_of}
 use Rattle.flow_graph.specs.System.{System, IsWellOwned, most_variables}
 use Rattle.flow_graph.specs.Unfolding.{NamesElements}
-use Rattle.unit_skeletons.specs.declared.skeletons.Skeletons.{Skeletons}
+use Rattle.unit_starts.specs.declared.unit_skeletons.skeletons.Skeletons.{Skeletons}
 use Rattle.c_types.specs.Sources.{sources_in}
 use Rattle.constraint_rules.specs.Systems.{AreNamed}
 use Rattle.unit_system.specs.declared.fault.GenerateFault.{GenerateFault}
-use Rattle.position_laws.specs.Positions.{positions_of}
+use Rattle.unit_starts.specs.PositionLaws.Positions.{positions_of}
 use Rattle.row_rules.specs.Annotations.{has_access}
 use Rattle.row_rules.specs.Sites.{variables_among}
 use Rattle.unit_system.specs.Numberings.{IsNumberingOf}

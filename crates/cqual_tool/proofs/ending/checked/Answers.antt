@@ -1,5 +1,5 @@
 use Rattle.std.proofs.Common.{ℕ, List, ◌++◌, ap, ◌∙◌}
-use Rattle.report_checks.specs.Texts.{checked_text}
+use Rattle.path_checker.specs.ReportChecks.Texts.{checked_text}
 use Rattle.cqual_tool.proofs.Judging.{checked_as}
 use Rattle.cqual_tool.proofs.ending.checked.Goals as goal
 

@@ -25,7 +25,8 @@ set_firsts-requires-clause-below c =
 size_same : (c : goal.In_ok-set_firsts) → length c.set_firsts.new.firsts ≡ length c.args.room.firsts.items
 size_same c = c.in_ok-set_firsts.ensures.length ∙ ap length c.deref_mut.ensures.value
 
-firsts_same : (c : goal.In_ok-set_firsts) → (with_items c.args.room.firsts c.set_firsts.new.firsts).items ≡ c.set_firsts.new.firsts
+firsts_same : (c : goal.In_ok-set_firsts)
+    → (with_items c.args.room.firsts c.set_firsts.new.firsts).items ≡ c.set_firsts.new.firsts
 firsts_same c = with_items_is c.args.room.firsts c.set_firsts.new.firsts (size_same c ∙ sym c.args.room.firsts.ok.0)
 
 pub returns-clause-found : goal.returns-clause-found

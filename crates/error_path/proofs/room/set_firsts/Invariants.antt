@@ -8,5 +8,6 @@ abbrev pub invariant-loop-place : goal.invariant-loop-place
 invariant-loop-place l = record {
   size : length l.firsts ≡ length l.fn.firsts;
   right : (v place : ℕ) → slice_index_or l.firsts v nowhere ≡ place → (place ≡ nowhere → ⊥) → StandsIn l.queue place v;
-  whole : (place : ℕ) (r : Reached) → place < l.place → slice_get l.queue place ≡ Some r → slice_index_or l.firsts r.at nowhere ≡ nowhere → ⊥;
+  whole : (place : ℕ) (r : Reached) → place < l.place → slice_get l.queue place ≡ Some r
+      → slice_index_or l.firsts r.at nowhere ≡ nowhere → ⊥;
 }

@@ -38,7 +38,8 @@ show_from-requires-clause-lead c =
     let Of : ℕ → Type 0 = λ l. Lead c.args.graph.now l c.target_of-target.result.elem c.target_of-target.result.at in subst Of (sym c.target_of-target.ensures.lattice) c.target_of-target.ensures.lead
 
 -- what was shown is shown of the solver's lattice and the bound
-shown : (c : goal.After-show_from) (proof : PathProof) → IsShown c.args.graph.now c.target_of-target.result.lattice c.target_of-target.result.elem c.target_of-target.result.bound proof →
+shown : (c : goal.After-show_from) (proof : PathProof)
+    → IsShown c.args.graph.now c.target_of-target.result.lattice c.target_of-target.result.elem c.target_of-target.result.bound proof →
     IsShown c.args.graph.now c.args.solver.now.lattice c.target_of-target.result.elem c.args.bound proof
 shown c proof is =
     let Of : ℕ → Type 0 = λ l. IsShown c.args.graph.now l c.target_of-target.result.elem c.target_of-target.result.bound proof in

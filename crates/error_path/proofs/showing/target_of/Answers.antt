@@ -6,7 +6,8 @@ use Rattle.error_path.proofs.Tracing.{bound_at, limit_given, not_under, reached_
 use Rattle.error_path.proofs.showing.target_of.Goals as goal
 
 -- the solver's lattice
-there : (c : goal.After-exceeded) → slice_get c.args.lattices.now c.args.solver.now.lattice ≡ Some c.get-lattice.result.now
+there : (c : goal.After-exceeded)
+    → slice_get c.args.lattices.now c.args.solver.now.lattice ≡ Some c.get-lattice.result.now
 there c = ap (λ n. slice_get c.args.lattices.now n) (sym c.lattice.ensures) ∙ c.get-lattice.ensures
 
 pub unwrap-elem-requires : goal.unwrap-elem-requires

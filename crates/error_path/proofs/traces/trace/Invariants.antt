@@ -9,8 +9,10 @@ invariant-loop-from l = record {
   made : IsMade l.graph l.subs;
   lattice : l.subs.lattice ≡ l.fn.subs.lattice;
   place : l.place < length l.reached;
-  onward : (target : Goal) → ((r : Reached) → slice_get l.reached l.fn.place ≡ Some r → Onward l.graph l.fn.subs.lattice (subs_in l.fn.subs) target r.phase r.at (reverse l.fn.steps.items)) →
-      (r : Reached) → slice_get l.reached l.place ≡ Some r → Onward l.graph l.fn.subs.lattice (subs_in l.subs) target r.phase r.at (reverse l.steps.items);
+  onward : (target : Goal)
+      → ((r : Reached) → slice_get l.reached l.fn.place ≡ Some r → Onward l.graph l.fn.subs.lattice (subs_in l.fn.subs) target r.phase r.at (reverse l.fn.steps.items)) →
+      (r : Reached) → slice_get l.reached l.place ≡ Some r
+      → Onward l.graph l.fn.subs.lattice (subs_in l.subs) target r.phase r.at (reverse l.steps.items);
 }
 
 abbrev pub decreases-loop-from : goal.decreases-loop-from

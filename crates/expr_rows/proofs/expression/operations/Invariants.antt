@@ -4,7 +4,7 @@ use Rattle.c_nodes.specs.Sized.{expr}
 use Rattle.c_reading.specs.Reading.{run}
 use Rattle.c_reading.specs.Expressing.{operation_turn}
 use Rattle.c_reading.specs.Knot.{knot}
-use Rattle.op_rows.specs.Rows.{row_of}
+use Rattle.expr_rows.specs.OpRows.Rows.{row_of}
 use Rattle.expr_rows.proofs.expression.operations.Given as goal
 
 abbrev pub invariant-loop-row : goal.invariant-loop-row

@@ -2,8 +2,8 @@ use Rattle.std.proofs.Common.{◌&&◌, Bool, Option, ◌∙◌, ap}
 use Rattle.std.proofs.lemmas.Result.{on_ok_weaker}
 use Rattle.type_table.specs.Types.{CType}
 use Rattle.name_rules.specs.Values.{a_value, is_plain_void_pointer}
-use Rattle.shape_steps.specs.State as states
-use Rattle.shape_stacks.specs.Views.{state_in}
+use Rattle.name_rules.specs.ShapeSteps.State as states
+use Rattle.expr_shapes.specs.ShapeStacks.Views.{state_in}
 use Rattle.expr_shapes.proofs.forms.cast.Goals as goal
 
 pub returns : goal.returns

@@ -2,8 +2,8 @@ use Rattle.std.proofs.Common.{◌∙◌, ap}
 use Rattle.std.proofs.lemmas.Result.{on_ok_weaker}
 use Rattle.name_rules.specs.Values.{Shape}
 use Rattle.name_rules.specs.Uses.{assigned_shape}
-use Rattle.shape_steps.specs.State as states
-use Rattle.shape_stacks.specs.Views.{state_in}
+use Rattle.name_rules.specs.ShapeSteps.State as states
+use Rattle.expr_shapes.specs.ShapeStacks.Views.{state_in}
 use Rattle.expr_shapes.proofs.operators.assign.Goals as goal
 
 pub returns : goal.returns

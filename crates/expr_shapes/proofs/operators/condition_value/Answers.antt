@@ -1,9 +1,9 @@
 use Rattle.std.proofs.Common.{Bool, Option, ◌∙◌, ap}
 use Rattle.type_table.specs.Types.{CType}
 use Rattle.name_rules.specs.Values.{cond_type}
-use Rattle.shape_values.specs.Views.{some_value_type}
-use Rattle.shape_steps.specs.State as states
-use Rattle.shape_stacks.specs.Views.{state_in}
+use Rattle.expr_shapes.specs.ShapeValues.Views.{some_value_type}
+use Rattle.name_rules.specs.ShapeSteps.State as states
+use Rattle.expr_shapes.specs.ShapeStacks.Views.{state_in}
 use Rattle.expr_shapes.proofs.operators.condition_value.Goals as goal
 
 pub returns : goal.returns

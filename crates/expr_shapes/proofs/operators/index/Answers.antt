@@ -1,9 +1,9 @@
 use Rattle.std.proofs.Common.{◌≡◌, ◌&&◌, true, sym, ap, ◌∙◌}
 use Rattle.std.proofs.lemmas.Result.{on_ok_weaker}
 use Rattle.name_rules.specs.Values.{Shape, is_base_value, is_no_pointer, is_vector_index}
-use Rattle.shape_values.specs.Views.{some_value_type}
-use Rattle.shape_steps.specs.State as states
-use Rattle.shape_stacks.specs.Views.{state_in}
+use Rattle.expr_shapes.specs.ShapeValues.Views.{some_value_type}
+use Rattle.name_rules.specs.ShapeSteps.State as states
+use Rattle.expr_shapes.specs.ShapeStacks.Views.{state_in}
 use Rattle.expr_shapes.proofs.Choosing.{vector_shape}
 use Rattle.expr_shapes.proofs.operators.index.Goals as goal
 

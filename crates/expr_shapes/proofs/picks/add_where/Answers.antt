@@ -1,7 +1,7 @@
 use Rattle.std.proofs.Common.{[], ◌∷◌, ◌++◌, sym, ap, ◌∙◌, subst}
-use Rattle.shape_values.specs.Picks.{IsPicked}
-use Rattle.shape_steps.specs.Steps.{twice, candidate_at}
-use Rattle.shape_stacks.specs.Views.{state_in}
+use Rattle.expr_shapes.specs.ShapeValues.Picks.{IsPicked}
+use Rattle.name_rules.specs.ShapeSteps.Steps.{twice, candidate_at}
+use Rattle.expr_shapes.specs.ShapeStacks.Views.{state_in}
 use Rattle.expr_shapes.specs.Selecting.{with_candidate}
 use Rattle.expr_shapes.proofs.Choosing.{candidate_same}
 use Rattle.expr_shapes.proofs.picks.add_where.Goals as goal

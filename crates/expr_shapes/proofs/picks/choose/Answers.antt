@@ -1,9 +1,9 @@
 use Rattle.std.proofs.Common.{ap, ◌∙◌}
 use Rattle.std.proofs.lemmas.Result.{on_ok_weaker}
 use Rattle.name_rules.specs.Values.{Shape}
-use Rattle.shape_steps.specs.State as states
-use Rattle.shape_steps.specs.Steps as steps
-use Rattle.shape_stacks.specs.Views.{state_in}
+use Rattle.name_rules.specs.ShapeSteps.State as states
+use Rattle.name_rules.specs.ShapeSteps.Steps as steps
+use Rattle.expr_shapes.specs.ShapeStacks.Views.{state_in}
 use Rattle.expr_shapes.proofs.picks.choose.Goals as goal
 
 pub returns : goal.returns

@@ -1,7 +1,7 @@
 use Rattle.std.proofs.Common.{[], ◌∷◌, ap, ◌∙◌, subst, refl}
-use Rattle.shape_values.specs.Picks.{IsPicked, candidate_in}
-use Rattle.shape_steps.specs.Steps.{candidate_at}
-use Rattle.shape_stacks.specs.Views.{state_in}
+use Rattle.expr_shapes.specs.ShapeValues.Picks.{IsPicked, candidate_in}
+use Rattle.name_rules.specs.ShapeSteps.Steps.{candidate_at}
+use Rattle.expr_shapes.specs.ShapeStacks.Views.{state_in}
 use Rattle.expr_shapes.proofs.Choosing.{candidate_same}
 use Rattle.expr_shapes.proofs.picks.chosen.Goals as goal
 

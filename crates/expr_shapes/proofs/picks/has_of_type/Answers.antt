@@ -1,8 +1,8 @@
 use Rattle.std.proofs.Common.{arith, ◌-◌, ◌<◌, ◌||◌, sym, ap, ◌∙◌}
 use Rattle.name_rules.specs.Values.{has_of_type}
-use Rattle.shape_steps.specs.State.{value_at}
-use Rattle.shape_steps.specs.Steps.{twice, associations}
-use Rattle.shape_stacks.specs.Views.{state_in}
+use Rattle.name_rules.specs.ShapeSteps.State.{value_at}
+use Rattle.name_rules.specs.ShapeSteps.Steps.{twice, associations}
+use Rattle.expr_shapes.specs.ShapeStacks.Views.{state_in}
 use Rattle.expr_shapes.proofs.Choosing.{has_next}
 use Rattle.expr_shapes.proofs.picks.has_of_type.Goals as goal
 

@@ -1,9 +1,9 @@
 use Rattle.std.proofs.Common.{arith, ◌≡◌, ◌+◌, suc, Some, sym, ap, ◌∙◌}
 use Rattle.name_rules.specs.Values.{is_of_type}
-use Rattle.shape_values.specs.Views.{value_type, some_value_type}
-use Rattle.shape_steps.specs.State.{value_at, type_at}
-use Rattle.shape_steps.specs.Steps.{twice}
-use Rattle.shape_stacks.specs.Views.{state_in}
+use Rattle.expr_shapes.specs.ShapeValues.Views.{value_type, some_value_type}
+use Rattle.name_rules.specs.ShapeSteps.State.{value_at, type_at}
+use Rattle.name_rules.specs.ShapeSteps.Steps.{twice}
+use Rattle.expr_shapes.specs.ShapeStacks.Views.{state_in}
 use Rattle.expr_shapes.proofs.picks.is_of_type.Goals as goal
 
 pub returns-in-Some : goal.returns-in-Some

@@ -1,8 +1,8 @@
 use Rattle.std.proofs.Common.{arith, ◌≡◌, [], sym, ap, refl, subst, ◌∙◌}
-use Rattle.shape_values.specs.Picks.{IsPicked}
-use Rattle.shape_steps.specs.State.{value_at}
-use Rattle.shape_steps.specs.Steps.{twice, associations}
-use Rattle.shape_stacks.specs.Views.{state_in}
+use Rattle.expr_shapes.specs.ShapeValues.Picks.{IsPicked}
+use Rattle.name_rules.specs.ShapeSteps.State.{value_at}
+use Rattle.name_rules.specs.ShapeSteps.Steps.{twice, associations}
+use Rattle.expr_shapes.specs.ShapeStacks.Views.{state_in}
 use Rattle.expr_shapes.specs.Selecting.{picked_on}
 use Rattle.expr_shapes.proofs.Choosing.{selected_is}
 use Rattle.expr_shapes.proofs.picks.selected.Goals as goal

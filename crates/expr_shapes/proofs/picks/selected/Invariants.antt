@@ -1,9 +1,9 @@
 use Rattle.std.proofs.Common.{◌≡◌, List, []}
 use Rattle.name_rules.specs.Values.{Candidate}
-use Rattle.shape_steps.specs.State.{value_at}
-use Rattle.shape_steps.specs.Steps.{twice, associations}
-use Rattle.shape_stacks.specs.Views.{state_in}
-use Rattle.shape_values.specs.Picks.{IsPicked}
+use Rattle.name_rules.specs.ShapeSteps.State.{value_at}
+use Rattle.name_rules.specs.ShapeSteps.Steps.{twice, associations}
+use Rattle.expr_shapes.specs.ShapeStacks.Views.{state_in}
+use Rattle.expr_shapes.specs.ShapeValues.Picks.{IsPicked}
 use Rattle.expr_shapes.specs.Selecting.{picked_on}
 use Rattle.expr_shapes.proofs.picks.selected.Given as goal
 

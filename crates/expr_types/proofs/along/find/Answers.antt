@@ -1,9 +1,9 @@
 use Rattle.std.proofs.Common.{◌+◌, List, drop, ◌∙◌, ap}
-use Rattle.shape_steps.specs.State.{State}
-use Rattle.shape_steps.specs.Steps.{step}
-use Rattle.shape_stacks.specs.Views.{state_in}
-use Rattle.place_map.specs.Values.{or_else}
-use Rattle.unit_spelling.specs.Spelled.{spelling_of}
+use Rattle.name_rules.specs.ShapeSteps.State.{State}
+use Rattle.name_rules.specs.ShapeSteps.Steps.{step}
+use Rattle.expr_shapes.specs.ShapeStacks.Views.{state_in}
+use Rattle.name_tables.specs.PlaceMap.Values.{or_else}
+use Rattle.name_tables.specs.UnitSpelling.Spelled.{spelling_of}
 use Rattle.unit_shapes.specs.Views.{names_in}
 use Rattle.expr_types.specs.Along.{Keyed, op_shape, keyed, shapes_along, first_at}
 use Rattle.expr_types.specs.Keys.{op_key}

@@ -1,8 +1,8 @@
 use Rattle.std.proofs.Common.{◌≡◌, drop}
 use Rattle.name_rules.specs.Spellings.{Place}
-use Rattle.place_map.specs.Values.{or_else}
-use Rattle.shape_stacks.specs.Views.{state_in}
-use Rattle.unit_spelling.specs.Spelled.{spelling_of}
+use Rattle.name_tables.specs.PlaceMap.Values.{or_else}
+use Rattle.expr_shapes.specs.ShapeStacks.Views.{state_in}
+use Rattle.name_tables.specs.UnitSpelling.Spelled.{spelling_of}
 use Rattle.unit_shapes.specs.Views.{names_in}
 use Rattle.expr_types.specs.Along.{shapes_along, first_at}
 use Rattle.expr_types.specs.Views.{found_at}

@@ -1,8 +1,8 @@
 use Rattle.std.proofs.Common.{ℕ, Option, ◌∙◌, ap}
 use Rattle.type_table.specs.Types.{CType}
 use Rattle.name_rules.specs.Values.{a_place}
-use Rattle.shape_steps.specs.State.{type_at}
-use Rattle.shape_stacks.specs.Views.{state_in}
+use Rattle.name_rules.specs.ShapeSteps.State.{type_at}
+use Rattle.expr_shapes.specs.ShapeStacks.Views.{state_in}
 use Rattle.expr_types.proofs.along.literal.Goals as goal
 
 pub returns : goal.returns

@@ -1,12 +1,12 @@
 use Rattle.std.proofs.Common.{◌≡◌, ℕ, Option, ◌∙◌, ap, subst}
 use Rattle.name_rules.specs.Spellings.{Place}
 use Rattle.name_rules.specs.Values.{Shape}
-use Rattle.shape_values.specs.Views.{shape_in}
-use Rattle.shape_steps.specs.State.{State}
-use Rattle.shape_steps.specs.Steps.{step}
-use Rattle.shape_stacks.specs.Views.{state_in}
-use Rattle.place_map.specs.Values.{or_else}
-use Rattle.unit_spelling.specs.Spelled.{spelling_of}
+use Rattle.expr_shapes.specs.ShapeValues.Views.{shape_in}
+use Rattle.name_rules.specs.ShapeSteps.State.{State}
+use Rattle.name_rules.specs.ShapeSteps.Steps.{step}
+use Rattle.expr_shapes.specs.ShapeStacks.Views.{state_in}
+use Rattle.name_tables.specs.PlaceMap.Values.{or_else}
+use Rattle.name_tables.specs.UnitSpelling.Spelled.{spelling_of}
 use Rattle.unit_shapes.specs.Views.{names_in}
 use Rattle.expr_types.specs.Along.{op_shape, keyed, first_at}
 use Rattle.expr_types.specs.Keys.{op_key}

@@ -1,7 +1,7 @@
 use Rattle.std.proofs.Common.{◌+◌, List, drop, ◌∙◌, ap}
 use Rattle.tape_ops.specs.declared.op.Op.{Op}
-use Rattle.shape_steps.specs.State.{nothing}
-use Rattle.place_map.specs.Values.{or_else}
+use Rattle.name_rules.specs.ShapeSteps.State.{nothing}
+use Rattle.name_tables.specs.PlaceMap.Values.{or_else}
 use Rattle.unit_shapes.specs.Views.{names_in}
 use Rattle.unit_types.specs.Resolved.{tape_of, tapes_of}
 use Rattle.expr_types.specs.Along.{Keyed, shapes_along, shapes_among, first_at}

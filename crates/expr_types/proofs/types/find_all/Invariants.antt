@@ -1,6 +1,6 @@
 use Rattle.std.proofs.Common.{◌≡◌, drop}
 use Rattle.name_rules.specs.Spellings.{Place}
-use Rattle.place_map.specs.Values.{or_else}
+use Rattle.name_tables.specs.PlaceMap.Values.{or_else}
 use Rattle.unit_shapes.specs.Views.{names_in}
 use Rattle.unit_types.specs.Resolved.{tapes_of}
 use Rattle.expr_types.specs.Along.{shapes_among, first_at}

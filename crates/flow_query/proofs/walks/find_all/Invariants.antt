@@ -10,5 +10,6 @@ invariant-loop-start l = record {
   finder : IsFinder l.found.graph.now l.finder;
   sound : AreSound l.found.graph.now l.lattice l.walks;
   last : IfSome l.last (λ at. AllDone l.found.graph.now l.lattice l.walks at l.vars);
-  done : (start : Constant) → Contains (take l.start-index l.starts) start → AllDone l.found.graph.now l.lattice l.walks start.at l.vars;
+  done : (start : Constant) → Contains (take l.start-index l.starts) start
+      → AllDone l.found.graph.now l.lattice l.walks start.at l.vars;
 }

@@ -22,7 +22,8 @@ returns-then-end-bytes-clause-fails c =
     inside : (end : ℕ) (bytes : List ℕ) → end ≤ length bytes → (end ≡ length bytes → ⊥) → end < length bytes
     inside end bytes le other = omega (arith, le, other)
 
-    stop : (end : ℕ) (bytes : List ℕ) → (end ≡ length bytes) ⊎ (stands_in_text (get_or bytes end 0) ≡ false) → (end ≡ length bytes → ⊥) → stands_in_text (get_or bytes end 0) ≡ false
+    stop : (end : ℕ) (bytes : List ℕ) → (end ≡ length bytes) ⊎ (stands_in_text (get_or bytes end 0) ≡ false)
+        → (end ≡ length bytes → ⊥) → stands_in_text (get_or bytes end 0) ≡ false
     stop end bytes (inl e) other = absurd (other e)
     stop end bytes (inr e) other = e
 

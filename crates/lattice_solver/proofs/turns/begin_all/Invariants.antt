@@ -9,6 +9,8 @@ use Rattle.lattice_solver.proofs.turns.begin_all.Given as goal
 abbrev pub invariant-loop-n : goal.invariant-loop-n
 invariant-loop-n l = record {
   gains : Gains l.fn.work l.work;
-  sound : AllLeadIn l.flows.graph.now l.flows.lattice l.fn.work.sets → AllLeadIn l.flows.graph.now l.flows.lattice l.work.sets;
-  begun : (n e v : ℕ) → n < l.n → Stands l.flows.graph.now l.flows.lattice n (Const l.flows.lattice e v) → HasIn l.work.sets First v e;
+  sound : AllLeadIn l.flows.graph.now l.flows.lattice l.fn.work.sets
+      → AllLeadIn l.flows.graph.now l.flows.lattice l.work.sets;
+  begun : (n e v : ℕ) → n < l.n → Stands l.flows.graph.now l.flows.lattice n (Const l.flows.lattice e v)
+      → HasIn l.work.sets First v e;
 }

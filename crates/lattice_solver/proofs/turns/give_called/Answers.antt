@@ -14,7 +14,8 @@ returns-clause-sound c = λ sys lattice lead all. c.gain.ensures.sound sys latti
 ]) all
 
 -- what it had in either phase is in the union
-in_either : (taken : Taken) (p : Phase) (e : ℕ) → bit_at (had_of taken p) e ≡ 1 → bit_at (bit_or taken.first taken.second) e ≡ 1
+in_either : (taken : Taken) (p : Phase) (e : ℕ) → bit_at (had_of taken p) e ≡ 1
+    → bit_at (bit_or taken.first taken.second) e ≡ 1
 in_either taken First e has = from_left taken.first taken.second e has
 in_either taken Second e has = from_right taken.first taken.second e has
 

@@ -10,7 +10,8 @@ invariant-loop-next l = record {
   gains : Gains l.fn.work l.work;
   sound : StaySound l.flows l.taken l.fn.work.sets l.work.sets;
   there : (n : ℕ) → link_of l.next ≡ n + 1 → Crosses l.flows.graph.now l.end n;
-  passed : (n : ℕ) → link_of l.next ≤ n → IsPassedFrom l.flows.graph.now l.flows.lattice l.flows.summaries.now (had_of l.taken) l.work.sets l.call.site l.call.to l.fn.last n;
+  passed : (n : ℕ) → link_of l.next ≤ n
+      → IsPassedFrom l.flows.graph.now l.flows.lattice l.flows.summaries.now (had_of l.taken) l.work.sets l.call.site l.call.to l.fn.last n;
 }
 
 abbrev pub decreases-loop-next : goal.decreases-loop-next

@@ -14,7 +14,8 @@ invariant-loop-next l = record {
   over : IsOver l.flows.graph.now l.flows.lattice l.flows.summaries.now l.passed l.work.sets;
   same : size_of l.passed ≡ size_of l.fn.passed;
   there : (n : ℕ) → link_of l.next ≡ n + 1 → slice_get (sources l.flows.summaries.now) n ≡ Some l.call.to;
-  done : (n m : ℕ) (row : Summary) → slice_get l.flows.summaries.now n ≡ Some row → row.from ≡ l.call.to → link_of l.next ≤ n →
+  done : (n m : ℕ) (row : Summary) → slice_get l.flows.summaries.now n ≡ Some row → row.from ≡ l.call.to
+      → link_of l.next ≤ n →
       IsPassedFrom l.flows.graph.now l.flows.lattice l.flows.summaries.now (had_of l.taken) l.work.sets l.call.site l.call.to row.to m;
 }
 

@@ -10,7 +10,8 @@ invariant-loop-taken l = record {
   size : size_of l.work.sets ≡ size_of l.fn.work.sets;
   sound : AllLeadIn l.flows.graph.now l.flows.lattice l.work.sets;
   begun : AreBegun l.flows.graph.now l.flows.lattice l.work.sets;
-  agree : (v : ℕ) → waits l.work.waiting v ≡ false → AgreesAt l.flows.graph.now l.flows.lattice l.flows.summaries.now l.work.sets v;
+  agree : (v : ℕ) → waits l.work.waiting v ≡ false
+      → AgreesAt l.flows.graph.now l.flows.lattice l.flows.summaries.now l.work.sets v;
   over : IsOver l.flows.graph.now l.flows.lattice l.flows.summaries.now l.passed l.work.sets;
   same : size_of l.passed ≡ size_of l.fn.passed;
 }

@@ -10,7 +10,8 @@ invariant-loop-next l = record {
   kept : IsKept l.given l.found;
   grows : Grows l.initial.found.known l.found.known;
   there : (n : ℕ) → link_of l.next ≡ n + 1 → slice_get (targets l.found.known) n ≡ Some (before_of l.why);
-  done : (n : ℕ) (row : Summary) → slice_get l.initial.found.known n ≡ Some row → row.to ≡ before_of l.why → link_of l.next ≤ n → Follows l.given.graph.now l.found.known row.from l.to;
+  done : (n : ℕ) (row : Summary) → slice_get l.initial.found.known n ≡ Some row → row.to ≡ before_of l.why
+      → link_of l.next ≤ n → Follows l.given.graph.now l.found.known row.from l.to;
 }
 
 abbrev pub decreases-loop-next : goal.decreases-loop-next

@@ -9,7 +9,8 @@ invariant-loop-next l = record {
   kept : IsKept l.given l.found;
   grows : Grows l.initial.found.known l.found.known;
   there : (n : ℕ) → link_of l.next ≡ n + 1 → Crosses l.given.graph.now l.end n;
-  done : (n : ℕ) → link_of l.next ≤ n → IsLeftFrom l.given.graph.now l.given.lattice l.initial.found.known l.found.known l.from l.call.site l.call.to l.fn.last n;
+  done : (n : ℕ) → link_of l.next ≤ n
+      → IsLeftFrom l.given.graph.now l.given.lattice l.initial.found.known l.found.known l.from l.call.site l.call.to l.fn.last n;
 }
 
 abbrev pub decreases-loop-next : goal.decreases-loop-next

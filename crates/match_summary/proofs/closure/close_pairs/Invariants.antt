@@ -10,7 +10,8 @@ invariant-loop-next l = record {
   kept : IsKept l.given l.found;
   grows : Grows l.initial.found.known l.found.known;
   there : (n : ℕ) → link_of l.next ≡ n + 1 → slice_get (sources l.found.known) n ≡ Some l.call.to;
-  done : (n m : ℕ) (row : Summary) → slice_get l.initial.found.known n ≡ Some row → row.from ≡ l.call.to → link_of l.next ≤ n →
+  done : (n m : ℕ) (row : Summary) → slice_get l.initial.found.known n ≡ Some row → row.from ≡ l.call.to
+      → link_of l.next ≤ n →
       IsLeftFrom l.given.graph.now l.given.lattice l.initial.found.known l.found.known l.from l.call.site l.call.to row.to m;
 }
 

@@ -6,5 +6,6 @@ abbrev pub invariant-loop-edge : goal.invariant-loop-edge
 invariant-loop-edge l = record {
   kept : IsKept l.given l.found;
   grows : Grows l.initial.found.known l.found.known;
-  done : (k n : ℕ) → k < l.edge-index → get_or l.edge-items k n ≡ n → IsFollowed l.given.graph.now l.given.lattice l.given.marks.now l.initial.found.known l.found.known l.from l.to n;
+  done : (k n : ℕ) → k < l.edge-index → get_or l.edge-items k n ≡ n
+      → IsFollowed l.given.graph.now l.given.lattice l.given.marks.now l.initial.found.known l.found.known l.from l.to n;
 }

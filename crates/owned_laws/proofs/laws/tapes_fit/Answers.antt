@@ -1,4 +1,4 @@
-use Rattle.row_steps.specs.State.{nothing}
+use Rattle.row_rules.specs.RowSteps.State.{nothing}
 use Rattle.owned_laws.proofs.Found.{Laws, Setting}
 use Rattle.owned_laws.proofs.Steps.{tape_fits, nothing_in}
 use Rattle.owned_laws.proofs.laws.tapes_fit.Goals as goal

@@ -11,14 +11,16 @@ use Rattle.path_checker.proofs.WholeReports.{report_passes, passing_is_report}
 use Rattle.path_checker.proofs.report.read_report.Goals as goal
 
 -- where no line fails, only want of memory is left
-only_memory : {A : Type 0} → (r : Result A ReportFault) (first : Option ReportFault) → first ≡ None → IfErr r (λ e. (e ≡ NoMemory) ⊎ (first ≡ Some e)) →
+only_memory : {A : Type 0} → (r : Result A ReportFault) (first : Option ReportFault) → first ≡ None
+    → IfErr r (λ e. (e ≡ NoMemory) ⊎ (first ≡ Some e)) →
     OnErr r (r ≡ Err NoMemory)
 only_memory (Ok x) first none h = tt
 only_memory (Err e) first none (inl is) = ap Err is
 only_memory (Err e) first none (inr is) = absurd cc
 
 -- each fault stands at its place
-faults_placed : {A : Type 0} → (edges : ℕ) (lines : List Line) (r : Result A ReportFault) → IfErr r (λ e. (e ≡ NoMemory) ⊎ (report_fault edges lines ≡ Some e)) →
+faults_placed : {A : Type 0} → (edges : ℕ) (lines : List Line) (r : Result A ReportFault)
+    → IfErr r (λ e. (e ≡ NoMemory) ⊎ (report_fault edges lines ≡ Some e)) →
     IfErr r (IsPlaced edges lines)
 faults_placed edges lines (Ok x) h = tt
 faults_placed edges lines (Err e) (inl is) = subst (λ (f : ReportFault). IsPlaced edges lines f) (sym is) tt

@@ -1,7 +1,7 @@
 use Rattle.std.proofs.Common.{arith, ◌<◌, List, length, map, refl}
 use Rattle.std.proofs.lemmas.Result.{err_from_is_err_and}
-use Rattle.name_records.specs.declared.body.Own.{Own}
-use Rattle.unit_names.specs.Shown.{own_of}
+use Rattle.name_tables.specs.declared.name_records.body.Own.{Own}
+use Rattle.name_state.specs.UnitNames.Shown.{own_of}
 use Rattle.row_rules.specs.Worlds.{World}
 use Rattle.row_rules.specs.Forming.{into_members}
 use Rattle.row_world.specs.Shown.{type}

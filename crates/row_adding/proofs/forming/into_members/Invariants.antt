@@ -1,5 +1,5 @@
 use Rattle.std.proofs.Common.{map, take}
-use Rattle.unit_names.specs.Shown.{own_of}
+use Rattle.name_state.specs.UnitNames.Shown.{own_of}
 use Rattle.row_rules.specs.Forming.{into_members}
 use Rattle.row_world.specs.Shown.{type}
 use Rattle.row_adding.specs.Adding.{Adds}

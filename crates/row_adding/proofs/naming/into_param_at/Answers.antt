@@ -2,7 +2,7 @@ use Rattle.std.proofs.Common.{◌∙◌, ap, subst}
 use Rattle.std.proofs.lemmas.Result.{on_ok_weaker, IfErr-weaker}
 use Rattle.flow_rules.specs.Adding.{with}
 use Rattle.qual_types.specs.Skel.{param_at}
-use Rattle.unit_names.specs.Shown.{declared_of}
+use Rattle.name_state.specs.UnitNames.Shown.{declared_of}
 use Rattle.row_rules.specs.Annotations as rules
 use Rattle.row_rules.specs.Rows as rows
 use Rattle.row_world.specs.Shown.{skel, type}

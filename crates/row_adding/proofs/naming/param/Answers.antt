@@ -1,4 +1,4 @@
-use Rattle.unit_names.specs.Shown.{declared_of}
+use Rattle.name_state.specs.UnitNames.Shown.{declared_of}
 use Rattle.row_rules.specs.Rows as rows
 use Rattle.row_world.specs.Shown.{skel, type}
 use Rattle.row_adding.proofs.Behind.{halts_behind}

@@ -1,6 +1,6 @@
 use Rattle.std.proofs.Common.{◌++◌}
 use Rattle.std.proofs.lemmas.Result.{IfErr-weaker, err_from_is_err_and}
-use Rattle.unit_names.specs.Shown.{declared_of}
+use Rattle.name_state.specs.UnitNames.Shown.{declared_of}
 use Rattle.row_rules.specs.Rows as rows
 use Rattle.row_world.specs.Shown.{type}
 use Rattle.row_adding.specs.Adding.{Halts}

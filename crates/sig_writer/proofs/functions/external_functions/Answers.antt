@@ -4,9 +4,9 @@ use Rattle.std.proofs.lemmas.List.{reverse-reverse}
 use Rattle.std.proofs.lemmas.Result.{IfOk-weaker}
 use Rattle.name_rules.specs.Spellings.{Place}
 use Rattle.type_table.specs.Rows.{type_of}
-use Rattle.unit_names.specs.declared.names.Names.{Names}
-use Rattle.unit_names.specs.Shown.{names_of}
-use Rattle.name_links.specs.Tables.{AreStatics}
+use Rattle.name_state.specs.declared.unit_names.names.Names.{Names}
+use Rattle.name_state.specs.UnitNames.Shown.{names_of}
+use Rattle.name_state.specs.NameLinks.Tables.{AreStatics}
 use Rattle.sig_writer.specs.Functions.{functions_in, is_first}
 use Rattle.sig_writer.proofs.functions.external_functions.Goals as goal
 

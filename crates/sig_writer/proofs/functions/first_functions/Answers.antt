@@ -1,7 +1,7 @@
 use Rattle.std.proofs.Common.{arith, ap, ◌∙◌, sym, ◌++◌, ℕ, List, map, [], ◌∷◌}
 use Rattle.std.specs.List.{filter}
 use Rattle.name_rules.specs.Spellings.{Place}
-use Rattle.unit_names.specs.Shown.{names_of}
+use Rattle.name_state.specs.UnitNames.Shown.{names_of}
 use Rattle.sig_writer.specs.Functions.{is_first}
 use Rattle.sig_writer.proofs.Taken.{whole, kept_more}
 use Rattle.sig_writer.proofs.functions.first_functions.Goals as goal

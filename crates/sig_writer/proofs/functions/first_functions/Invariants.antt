@@ -1,8 +1,8 @@
 use Rattle.std.proofs.Common.{◌≡◌, ℕ, map, take}
 use Rattle.std.specs.List.{filter}
 use Rattle.type_table.specs.Types.{CType}
-use Rattle.unit_names.specs.Shown.{names_of}
-use Rattle.name_links.specs.Tables.{AreStatics}
+use Rattle.name_state.specs.UnitNames.Shown.{names_of}
+use Rattle.name_state.specs.NameLinks.Tables.{AreStatics}
 use Rattle.sig_writer.specs.Functions.{is_first}
 use Rattle.sig_writer.proofs.functions.first_functions.Given as goal
 

@@ -1,6 +1,6 @@
 use Rattle.std.proofs.Common.{sym, ◌∙◌, ap}
 use Rattle.std.proofs.lemmas.Result.{on_ok_weaker}
-use Rattle.row_steps.specs.Steps as steps
+use Rattle.row_rules.specs.RowSteps.Steps as steps
 use Rattle.skel_steps.specs.Stepping.{tables_of, state_of}
 use Rattle.skel_steps.proofs.expressions.step_expression.Goals as goal
 

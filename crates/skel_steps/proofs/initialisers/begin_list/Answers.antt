@@ -1,7 +1,7 @@
 use Rattle.std.proofs.Common.{◌∷◌, Option, ◌∙◌, ap}
 use Rattle.std.proofs.lemmas.Result.{on_ok_weaker}
 use Rattle.qual_types.specs.Skel.{Skel}
-use Rattle.row_steps.specs.Steps as steps
+use Rattle.row_rules.specs.RowSteps.Steps as steps
 use Rattle.skel_steps.specs.Stepping.{tables_of, state_of}
 use Rattle.skel_steps.proofs.initialisers.begin_list.Goals as goal
 

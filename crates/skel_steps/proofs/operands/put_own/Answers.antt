@@ -2,7 +2,7 @@ use Rattle.std.proofs.Common.{false, ◌∙◌, ap}
 use Rattle.std.proofs.lemmas.Result.{on_ok_weaker}
 use Rattle.qual_types.specs.Skel.{Skel}
 use Rattle.row_rules.specs.Vals as vals
-use Rattle.row_steps.specs.State as states
+use Rattle.row_rules.specs.RowSteps.State as states
 use Rattle.skel_steps.specs.Stepping.{tables_of, state_of}
 use Rattle.skel_steps.proofs.operands.put_own.Goals as goal
 

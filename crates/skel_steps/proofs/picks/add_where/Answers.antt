@@ -1,5 +1,5 @@
 use Rattle.std.proofs.Common.{◌∷◌, ◌++◌, [], sym, ap, ◌∙◌, subst}
-use Rattle.row_steps.specs.Steps.{candidate_at}
+use Rattle.row_rules.specs.RowSteps.Steps.{candidate_at}
 use Rattle.skel_steps.specs.Picks.{IsPickedVal, with_candidate}
 use Rattle.skel_steps.specs.Stepping.{state_of, tables_of}
 use Rattle.skel_steps.proofs.picks.add_where.Goals as goal

@@ -1,9 +1,9 @@
 use Rattle.std.proofs.Common.{ap, ◌∙◌, ◌≡◌, ◌+◌, ℕ, suc, arith}
 use Rattle.std.proofs.lemmas.Result.{on_ok_weaker}
-use Rattle.shape_steps.specs.Steps.{twice}
+use Rattle.name_rules.specs.ShapeSteps.Steps.{twice}
 use Rattle.row_rules.specs.Vals as vals
-use Rattle.row_steps.specs.State as states
-use Rattle.row_steps.specs.Steps as steps
+use Rattle.row_rules.specs.RowSteps.State as states
+use Rattle.row_rules.specs.RowSteps.Steps as steps
 use Rattle.row_world.specs.Shown.{val}
 use Rattle.skel_steps.specs.Stepping.{tables_of, state_of}
 use Rattle.skel_steps.proofs.picks.select.Goals as goal

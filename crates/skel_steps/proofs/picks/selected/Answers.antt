@@ -1,5 +1,5 @@
 use Rattle.std.proofs.Common.{arith, ◌≡◌, ◌∙◌, ◌-◌, ◌+◌, ◌<◌, [], ◌++◌, ap, subst, ℕ}
-use Rattle.row_steps.specs.Steps as steps
+use Rattle.row_rules.specs.RowSteps.Steps as steps
 use Rattle.skel_steps.specs.Picks.{IsPickedVal, with_candidate}
 use Rattle.skel_steps.specs.Stepping.{state_of}
 use Rattle.skel_steps.proofs.Candidates.{selected_next, selected_all}

@@ -2,7 +2,7 @@ use Rattle.std.proofs.Common.{◌≡◌, ◌-◌, ◌++◌, List}
 use Rattle.row_rules.specs.Worlds.{World}
 use Rattle.row_rules.specs.Vals.{Candidate}
 use Rattle.row_world.specs.Shown.{Shows}
-use Rattle.row_steps.specs.Steps.{selected}
+use Rattle.row_rules.specs.RowSteps.Steps.{selected}
 use Rattle.skel_steps.specs.Picks.{IsPickedVal}
 use Rattle.skel_steps.specs.Stepping.{state_of}
 use Rattle.skel_steps.proofs.picks.selected.Given as goal

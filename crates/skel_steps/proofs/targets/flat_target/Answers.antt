@@ -1,6 +1,6 @@
 use Rattle.std.proofs.Common.{option_map, sym, ◌∙◌, ap}
 use Rattle.qual_types.specs.Skel.{flat}
-use Rattle.row_steps.specs.Steps as steps
+use Rattle.row_rules.specs.RowSteps.Steps as steps
 use Rattle.row_world.specs.Shown.{skel}
 use Rattle.row_rules.specs.Rows as rows
 use Rattle.qual_types.specs.declared.look.Kind.{Kind}

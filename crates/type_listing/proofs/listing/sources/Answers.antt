@@ -1,7 +1,7 @@
 use Rattle.std.proofs.Common.{List, [], sym, subst}
 use Rattle.std.proofs.lemmas.List.Elements.{All-nil, All-cons}
 use Rattle.std.specs.Prelude.{All}
-use Rattle.name_laws.specs.NameLaws.{IsSound}
+use Rattle.resolve_laws.specs.NameLaws.NameLaws.{IsSound}
 use Rattle.c_types.specs.declared.source.Source.{Source}
 use Rattle.c_types.specs.Sources.{sources_of}
 use Rattle.type_listing.proofs.listing.sources.Goals as goal

@@ -1,7 +1,7 @@
 use Rattle.std.proofs.Common.{◌∙◌, ap}
 use Rattle.std.proofs.lemmas.Result.{on_ok_weaker}
-use Rattle.shape_steps.specs.State.{State}
-use Rattle.shape_steps.specs.Steps as steps
+use Rattle.name_rules.specs.ShapeSteps.State.{State}
+use Rattle.name_rules.specs.ShapeSteps.Steps as steps
 use Rattle.unit_shapes.proofs.initialisers.end_list.Goals as goal
 
 pub returns : goal.returns

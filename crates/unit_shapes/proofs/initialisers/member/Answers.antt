@@ -1,6 +1,6 @@
 use Rattle.std.proofs.Common.{sym, ◌∙◌}
 use Rattle.std.proofs.lemmas.Result.{on_ok_weaker}
-use Rattle.shape_stacks.specs.Views.{state_in, braces_in}
+use Rattle.expr_shapes.specs.ShapeStacks.Views.{state_in, braces_in}
 use Rattle.unit_shapes.specs.Views.{names_in}
 use Rattle.unit_shapes.proofs.Designating.{member_named, none_named}
 use Rattle.unit_shapes.proofs.initialisers.member.Goals as goal

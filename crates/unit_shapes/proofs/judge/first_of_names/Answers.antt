@@ -1,6 +1,6 @@
 use Rattle.std.proofs.Common.{Option, None, sym, ◌∙◌, ap, subst}
 use Rattle.name_rules.specs.Faults.{Fault}
-use Rattle.unit_names.specs.Shown.{names_of}
+use Rattle.name_state.specs.UnitNames.Shown.{names_of}
 use Rattle.unit_shapes.specs.Faults.{keep, IsFirstOf}
 use Rattle.unit_shapes.proofs.Keeping.{kept_first}
 use Rattle.unit_shapes.proofs.judge.first_of_names.Goals as goal

@@ -1,10 +1,10 @@
 use Rattle.std.proofs.Common.{◌++◌, Option, sym, ◌∙◌, ap, subst}
 use Rattle.name_rules.specs.Faults.{Fault}
-use Rattle.shape_steps.specs.State.{nothing}
-use Rattle.shape_steps.specs.Found.{faults_found}
-use Rattle.shape_stacks.specs.Stacked.{Stacked}
-use Rattle.shape_stacks.specs.Views.{state_in}
-use Rattle.unit_spelling.specs.Spelled.{spelling_of}
+use Rattle.name_rules.specs.ShapeSteps.State.{nothing}
+use Rattle.name_rules.specs.ShapeSteps.Found.{faults_found}
+use Rattle.expr_shapes.specs.ShapeStacks.Stacked.{Stacked}
+use Rattle.expr_shapes.specs.ShapeStacks.Views.{state_in}
+use Rattle.name_tables.specs.UnitSpelling.Spelled.{spelling_of}
 use Rattle.unit_shapes.specs.Faults.{some_fault_of, keep, IsFirstOf}
 use Rattle.unit_shapes.specs.Views.{names_in}
 use Rattle.unit_shapes.proofs.Keeping.{kept_on}

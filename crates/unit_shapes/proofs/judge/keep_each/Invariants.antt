@@ -1,5 +1,5 @@
 use Rattle.std.proofs.Common.{◌≡◌, drop, map}
-use Rattle.unit_names.specs.Shown.{fault_of}
+use Rattle.name_state.specs.UnitNames.Shown.{fault_of}
 use Rattle.unit_shapes.specs.Faults.{some_fault_of, keep}
 use Rattle.unit_shapes.proofs.judge.keep_each.Given as goal
 

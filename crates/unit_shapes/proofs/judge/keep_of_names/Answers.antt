@@ -1,6 +1,6 @@
 use Rattle.std.proofs.Common.{◌++◌, Option, map, sym, subst}
 use Rattle.name_rules.specs.Faults.{Fault}
-use Rattle.unit_names.specs.Shown.{fault_of}
+use Rattle.name_state.specs.UnitNames.Shown.{fault_of}
 use Rattle.unit_shapes.specs.Faults.{some_fault_of, IsFirstOf}
 use Rattle.unit_shapes.proofs.Keeping.{kept_on}
 use Rattle.unit_shapes.proofs.judge.keep_of_names.Goals as goal

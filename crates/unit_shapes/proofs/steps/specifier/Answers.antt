@@ -1,7 +1,7 @@
 use Rattle.std.proofs.Common.{sym, ◌∙◌, ap}
 use Rattle.std.proofs.lemmas.Result.{on_ok_weaker}
-use Rattle.shape_steps.specs.Steps as steps
-use Rattle.shape_stacks.specs.Views.{state_in}
+use Rattle.name_rules.specs.ShapeSteps.Steps as steps
+use Rattle.expr_shapes.specs.ShapeStacks.Views.{state_in}
 use Rattle.unit_shapes.proofs.steps.specifier.Goals as goal
 
 pub returns-in-SpecsEnd : goal.returns-in-SpecsEnd

@@ -1,6 +1,6 @@
 use Rattle.std.proofs.Common.{sym, ◌∙◌, ap}
-use Rattle.shape_steps.specs.Steps as steps
-use Rattle.shape_stacks.specs.Views.{state_in}
+use Rattle.name_rules.specs.ShapeSteps.Steps as steps
+use Rattle.expr_shapes.specs.ShapeStacks.Views.{state_in}
 use Rattle.unit_shapes.proofs.steps.statement.Goals as goal
 
 pub returns-in-Loud : goal.returns-in-Loud

@@ -3,9 +3,9 @@ use Rattle.std.proofs.lemmas.Result.{on_ok_weaker}
 use Rattle.type_table.specs.Types.{CType}
 use Rattle.name_rules.specs.Spellings.{place}
 use Rattle.name_rules.specs.Uses.{type_named_at}
-use Rattle.shape_steps.specs.State as states
-use Rattle.shape_stacks.specs.Views.{state_in}
-use Rattle.unit_spelling.specs.Spelled.{spelling_of}
+use Rattle.name_rules.specs.ShapeSteps.State as states
+use Rattle.expr_shapes.specs.ShapeStacks.Views.{state_in}
+use Rattle.name_tables.specs.UnitSpelling.Spelled.{spelling_of}
 use Rattle.unit_shapes.specs.Views.{names_in}
 use Rattle.unit_shapes.proofs.steps.type_name.Goals as goal
 

@@ -1,5 +1,5 @@
-use Rattle.shape_steps.specs.Steps.{chosen}
-use Rattle.shape_stacks.specs.Views.{state_in}
+use Rattle.name_rules.specs.ShapeSteps.Steps.{chosen}
+use Rattle.expr_shapes.specs.ShapeStacks.Views.{state_in}
 use Rattle.unit_starts.proofs.expressions.choice.Goals as goal
 
 pub returns : goal.returns

@@ -1,7 +1,7 @@
 use Rattle.std.proofs.Common.{sym, ◌∙◌, ap}
-use Rattle.row_steps.specs.Starting.{form_op_starts}
-use Rattle.shape_stacks.specs.Views.{state_in}
-use Rattle.unit_spelling.specs.Spelled.{spelling_of}
+use Rattle.row_rules.specs.RowSteps.Starting.{form_op_starts}
+use Rattle.expr_shapes.specs.ShapeStacks.Views.{state_in}
+use Rattle.name_tables.specs.UnitSpelling.Spelled.{spelling_of}
 use Rattle.unit_shapes.specs.Views.{names_in}
 use Rattle.unit_starts.proofs.Fresh.{fresh_choice, fresh_selection}
 use Rattle.unit_starts.proofs.expressions.form.Goals as goal

@@ -1,6 +1,6 @@
 use Rattle.std.proofs.Common.{map, refl}
-use Rattle.shape_stacks.specs.Views.{state_in}
-use Rattle.unit_spelling.specs.Spelled.{spelling_of}
+use Rattle.expr_shapes.specs.ShapeStacks.Views.{state_in}
+use Rattle.name_tables.specs.UnitSpelling.Spelled.{spelling_of}
 use Rattle.unit_shapes.specs.Views.{names_in}
 use Rattle.unit_starts.specs.Views.{start_in}
 use Rattle.unit_starts.proofs.Selecting.{at_first, at_next, at_last, begun_next, begun_last}

@@ -1,8 +1,8 @@
 use Rattle.std.proofs.Common.{◌<◌, ◌-◌, ◌∷◌, ◌++◌, [], ◌∙◌, ap, List, Bool}
 use Rattle.row_rules.specs.Starting.{candidate_flags}
-use Rattle.shape_stacks.specs.Views.{state_in}
-use Rattle.shape_steps.specs.State.{value_at}
-use Rattle.shape_steps.specs.Steps.{associations, twice}
+use Rattle.expr_shapes.specs.ShapeStacks.Views.{state_in}
+use Rattle.name_rules.specs.ShapeSteps.State.{value_at}
+use Rattle.name_rules.specs.ShapeSteps.Steps.{associations, twice}
 use Rattle.unit_starts.proofs.Selecting.{flags_next}
 use Rattle.unit_starts.proofs.starts.selection.Goals as goal
 

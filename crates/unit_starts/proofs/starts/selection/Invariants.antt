@@ -1,9 +1,9 @@
 use Rattle.std.proofs.Common.{◌≡◌, ◌++◌}
 use Rattle.name_rules.specs.Values.{has_of_type}
 use Rattle.row_rules.specs.Starting.{candidate_flags}
-use Rattle.shape_stacks.specs.Views.{state_in}
-use Rattle.shape_steps.specs.State.{value_at}
-use Rattle.shape_steps.specs.Steps.{associations, twice}
+use Rattle.expr_shapes.specs.ShapeStacks.Views.{state_in}
+use Rattle.name_rules.specs.ShapeSteps.State.{value_at}
+use Rattle.name_rules.specs.ShapeSteps.Steps.{associations, twice}
 use Rattle.unit_starts.specs.Selecting.{selection_row}
 use Rattle.unit_starts.proofs.starts.selection.Given as goal
 

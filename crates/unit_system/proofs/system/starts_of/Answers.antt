@@ -1,8 +1,8 @@
 use Rattle.std.proofs.Common.{◌≡◌, ◌++◌, List, map, ap, subst}
-use Rattle.row_steps.specs.Starting.{unit_starts, selections_found}
-use Rattle.shape_steps.specs.State.{nothing}
+use Rattle.row_rules.specs.RowSteps.Starting.{unit_starts, selections_found}
+use Rattle.name_rules.specs.ShapeSteps.State.{nothing}
 use Rattle.unit_shapes.specs.Views.{names_in}
-use Rattle.unit_spelling.specs.Spelled.{spelling_of}
+use Rattle.name_tables.specs.UnitSpelling.Spelled.{spelling_of}
 use Rattle.unit_starts.specs.Selecting.{AddsSelections}
 use Rattle.unit_starts.specs.declared.start.Start.{Start}
 use Rattle.unit_starts.specs.Views.{start_in}

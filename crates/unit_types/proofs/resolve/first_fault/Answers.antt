@@ -4,9 +4,9 @@ use Rattle.type_table.specs.Rows.{type_of}
 use Rattle.tape_ops.specs.declared.op.Op.{Op}
 use Rattle.name_rules.specs.Faults.{Fault}
 use Rattle.name_rules.specs.Linking.{body_faults}
-use Rattle.shape_steps.specs.State.{nothing}
-use Rattle.shape_steps.specs.Found.{faults_found}
-use Rattle.unit_spelling.specs.Spelled.{spelling_of}
+use Rattle.name_rules.specs.ShapeSteps.State.{nothing}
+use Rattle.name_rules.specs.ShapeSteps.Found.{faults_found}
+use Rattle.name_tables.specs.UnitSpelling.Spelled.{spelling_of}
 use Rattle.unit_shapes.specs.Faults.{some_fault_of, IsFirstOf}
 use Rattle.unit_shapes.specs.Views.{names_in}
 use Rattle.unit_types.specs.declared.program.UnitTape.{UnitTape}

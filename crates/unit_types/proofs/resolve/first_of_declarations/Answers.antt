@@ -1,7 +1,7 @@
 use Rattle.std.proofs.Common.{◌++◌, List, map, ◌∙◌, ap, subst}
 use Rattle.name_rules.specs.Faults.{Fault}
-use Rattle.name_records.specs.declared.records.Fault as records
-use Rattle.unit_names.specs.Shown.{names_of, fault_of}
+use Rattle.name_tables.specs.declared.name_records.records.Fault as records
+use Rattle.name_state.specs.UnitNames.Shown.{names_of, fault_of}
 use Rattle.unit_shapes.specs.Faults.{some_fault_of, IsFirstOf}
 use Rattle.unit_types.proofs.resolve.first_of_declarations.Goals as goal
 

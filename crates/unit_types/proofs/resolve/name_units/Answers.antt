@@ -2,11 +2,11 @@ use Rattle.std.proofs.Common.{arith, ◌<◌, ◌≤◌, List, length, sym, ◌�
 use Rattle.std.proofs.lemmas.List.{drop_all}
 use Rattle.tape_ops.specs.declared.op.Op.{Op}
 use Rattle.name_rules.specs.Units.{no_names, unit_begun}
-use Rattle.name_steps.specs.State.{with_names}
-use Rattle.name_steps.specs.Steps.{run}
-use Rattle.name_steps.specs.Units.{tapes_named}
-use Rattle.unit_spelling.specs.Spelled.{spelling_of}
-use Rattle.unit_names.specs.Shown.{names_of}
+use Rattle.name_rules.specs.NameSteps.State.{with_names}
+use Rattle.name_rules.specs.NameSteps.Steps.{run}
+use Rattle.name_rules.specs.NameSteps.Units.{tapes_named}
+use Rattle.name_tables.specs.UnitSpelling.Spelled.{spelling_of}
+use Rattle.name_state.specs.UnitNames.Shown.{names_of}
 use Rattle.unit_shapes.proofs.Implicit.{implicit_grows}
 use Rattle.unit_types.specs.declared.program.UnitTape.{UnitTape}
 use Rattle.unit_types.specs.Resolved.{tapes_of}

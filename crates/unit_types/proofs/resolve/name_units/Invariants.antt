@@ -1,8 +1,8 @@
 use Rattle.std.proofs.Common.{◌≡◌, ℕ, drop}
 use Rattle.type_table.specs.Types.{CType}
-use Rattle.name_types.specs.Known.{Knows}
-use Rattle.name_steps.specs.Units.{tapes_named}
-use Rattle.unit_names.specs.Shown.{names_of}
+use Rattle.name_state.specs.NameTypes.Known.{Knows}
+use Rattle.name_rules.specs.NameSteps.Units.{tapes_named}
+use Rattle.name_state.specs.UnitNames.Shown.{names_of}
 use Rattle.c_names.specs.Shown.{AreShown}
 use Rattle.unit_shapes.specs.Views.{AreImplicit}
 use Rattle.unit_types.specs.Resolved.{tapes_of, names_on}

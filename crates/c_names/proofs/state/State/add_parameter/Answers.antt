@@ -1,7 +1,7 @@
 use Rattle.std.proofs.Common.{[], None, sym, ap, ◌∙◌}
 use Rattle.type_table.specs.Types.{base}
-use Rattle.name_steps.specs.Steps.{with_parameter}
-use Rattle.unit_spelling.specs.Spelled.{spelling_of}
+use Rattle.name_rules.specs.NameSteps.Steps.{with_parameter}
+use Rattle.name_tables.specs.UnitSpelling.Spelled.{spelling_of}
 use Rattle.c_names.specs.Parameters.{parameter_added}
 use Rattle.c_names.specs.Shown.{state_of}
 use Rattle.c_names.proofs.Low.{declared_low, knows_before}

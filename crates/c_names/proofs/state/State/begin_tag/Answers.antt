@@ -1,6 +1,6 @@
 use Rattle.std.proofs.Common.{sym, ap, ◌∙◌}
 use Rattle.std.proofs.lemmas.Result.{on_ok_weaker}
-use Rattle.name_steps.specs.Steps.{with_body}
+use Rattle.name_rules.specs.NameSteps.Steps.{with_body}
 use Rattle.c_names.specs.Shown.{state_of}
 use Rattle.c_names.proofs.state.State.begin_tag.Goals as goal
 

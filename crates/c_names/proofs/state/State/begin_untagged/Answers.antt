@@ -1,9 +1,9 @@
 use Rattle.std.proofs.Common.{Bool, sym, ap, ◌∙◌}
 use Rattle.std.proofs.lemmas.Result.{on_ok_weaker}
 use Rattle.name_rules.specs.Declaring.{untagged_begun}
-use Rattle.name_steps.specs.State.{State}
-use Rattle.name_steps.specs.Steps.{with_body}
-use Rattle.unit_names.specs.Shown.{names_of}
+use Rattle.name_rules.specs.NameSteps.State.{State}
+use Rattle.name_rules.specs.NameSteps.Steps.{with_body}
+use Rattle.name_state.specs.UnitNames.Shown.{names_of}
 use Rattle.c_names.specs.Shown.{state_of}
 use Rattle.c_names.proofs.state.State.begin_untagged.Goals as goal
 

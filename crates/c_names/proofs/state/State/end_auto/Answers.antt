@@ -4,10 +4,10 @@ use Rattle.type_table.specs.Rows.{type_of}
 use Rattle.name_rules.specs.Pieces.{bare}
 use Rattle.name_rules.specs.Values.{value}
 use Rattle.name_rules.specs.Identifiers.{type_or_base}
-use Rattle.name_steps.specs.State.{State}
-use Rattle.name_steps.specs.Steps.{part_ended, name_declared, shape_of_part}
-use Rattle.shape_values.specs.Views.{some_type, some_value_type, shape_in}
-use Rattle.unit_spelling.specs.Spelled.{spelling_of}
+use Rattle.name_rules.specs.NameSteps.State.{State}
+use Rattle.name_rules.specs.NameSteps.Steps.{part_ended, name_declared, shape_of_part}
+use Rattle.expr_shapes.specs.ShapeValues.Views.{some_type, some_value_type, shape_in}
+use Rattle.name_tables.specs.UnitSpelling.Spelled.{spelling_of}
 use Rattle.c_names.specs.Parts.{blamed, auto_declared}
 use Rattle.c_names.specs.Shown.{state_of}
 use Rattle.c_names.proofs.Low.{knows_before, shown_at}

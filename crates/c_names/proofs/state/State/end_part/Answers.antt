@@ -2,11 +2,11 @@ use Rattle.std.proofs.Common.{take, drop, ap, ◌∙◌}
 use Rattle.std.proofs.lemmas.Result.{IfOk-weaker}
 use Rattle.type_table.specs.Rows.{type_of}
 use Rattle.name_rules.specs.Scopes.{Names}
-use Rattle.name_steps.specs.State.{State}
-use Rattle.shape_steps.specs.State.{nothing, shape_at}
-use Rattle.shape_steps.specs.Steps.{run}
-use Rattle.unit_names.specs.Shown.{names_of}
-use Rattle.unit_spelling.specs.Spelled.{spelling_of}
+use Rattle.name_rules.specs.NameSteps.State.{State}
+use Rattle.name_rules.specs.ShapeSteps.State.{nothing, shape_at}
+use Rattle.name_rules.specs.ShapeSteps.Steps.{run}
+use Rattle.name_state.specs.UnitNames.Shown.{names_of}
+use Rattle.name_tables.specs.UnitSpelling.Spelled.{spelling_of}
 use Rattle.c_names.specs.Shown.{state_of}
 use Rattle.c_names.proofs.state.State.end_part.Goals as goal
 

@@ -2,10 +2,10 @@ use Rattle.std.proofs.Common.{take, option_map, refl, sym, ap, ◌∙◌}
 use Rattle.type_table.specs.Rows.{type_of}
 use Rattle.name_rules.specs.Pieces.{bare}
 use Rattle.name_rules.specs.Identifiers.{type_or_base}
-use Rattle.name_steps.specs.State.{State}
-use Rattle.name_steps.specs.Steps.{with_type, shape_of_part}
-use Rattle.shape_values.specs.Views.{some_type}
-use Rattle.unit_spelling.specs.Spelled.{spelling_of}
+use Rattle.name_rules.specs.NameSteps.State.{State}
+use Rattle.name_rules.specs.NameSteps.Steps.{with_type, shape_of_part}
+use Rattle.expr_shapes.specs.ShapeValues.Views.{some_type}
+use Rattle.name_tables.specs.UnitSpelling.Spelled.{spelling_of}
 use Rattle.c_names.specs.Parts.{blamed}
 use Rattle.c_names.specs.Shown.{state_of}
 use Rattle.c_names.proofs.Low.{knows_before}

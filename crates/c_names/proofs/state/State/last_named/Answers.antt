@@ -1,6 +1,6 @@
 use Rattle.std.proofs.Common.{None, option_map, sym, ap, ◌∙◌}
 use Rattle.std.specs.List.{last_or}
-use Rattle.unit_names.specs.Shown.{type_named_of}
+use Rattle.name_state.specs.UnitNames.Shown.{type_named_of}
 use Rattle.c_names.specs.Shown.{state_of}
 use Rattle.c_names.proofs.Ending.{last_get, map_last}
 use Rattle.c_names.proofs.state.State.last_named.Goals as goal

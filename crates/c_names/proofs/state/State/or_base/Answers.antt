@@ -1,7 +1,7 @@
 use Rattle.std.proofs.Common.{refl, sym, ap, ◌∙◌}
 use Rattle.type_table.specs.Rows.{type_of}
 use Rattle.name_rules.specs.Identifiers.{type_or_base}
-use Rattle.shape_values.specs.Views.{some_type}
+use Rattle.expr_shapes.specs.ShapeValues.Views.{some_type}
 use Rattle.c_names.proofs.state.State.or_base.Goals as goal
 
 pub returns-in-None-clause-made : goal.returns-in-None-clause-made

@@ -1,8 +1,8 @@
 use Rattle.std.proofs.Common.{arith, ◌≡◌, ◌+◌, ◌<◌, ℕ, length, take, subst, ap, ◌∙◌}
 use Rattle.type_table.specs.Types.{CType}
-use Rattle.name_types.specs.Known.{Knows}
-use Rattle.name_steps.specs.Steps.{names_step}
-use Rattle.unit_spelling.specs.Spelled.{spelling_of}
+use Rattle.name_state.specs.NameTypes.Known.{Knows}
+use Rattle.name_rules.specs.NameSteps.Steps.{names_step}
+use Rattle.name_tables.specs.UnitSpelling.Spelled.{spelling_of}
 use Rattle.unit_shapes.proofs.Implicit.{implicit_grows}
 use Rattle.c_names.specs.Shown.{state_of}
 use Rattle.c_names.proofs.Low.{knows_before, grows_twice, stepped, shown_after}

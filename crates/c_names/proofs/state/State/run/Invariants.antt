@@ -1,8 +1,8 @@
 use Rattle.std.proofs.Common.{◌≡◌, ℕ, [], drop, take}
 use Rattle.type_table.specs.Types.{CType}
-use Rattle.name_types.specs.Known.{Knows, Grows}
-use Rattle.name_steps.specs.Steps.{run}
-use Rattle.unit_spelling.specs.Spelled.{spelling_of}
+use Rattle.name_state.specs.NameTypes.Known.{Knows, Grows}
+use Rattle.name_rules.specs.NameSteps.Steps.{run}
+use Rattle.name_tables.specs.UnitSpelling.Spelled.{spelling_of}
 use Rattle.unit_shapes.specs.Views.{AreImplicit}
 use Rattle.c_names.specs.Shown.{state_of, IsShown}
 use Rattle.c_names.proofs.state.State.run.Given as goal

@@ -1,8 +1,8 @@
 use Rattle.std.proofs.Common.{take, sym, ap, ◌∙◌}
 use Rattle.std.proofs.lemmas.Result.{on_ok_weaker}
 use Rattle.name_rules.specs.Declaring.{untagged_begun}
-use Rattle.name_steps.specs.Steps.{specifier_step, with_body, without_tag, with_unnamed_member}
-use Rattle.unit_spelling.specs.Spelled.{spelling_of}
+use Rattle.name_rules.specs.NameSteps.Steps.{specifier_step, with_body, without_tag, with_unnamed_member}
+use Rattle.name_tables.specs.UnitSpelling.Spelled.{spelling_of}
 use Rattle.c_names.specs.Shown.{state_of}
 use Rattle.c_names.proofs.state.State.specifier.Goals as goal
 

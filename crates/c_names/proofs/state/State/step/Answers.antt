@@ -1,6 +1,6 @@
 use Rattle.std.proofs.Common.{sym, ap, take, ◌∙◌}
-use Rattle.name_steps.specs.Steps.{names_step}
-use Rattle.unit_spelling.specs.Spelled.{spelling_of}
+use Rattle.name_rules.specs.NameSteps.Steps.{names_step}
+use Rattle.name_tables.specs.UnitSpelling.Spelled.{spelling_of}
 use Rattle.c_names.specs.Shown.{state_of}
 use Rattle.c_names.proofs.state.State.step.Goals as goal
 

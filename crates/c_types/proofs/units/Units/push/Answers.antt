@@ -1,6 +1,6 @@
 use Rattle.std.proofs.Common.{◌≡◌, List, [], ◌∷◌, ◌++◌, refl, sym, ◌∙◌, subst}
 use Rattle.c_lexer.specs.Tokens.{Lexed}
-use Rattle.source_spelling.specs.Keys.{AreNamesOf}
+use Rattle.c_types.specs.SourceSpelling.Keys.{AreNamesOf}
 use Rattle.unit_types.specs.declared.program.UnitTape.{UnitTape}
 use Rattle.c_types.specs.Sources.{lexed_of}
 use Rattle.c_types.specs.Units.{all_but_last, AreParts}

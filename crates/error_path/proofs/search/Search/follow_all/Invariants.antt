@@ -7,10 +7,12 @@ use Rattle.error_path.proofs.search.Search.follow_all.Given as goal
 
 abbrev pub invariant-loop-next : goal.invariant-loop-next
 invariant-loop-next l = record {
-  good : (origin : Origin) → IsGood l.graph l.lattice origin l.summaries l.fn.self → IsGood l.graph l.lattice origin l.summaries l.self;
+  good : (origin : Origin) → IsGood l.graph l.lattice origin l.summaries l.fn.self
+      → IsGood l.graph l.lattice origin l.summaries l.self;
   grows : Grows l.fn.self l.self;
   there : (n : ℕ) → link_of l.next ≡ n + 1 → Crosses l.graph l.end n;
-  done : (n : ℕ) → link_of l.next ≤ n → IsRoundedFrom l.graph l.lattice l.summaries l.self l.front.phase l.call.site l.call.inner l.fn.last n;
+  done : (n : ℕ) → link_of l.next ≤ n
+      → IsRoundedFrom l.graph l.lattice l.summaries l.self l.front.phase l.call.site l.call.inner l.fn.last n;
 }
 
 abbrev pub decreases-loop-next : goal.decreases-loop-next

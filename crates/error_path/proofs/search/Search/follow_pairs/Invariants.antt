@@ -8,7 +8,8 @@ use Rattle.error_path.proofs.search.Search.follow_pairs.Given as goal
 
 abbrev pub invariant-loop-next : goal.invariant-loop-next
 invariant-loop-next l = record {
-  good : (origin : Origin) → IsGood l.graph l.lattice origin l.summaries l.fn.self → IsGood l.graph l.lattice origin l.summaries l.self;
+  good : (origin : Origin) → IsGood l.graph l.lattice origin l.summaries l.fn.self
+      → IsGood l.graph l.lattice origin l.summaries l.self;
   grows : Grows l.fn.self l.self;
   over : IsOver l.graph l.lattice l.summaries l.passed l.self;
   there : (n : ℕ) → link_of l.next ≡ n + 1 → slice_get (sources l.summaries) n ≡ Some l.call.inner;

@@ -6,7 +6,8 @@ use Rattle.error_path.proofs.search.Search.run.Given as goal
 
 abbrev pub invariant-loop-place : goal.invariant-loop-place
 invariant-loop-place l = record {
-  good : (origin : Origin) → IsGood l.graph l.lattice origin l.summaries l.fn.self → IsGood l.graph l.lattice origin l.summaries l.self;
+  good : (origin : Origin) → IsGood l.graph l.lattice origin l.summaries l.fn.self
+      → IsGood l.graph l.lattice origin l.summaries l.self;
   grows : Grows l.fn.self l.self;
   visited : (k : ℕ) → k < l.place → IsVisited l.graph l.lattice l.summaries l.self k;
   over : IsOver l.graph l.lattice l.summaries l.passed l.self;

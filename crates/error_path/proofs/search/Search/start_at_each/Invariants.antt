@@ -10,7 +10,9 @@ use Rattle.error_path.proofs.search.Search.start_at_each.Given as goal
 
 abbrev pub invariant-loop-n : goal.invariant-loop-n
 invariant-loop-n l = record {
-  good : (rows : List Summary) → IsGood l.graph l.lattice (Element l.elem) rows l.fn.self → IsGood l.graph l.lattice (Element l.elem) rows l.self;
+  good : (rows : List Summary) → IsGood l.graph l.lattice (Element l.elem) rows l.fn.self
+      → IsGood l.graph l.lattice (Element l.elem) rows l.self;
   grows : Grows l.fn.self l.self;
-  done : (k v : ℕ) → k < l.n → Stands l.graph l.lattice k (Const l.lattice l.elem v) → IsMarked l.self (settled (owner_of l.graph v) First) v;
+  done : (k v : ℕ) → k < l.n → Stands l.graph l.lattice k (Const l.lattice l.elem v)
+      → IsMarked l.self (settled (owner_of l.graph v) First) v;
 }

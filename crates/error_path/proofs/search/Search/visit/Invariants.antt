@@ -5,8 +5,10 @@ use Rattle.error_path.proofs.search.Search.visit.Given as goal
 
 abbrev pub invariant-loop-edge : goal.invariant-loop-edge
 invariant-loop-edge l = record {
-  good : (origin : Origin) → IsGood l.graph l.lattice origin l.summaries l.fn.self → IsGood l.graph l.lattice origin l.summaries l.self;
+  good : (origin : Origin) → IsGood l.graph l.lattice origin l.summaries l.fn.self
+      → IsGood l.graph l.lattice origin l.summaries l.self;
   grows : Grows l.fn.self l.self;
-  done : (k : ℕ) → k < l.edge-index → (other : ℕ) → IsFollowed l.graph l.lattice l.summaries l.self l.front.phase l.front.at (get_or l.edge-items k other);
+  done : (k : ℕ) → k < l.edge-index → (other : ℕ)
+      → IsFollowed l.graph l.lattice l.summaries l.self l.front.phase l.front.at (get_or l.edge-items k other);
   over : IsOver l.graph l.lattice l.summaries l.passed l.self;
 }

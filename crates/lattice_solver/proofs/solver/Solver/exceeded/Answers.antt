@@ -6,7 +6,8 @@ use Rattle.lattice_solver.proofs.Exceeding.{found_over, found_exceeds, found_non
 use Rattle.lattice_solver.proofs.solver.Solver.exceeded.Goals as goal
 
 -- the constraint is the bound that was found
-bound_stands : (c : goal.After-reached) → Stands c.args.graph.now c.args.self.now.lattice c.args.bound (Bound c.in_ok-limit.limit.at c.args.self.now.lattice c.in_ok-limit.limit.elem)
+bound_stands : (c : goal.After-reached)
+    → Stands c.args.graph.now c.args.self.now.lattice c.args.bound (Bound c.in_ok-limit.limit.at c.args.self.now.lattice c.in_ok-limit.limit.elem)
 bound_stands c =
     let named : c.self.inside.lattice ≡ c.args.self.now.lattice = ap (λ (s : Solution). s.lattice) c.self.view_is in
     record {
@@ -17,7 +18,8 @@ bound_stands c =
     }
 
 -- what was looked for among the elements that reach its variable
-looked : (c : goal.After-first_over) → MatchOption c.first_over.result (IsUnder c.args.graph.now c.args.self.now c.args.lattice.now.order c.args.bound) (Exceeds c.args.graph.now c.args.self.now c.args.lattice.now.order c.args.bound)
+looked : (c : goal.After-first_over)
+    → MatchOption c.first_over.result (IsUnder c.args.graph.now c.args.self.now c.args.lattice.now.order c.args.bound) (Exceeds c.args.graph.now c.args.self.now c.args.lattice.now.order c.args.bound)
 looked c =
     let limit = c.in_ok-limit.limit in
     let Found : ℕ → Type 0 = λ set. MatchOption c.first_over.result (AllUnder c.args.lattice.now.order set limit.elem) (IsOver c.args.lattice.now.order set limit.elem) in

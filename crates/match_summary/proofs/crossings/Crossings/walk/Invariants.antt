@@ -5,9 +5,11 @@ use Rattle.match_summary.proofs.crossings.Crossings.walk.Given as goal
 
 abbrev pub invariant-loop-next : goal.invariant-loop-next
 invariant-loop-next l = record {
-  there : (n : ℕ) → link_of l.next ≡ n + 1 → slice_get (buckets_in l.self.count l.graph.constraints) n ≡ Some (bucket_at l.self.count l.end.way l.end.site l.end.at);
+  there : (n : ℕ) → link_of l.next ≡ n + 1
+      → slice_get (buckets_in l.self.count l.graph.constraints) n ≡ Some (bucket_at l.self.count l.end.way l.end.site l.end.at);
   within : link_of l.next ≤ link_of l.fn.from;
-  passed : (bound n : ℕ) → IsLink (buckets_in l.self.count l.graph.constraints) (bucket_at l.self.count l.end.way l.end.site l.end.at) bound (link_of l.fn.from) →
+  passed : (bound n : ℕ)
+      → IsLink (buckets_in l.self.count l.graph.constraints) (bucket_at l.self.count l.end.way l.end.site l.end.at) bound (link_of l.fn.from) →
       link_of l.next ≤ n → n < bound → Crosses l.graph l.end n → ⊥;
 }
 

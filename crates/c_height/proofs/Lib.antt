@@ -1,2 +1,0 @@
-mod HeightLemmas
-mod ListHeights

@@ -1,0 +1,15 @@
+use Rattle.std.proofs.Common.{refl}
+use Rattle.definition_examples.proofs.type_examples.laws.examples_of_several_hold.Goals as goal
+
+pub returns : goal.returns
+returns c = (
+  (refl, refl, refl, refl),
+  (refl, refl, refl, refl),
+  (refl, refl, refl),
+  refl,
+  refl,
+  (refl, refl, refl, refl),
+  (refl, refl, refl, refl),
+  (refl, refl, refl, refl),
+  (refl, refl),
+)

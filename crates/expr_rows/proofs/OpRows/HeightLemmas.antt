@@ -1,0 +1,1 @@
+-- Numbers that are kept at most 2^32 - 1.

@@ -1,6 +1,0 @@
-mod CopyTests
-mod Rising
-mod Low
-mod Changes
-mod Longer
-mod Answering

@@ -1,6 +1,0 @@
-use Rattle.std.proofs.Common.{refl}
-use Rattle.flow_unfolding.proofs.Changes.{last-push}
-use Rattle.flow_unfolding.proofs.assignment.Assignment.set.Goals as goal
-
-pub returns : goal.returns
-returns c = λ v w. rw (c.in_ok-push.ensures.items, last-push, c.in_ok-sites.ensures) refl

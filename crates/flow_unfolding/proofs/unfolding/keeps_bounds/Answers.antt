@@ -1,5 +1,0 @@
-use Rattle.std.proofs.Common.{arith}
-use Rattle.flow_unfolding.proofs.unfolding.keeps_bounds.Goals as goal
-
-pub returns : goal.returns
-returns c n low = c.loop-bound.invariant n (omega (arith, low, c.loop-bound-test.false, c.len-bound-end.ensures.length))

@@ -1,6 +1,0 @@
-use Rattle.flow_unfolding.specs.Assignment.{map_of}
-use Rattle.flow_unfolding.specs.Meeting.{IsLow}
-use Rattle.flow_unfolding.proofs.unfolding.raise_all.Given as goal
-
-abbrev pub invariant-loop : goal.invariant-loop
-invariant-loop l = IsLow l.graph l.lattice_no l.lattice.order l.depth (map_of l.map)

@@ -1,4 +1,0 @@
-use Rattle.found_names.proofs.found.FoundNames.new.Goals as goal
-
-pub invariant_of-result : goal.invariant_of-result
-invariant_of-result c = record { links = λ t at. c.in_ok-links.ensures t at }

@@ -1,4 +1,0 @@
-mod Counts
-mod Parts
-mod Trees
-mod Units

@@ -1,6 +1,0 @@
-//! Laws of the tokens at which the ops of a tape stand.
-#![tactic(auto)]
-
-mod laws;
-
-pub use laws::{keys_differ, tokens_are_once};

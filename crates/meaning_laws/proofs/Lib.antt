@@ -1,5 +1,0 @@
-mod Changes
-pub mod Growing
-mod Links
-pub mod Lists
-mod Tapes

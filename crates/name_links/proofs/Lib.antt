@@ -1,7 +1,0 @@
-mod Adding
-mod Earliest
-mod Found
-mod Known
-mod Lists
-mod Tests
-mod Things

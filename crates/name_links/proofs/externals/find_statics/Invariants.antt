@@ -1,6 +1,0 @@
-use Rattle.std.proofs.Common.{take, reverse}
-use Rattle.name_links.specs.Tables.{AreStatics}
-use Rattle.name_links.proofs.externals.find_statics.Given as goal
-
-abbrev pub invariant-loop-it : goal.invariant-loop-it
-invariant-loop-it l = AreStatics (reverse (take l.it-index l.statics)) l.known

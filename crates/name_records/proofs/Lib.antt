@@ -1,4 +1,0 @@
-mod Added
-mod Changed
-mod Firsts
-mod Members

@@ -1,7 +1,0 @@
-use Rattle.name_records.proofs.Added.{body_added}
-use Rattle.name_records.proofs.bodies.Bodies.push.Goals as goal
-
-pub invariant_of-self-in-Ok-insert : goal.invariant_of-self-in-Ok-insert
-invariant_of-self-in-Ok-insert c =
-    body_added c.push.new.self.items c.self.inside.all.items c.args.body.now c.self.inside.known c.insert.new.self tt
-    c.in-Ok.ensures.items c.self.invariant c.in-Ok-insert.ensures.updates.0

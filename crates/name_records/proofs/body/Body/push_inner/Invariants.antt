@@ -1,9 +1,0 @@
-use Rattle.std.proofs.Common.{◌≡◌, ◌++◌, drop}
-use Rattle.name_records.specs.Bodies.{lying_in}
-use Rattle.name_records.proofs.body.Body.push_inner.Given as goal
-
-abbrev pub invariant-loop-known : goal.invariant-loop-known
-invariant-loop-known l =
-    (l.self-inside.known.items ++ lying_in l.own (drop l.known-index l.inner) ≡ l.initial.self-inside.known.items
-    ++ lying_in l.own l.inner)
-    × (l.self-inside.own.items ≡ l.initial.self-inside.own.items)

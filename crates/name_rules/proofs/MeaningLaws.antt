@@ -1,0 +1,5 @@
+pub mod Changes
+pub mod Growing
+pub mod Links
+pub mod Lists
+pub mod Tapes

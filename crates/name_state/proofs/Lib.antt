@@ -1,0 +1,4 @@
+pub mod NameTypes
+pub mod UnitNames
+pub mod NameUses
+pub mod NameLinks

@@ -1,0 +1,5 @@
+pub mod Begun
+pub mod Finding
+pub mod Knowing
+pub mod Sharing
+pub mod Views

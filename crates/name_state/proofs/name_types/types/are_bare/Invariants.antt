@@ -1,0 +1,7 @@
+use Rattle.std.proofs.Common.{◌≡◌, drop, map}
+use Rattle.name_state.specs.NameTypes.Known.{bare_at}
+use Rattle.name_state.proofs.name_types.types.are_bare.Given as goal
+
+abbrev pub invariant-loop-ty : goal.invariant-loop-ty
+invariant-loop-ty l =
+    map (bare_at l.bare) (drop l.ty-index l.types) ≡ drop l.ty-index l.types → map (bare_at l.bare) l.types ≡ l.types

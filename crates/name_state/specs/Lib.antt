@@ -1,0 +1,5 @@
+pub mod NameTypes
+pub mod UnitNames
+pub mod NameUses
+pub mod NameLinks
+pub mod FoundNames

@@ -1,0 +1,4 @@
+pub mod NameScopes
+pub mod PlaceMap
+pub mod PlaceFlags
+pub mod NameRecords

@@ -1,0 +1,4 @@
+pub mod Added
+pub mod Changed
+pub mod Firsts
+pub mod Members

@@ -1,0 +1,4 @@
+pub mod Cells
+pub mod Adding
+pub mod Firsts
+pub mod Placing

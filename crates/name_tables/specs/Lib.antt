@@ -1,0 +1,5 @@
+pub mod NameScopes
+pub mod PlaceMap
+pub mod PlaceFlags
+pub mod NameRecords
+pub mod UnitSpelling

@@ -1,8 +1,0 @@
-use Rattle.std.proofs.Common.{arith}
-use Rattle.name_types.proofs.Knowing.{parts_more}
-use Rattle.name_types.proofs.types.Types.with_words.Goals as goal
-
-pub add-requires : goal.add-requires
-add-requires c =
-    c.in_ok-shape.ensures.parts _
-    (parts_more c.args.ty _ c.shape.result.now (let low = c.requires in omega arith) c.shape.ensures.low)

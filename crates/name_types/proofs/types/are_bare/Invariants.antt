@@ -1,7 +1,0 @@
-use Rattle.std.proofs.Common.{◌≡◌, drop, map}
-use Rattle.name_types.specs.Known.{bare_at}
-use Rattle.name_types.proofs.types.are_bare.Given as goal
-
-abbrev pub invariant-loop-ty : goal.invariant-loop-ty
-invariant-loop-ty l =
-    map (bare_at l.bare) (drop l.ty-index l.types) ≡ drop l.ty-index l.types → map (bare_at l.bare) l.types ≡ l.types

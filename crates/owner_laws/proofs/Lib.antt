@@ -1,6 +1,0 @@
-mod Fitting
-mod Indexing
-pub mod Instances
-mod Intervals
-mod Rows
-mod Sites

@@ -1,6 +1,0 @@
-use Rattle.owner_laws.proofs.Fitting.{fitting_is_well_owned, lists_fit, staying_fits, leading_fits}
-use Rattle.owner_laws.proofs.laws.fitting_is_well_owned.Goals as goal
-
-pub returns : goal.returns
-returns c =
-    record { whole = fitting_is_well_owned; lists = lists_fit; flows = staying_fits; calls = leading_fits }

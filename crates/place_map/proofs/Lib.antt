@@ -1,4 +1,0 @@
-mod Cells
-pub mod Adding
-pub mod Firsts
-mod Placing

@@ -1,9 +1,0 @@
-//! A number or a value at each of some places of a program.
-#![tactic(auto)]
-
-mod index;
-mod map;
-mod row;
-
-pub use index::PlaceIndex;
-pub use map::PlaceMap;

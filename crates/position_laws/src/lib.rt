@@ -1,7 +1,0 @@
-//! Where the variables of a program stand: the positions of its skeletons one behind the other, and the law that a variable of a table
-//! that was made of them has no other position (Foster et al. 2006, qualified types).
-#![tactic(auto)]
-
-mod laws;
-
-pub use laws::{positions_are_counted, positions_stand};

@@ -1,5 +1,0 @@
-mod NoUnit
-mod Refused
-mod Trees
-mod WiderRefused
-mod WiderTrees

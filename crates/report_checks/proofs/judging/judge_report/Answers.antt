@@ -1,9 +1,0 @@
-use Rattle.lattice_core.specs.View.{orders_of}
-use Rattle.std.proofs.lemmas.Result.{IfOk-weaker}
-use Rattle.report_checks.proofs.Unique.{comes_to_one}
-use Rattle.report_checks.proofs.judging.judge_report.Goals as goal
-
-pub returns-clause-only : goal.returns-clause-only
-returns-clause-only c =
-    let a = c.args in
-    IfOk-weaker c.judge.result _ _ (λ checked comes other is. comes_to_one a.graph.now (orders_of a.lattices.now) a.bytes.now checked other comes is) c.judge.ensures.is

@@ -1,0 +1,11 @@
+pub mod Agreeing
+pub mod Forms
+pub mod Identified
+pub mod Items
+pub mod Pieces
+pub mod Running
+pub mod Saying
+pub mod Sources
+pub mod Storage
+pub mod Typing
+pub mod Whole

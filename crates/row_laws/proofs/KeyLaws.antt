@@ -1,0 +1,4 @@
+pub mod Counts
+pub mod Parts
+pub mod Trees
+pub mod Units

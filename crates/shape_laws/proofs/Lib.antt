@@ -1,8 +1,0 @@
-mod Goes
-mod Idle
-mod Parts
-mod Rules
-mod Stacks
-mod Trees
-mod Units
-mod Weights

@@ -1,2 +1,0 @@
-mod Candidates
-mod Pointers

@@ -1,9 +1,0 @@
-use Rattle.std.proofs.Common.{◌∙◌, ap}
-use Rattle.std.proofs.lemmas.Result.{on_ok_weaker}
-use Rattle.row_steps.specs.Steps as steps
-use Rattle.skel_stacks.proofs.stacks.Stacks.pass_item.Goals as goal
-
-pub returns : goal.returns
-returns c =
-    on_ok_weaker c.replace_braces.result (λ replaced t. replaced t steps.with_item
-    (c.passed-next.ensures t ∙ ap steps.with_item (c.braces-it.ensures t))) c.replace_braces.ensures

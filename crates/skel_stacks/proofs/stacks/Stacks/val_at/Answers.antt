@@ -1,8 +1,0 @@
-use Rattle.std.proofs.Common.{◌∙◌, ap}
-use Rattle.row_steps.specs.State as states
-use Rattle.skel_stacks.specs.Views.{tables}
-use Rattle.skel_stacks.proofs.stacks.Stacks.val_at.Goals as goal
-
-pub returns : goal.returns
-returns c =
-    λ types. c.val.ensures types ∙ ap states.val_of_operand (c.operand_at.ensures (tables c.args.vars.now types))

@@ -1,8 +1,0 @@
-use Rattle.source_marks.proofs.Marking.{without_mark, mark_read}
-use Rattle.std.proofs.Common.{Some, None, ◌∙◌, ap}
-use Rattle.source_marks.proofs.reading.add_mark.Goals as goal
-
-pub returns-in-None : goal.returns-in-None
-returns-in-None c =
-    without_mark c.args.tokens.now c.args.token c.args.found.now
-    (mark_read c.args.tokens.now c.args.token None (c.mark_of.ensures ∙ ap Some c.in-None.is))

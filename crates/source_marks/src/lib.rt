@@ -1,6 +1,0 @@
-//! What the annotation words of a unit name: a lattice and an element for each.
-#![tactic(auto)]
-
-mod reading;
-
-pub use reading::add_marks;

@@ -1,9 +1,0 @@
-use Rattle.source_spelling.proofs.Reading.{spelled_is}
-use Rattle.source_spelling.proofs.source.spelling_behind.Goals as goal
-
-pub returns : goal.returns
-returns c =
-    λ units are.
-    spelled_is units c.args.tokens.now c.unit.result c.is_wide.result c.in_ok-annotates.annotates.items c.in_ok-is_naught.is_naught.items
-    c.in_ok-keys.keys.items c.unit.ensures c.is_wide.ensures c.in_ok-annotates.ensures c.in_ok-is_naught.ensures
-    (c.in_ok-keys.ensures units are)

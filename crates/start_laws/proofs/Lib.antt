@@ -1,7 +1,0 @@
-mod Found
-mod Idle
-mod Parts
-mod Selections
-mod States
-mod Trees
-mod Units

@@ -1,5 +1,0 @@
-use Rattle.start_laws.proofs.Units.{starts_are_found}
-use Rattle.start_laws.proofs.laws.starts_are_found.Goals as goal
-
-pub returns : goal.returns
-returns c = starts_are_found c.shapes_are_left.ensures c.addressed_are_left.ensures c.old_names_are_left.ensures

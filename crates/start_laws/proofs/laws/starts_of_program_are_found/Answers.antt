@@ -1,5 +1,0 @@
-use Rattle.start_laws.proofs.Units.{starts_of_program_are_found}
-use Rattle.start_laws.proofs.laws.starts_of_program_are_found.Goals as goal
-
-pub returns : goal.returns
-returns c = starts_of_program_are_found c.starts_are_found.ensures

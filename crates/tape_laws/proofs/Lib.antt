@@ -1,3 +1,0 @@
-mod Passing
-mod Trees
-pub mod Turns

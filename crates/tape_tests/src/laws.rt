@@ -1,8 +1,0 @@
-//! What the definition of tapes says of the examples.
-
-ghost use Rattle.tape_tests.specs.Examples.{TapesOfExamples};
-
-/// The tape of each example is the one that was worked out for it.
-pub fn tapes_of_examples()
-    ensures { TapesOfExamples }
-{}

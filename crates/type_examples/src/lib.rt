@@ -1,7 +1,0 @@
-//! Small sources whose names, types and first faults were worked out elsewhere: what the definitions say of each is computed
-//! by the checker.
-#![tactic(auto)]
-
-mod laws;
-
-pub use laws::{examples_hold, examples_of_several_hold, wider_examples_hold};

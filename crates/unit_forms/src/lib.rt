@@ -1,9 +1,0 @@
-//! Readers of the items of a unit (C99, 6.9), over readers of the parts inside.
-#![tactic(auto)]
-
-mod declared;
-mod functions;
-mod old;
-mod units;
-
-pub use units::{item, items};

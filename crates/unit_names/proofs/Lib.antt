@@ -1,5 +1,0 @@
-mod Begun
-mod Finding
-mod Knowing
-mod Sharing
-mod Views

@@ -1,8 +1,0 @@
-use Rattle.std.proofs.Common.{◌≡◌, ◌++◌, drop, reverse}
-use Rattle.unit_names.specs.Shared.{shared}
-use Rattle.unit_names.proofs.shared.share_all.Given as goal
-
-abbrev pub invariant-loop-it : goal.invariant-loop-it
-invariant-loop-it l =
-    shared l.declared (reverse (drop l.it-index l.names)) ++ l.round
-    ≡ shared l.declared (reverse l.names) ++ l.initial.round

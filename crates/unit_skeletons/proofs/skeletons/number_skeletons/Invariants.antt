@@ -1,9 +1,0 @@
-use Rattle.std.proofs.Common.{drop, map}
-use Rattle.unit_starts.specs.Views.{start_in}
-use Rattle.unit_skeletons.specs.Found.{IsNumbering}
-use Rattle.unit_skeletons.proofs.skeletons.number_skeletons.Given as goal
-
-abbrev pub invariant-loop-start : goal.invariant-loop-start
-invariant-loop-start l =
-    IsNumbering l.it.vars l.it.starts (map (start_in l.types) (drop l.start-index l.starts))
-    (map (start_in l.types) l.starts)

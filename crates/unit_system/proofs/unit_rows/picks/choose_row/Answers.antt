@@ -1,0 +1,31 @@
+use Rattle.std.proofs.Common.{◌++◌}
+use Rattle.unit_system.specs.UnitRows.Picking.{picking_row}
+use Rattle.row_rules.specs.Worlds.{span}
+use Rattle.row_rules.specs.Vals as vals
+use Rattle.row_rules.specs.Rows as rows
+use Rattle.row_rules.specs.RowSteps.Steps as steps
+use Rattle.skel_steps.specs.Stepping.{state_of}
+use Rattle.unit_system.proofs.UnitRows.RowLists.{Same, row_added, row_halted, none_added}
+use Rattle.unit_system.proofs.UnitRows.Picking.{fresh_row, no_row}
+use Rattle.unit_system.proofs.unit_rows.picks.choose_row.Goals as goal
+
+pub returns-then-is_fresh : goal.returns-then-is_fresh
+returns-then-is_fresh c =
+    let k = c.args.known.now in
+    let st = state_of k c.args.stacks.now in
+    let same : Same k (λ w. rows.formed_here w c.args.token ++ picking_row w c.args.token (steps.chosen st)) (λ w. rows.picked w (vals.left_of (steps.chosen st)) (vals.own w c.args.token) (span w c.args.token c.args.token)) = λ w shows. fresh_row w c.args.token (steps.chosen st) c.is_fresh.result c.if-is_fresh.true
+    (c.is_fresh.ensures k.vars.now (steps.chosen st) (c.chosen-picked.ensures)) in
+    record {
+      ok = row_added c.fresh_choice.result k c.args.graph.now c.fresh_choice.new.graph _ _ same c.fresh_choice.ensures.ok;
+      err = row_halted c.fresh_choice.result k c.args.graph.now c.fresh_choice.new.graph _ _ same c.fresh_choice.ensures.err;
+    }
+
+pub returns-else-is_fresh : goal.returns-else-is_fresh
+returns-else-is_fresh c =
+    let k = c.args.known.now in
+    let st = state_of k c.args.stacks.now in
+    record {
+      ok = none_added k c.args.graph.now _ (λ w shows. no_row w c.args.token (steps.chosen st) c.is_fresh.result c.if-is_fresh.false
+          (c.is_fresh.ensures k.vars.now (steps.chosen st) (c.chosen-picked.ensures)));
+      err = tt;
+    }

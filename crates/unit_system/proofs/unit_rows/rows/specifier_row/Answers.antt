@@ -1,0 +1,96 @@
+use Rattle.std.proofs.Common.{sym, ap}
+use Rattle.row_rules.specs.RowSteps.OpRows as op_rows
+use Rattle.unit_system.proofs.UnitRows.RowLists.{row_added, row_halted, none_added}
+use Rattle.unit_system.proofs.unit_rows.rows.specifier_row.Goals as goal
+
+pub returns-in-Word : goal.returns-in-Word
+returns-in-Word c = record {
+  ok = none_added c.args.known.now c.args.graph.now _ (λ w shows. ap (op_rows.spec_row w) c.in-Word.is);
+  err = tt;
+}
+
+pub returns-in-Storage : goal.returns-in-Storage
+returns-in-Storage c = record {
+  ok = none_added c.args.known.now c.args.graph.now _ (λ w shows. ap (op_rows.spec_row w) c.in-Storage.is);
+  err = tt;
+}
+
+pub returns-in-Void : goal.returns-in-Void
+returns-in-Void c = record {
+  ok = none_added c.args.known.now c.args.graph.now _ (λ w shows. ap (op_rows.spec_row w) c.in-Void.is);
+  err = tt;
+}
+
+pub returns-in-Typedef : goal.returns-in-Typedef
+returns-in-Typedef c = record {
+  ok = none_added c.args.known.now c.args.graph.now _ (λ w shows. ap (op_rows.spec_row w) c.in-Typedef.is);
+  err = tt;
+}
+
+pub returns-in-TagUse : goal.returns-in-TagUse
+returns-in-TagUse c = record {
+  ok = none_added c.args.known.now c.args.graph.now _ (λ w shows. ap (op_rows.spec_row w) c.in-TagUse.is);
+  err = tt;
+}
+
+pub returns-in-TagAlone : goal.returns-in-TagAlone
+returns-in-TagAlone c = record {
+  ok = none_added c.args.known.now c.args.graph.now _ (λ w shows. ap (op_rows.spec_row w) c.in-TagAlone.is);
+  err = tt;
+}
+
+pub returns-in-TagBody : goal.returns-in-TagBody
+returns-in-TagBody c = record {
+  ok = none_added c.args.known.now c.args.graph.now _ (λ w shows. ap (op_rows.spec_row w) c.in-TagBody.is);
+  err = tt;
+}
+
+pub returns-in-Untagged : goal.returns-in-Untagged
+returns-in-Untagged c = record {
+  ok = none_added c.args.known.now c.args.graph.now _ (λ w shows. ap (op_rows.spec_row w) c.in-Untagged.is);
+  err = tt;
+}
+
+pub returns-in-BodyEnd : goal.returns-in-BodyEnd
+returns-in-BodyEnd c = record {
+  ok = none_added c.args.known.now c.args.graph.now _ (λ w shows. ap (op_rows.spec_row w) c.in-BodyEnd.is);
+  err = tt;
+}
+
+pub returns-in-Enumerator : goal.returns-in-Enumerator
+returns-in-Enumerator c = record {
+  ok = none_added c.args.known.now c.args.graph.now _ (λ w shows. ap (op_rows.spec_row w) c.in-Enumerator.is);
+  err = tt;
+}
+
+pub returns-in-SpecsEnd : goal.returns-in-SpecsEnd
+returns-in-SpecsEnd c = record {
+  ok = none_added c.args.known.now c.args.graph.now _ (λ w shows. ap (op_rows.spec_row w) c.in-SpecsEnd.is);
+  err = tt;
+}
+
+pub returns-in-UnnamedMember : goal.returns-in-UnnamedMember
+returns-in-UnnamedMember c =
+    let k = c.args.known.now in
+    record {
+      ok = row_added c.form_here.result k c.args.graph.now c.form_here.new.graph _ _ (λ w shows. ap (op_rows.spec_row w) (sym c.in-UnnamedMember.is)) c.form_here.ensures.ok;
+      err = row_halted c.form_here.result k c.args.graph.now c.form_here.new.graph _ _ (λ w shows. ap (op_rows.spec_row w) (sym c.in-UnnamedMember.is)) c.form_here.ensures.err;
+    }
+
+pub returns-in-PartBegin : goal.returns-in-PartBegin
+returns-in-PartBegin c = record {
+  ok = none_added c.args.known.now c.args.graph.now _ (λ w shows. ap (op_rows.spec_row w) c.in-PartBegin.is);
+  err = tt;
+}
+
+pub returns-in-TypeofEnd : goal.returns-in-TypeofEnd
+returns-in-TypeofEnd c = record {
+  ok = none_added c.args.known.now c.args.graph.now _ (λ w shows. ap (op_rows.spec_row w) c.in-TypeofEnd.is);
+  err = tt;
+}
+
+pub returns-in-TypeEnd : goal.returns-in-TypeEnd
+returns-in-TypeEnd c = record {
+  ok = none_added c.args.known.now c.args.graph.now _ (λ w shows. ap (op_rows.spec_row w) c.in-TypeEnd.is);
+  err = tt;
+}
