@@ -12,7 +12,7 @@ ghost use Rattle.row_world.specs.Shown.{Shows, skel, type};
 
 use crate::known::Known;
 use crate::skels::{contents, nowhere};
-use name_records as records;
+use name_tables::name_records as records;
 use name_tables::name_records::{Declared, Own, Role};
 use qual_base::{NameId, NoMemory, SkelId, StructId, TokenId};
 

@@ -17,7 +17,7 @@ use crate::op_faults::note_faults;
 use crate::steps::step;
 use crate::uses::ImplicitTypes;
 use expr_shapes::shape_stacks::Stacks;
-use name_records as records;
+use name_tables::name_records as records;
 use name_state::unit_names::Names;
 use name_tables::unit_spelling::Spelling;
 use qual_base::NoMemory;
