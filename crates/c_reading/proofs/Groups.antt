@@ -23,9 +23,8 @@ use Rattle.c_reading.proofs.Forms.{Falls, Shrinks, IsSound, IsComplete, always, 
 use Rattle.c_reading.proofs.KindFacts.{open_paren_kind}
 use Rattle.c_reading.proofs.Aims.{group_form}
 
--- one bracket read
-
-bracket_shrinks : TurnShrinks bracket_turn
+-- one bracket read takes a token
+pub bracket_shrinks : TurnShrinks bracket_turn
 bracket_shrinks state s ts x e = by_brackets state.brackets ts e
   where
     by_inside : (i : Inside) (b : Bracket) (bs : List Bracket) (t : Lexeme) (ts : List Lexeme)

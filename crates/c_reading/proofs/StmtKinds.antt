@@ -230,3 +230,25 @@ word_no_colon all numbered (qualifier (quals.Word w)) k h = refl
 word_no_colon all numbered (qualifier (quals.Index token)) k h = refl
 word_no_colon all numbered (enum_type (enum_of keyword attrs tag body)) k h = refl
 word_no_colon all numbered w k h = refl
+
+-- only a name begins a statement as a name does
+pub start_name : (kind : TokenKind) (name : ℕ) → stmt_start kind ≡ starts.Name name → kind ≡ kinds.Name name
+start_name (kinds.Name n) name e = cc
+start_name (kinds.Punct puncts.OpenBrace) name e = absurd cc
+start_name (kinds.Punct puncts.Semicolon) name e = absurd cc
+start_name (kinds.Punct p) name e = absurd cc
+start_name (kinds.Keyword keywords.Attribute) name e = absurd cc
+start_name (kinds.Keyword keywords.Case) name e = absurd cc
+start_name (kinds.Keyword keywords.Default) name e = absurd cc
+start_name (kinds.Keyword keywords.If) name e = absurd cc
+start_name (kinds.Keyword keywords.Switch) name e = absurd cc
+start_name (kinds.Keyword keywords.While) name e = absurd cc
+start_name (kinds.Keyword keywords.Do) name e = absurd cc
+start_name (kinds.Keyword keywords.For) name e = absurd cc
+start_name (kinds.Keyword keywords.Goto) name e = absurd cc
+start_name (kinds.Keyword keywords.Continue) name e = absurd cc
+start_name (kinds.Keyword keywords.Break) name e = absurd cc
+start_name (kinds.Keyword keywords.Return) name e = absurd cc
+start_name (kinds.Keyword keywords.Asm) name e = absurd cc
+start_name (kinds.Keyword keyword) name e = absurd cc
+start_name kind name e = absurd cc

@@ -32,7 +32,7 @@ wider_at flag room wide d kind h = by_test (flag && (is_some d.closed || (is_ope
     by_test true = omega (arith, h)
     by_test false = h
 
-room_below : (flag : Bool) (room n : ℕ) (d : Declared) (kind : TokenKind) → number_of flag room < suc n
+pub room_below : (flag : Bool) (room n : ℕ) (d : Declared) (kind : TokenKind) → number_of flag room < suc n
     → room_at flag room d kind < suc n
 room_below false room n d kind h = h
 room_below true room n d kind h = by_test (is_some d.closed || (is_open_paren kind && is_bare d.declr))
@@ -41,11 +41,11 @@ room_below true room n d kind h = by_test (is_some d.closed || (is_open_paren ki
     by_test true = h
     by_test false = omega (arith, h)
 
-number_lower : (flag : Bool) (room n : ℕ) → number_of flag room < suc n → 1 ≤ room → number_of flag (room - 1) < n
+pub number_lower : (flag : Bool) (room n : ℕ) → number_of flag room < suc n → 1 ≤ room → number_of flag (room - 1) < n
 number_lower false room n h one = omega (arith, h, one)
 number_lower true room n h one = omega (arith, h, one)
 
-plain_number : (flag : Bool) (room n : ℕ) → number_of flag room < suc n → room < suc n
+pub plain_number : (flag : Bool) (room n : ℕ) → number_of flag room < suc n → room < suc n
 plain_number false room n h = h
 plain_number true room n h = omega (arith, h)
 

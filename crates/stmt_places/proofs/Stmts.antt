@@ -24,6 +24,7 @@ use Rattle.c_reading.proofs.Binding.{found, bind_ok, fits_is, fits_ok, if_ok}
 use Rattle.c_reading.proofs.Forms.{Falls, Shrinks, shrinks_falls, name_falls}
 use Rattle.c_reading.proofs.Aims.{Laws}
 use Rattle.c_reading.proofs.KnotLaws.{none_tokens}
+use Rattle.c_reading.proofs.StmtKinds.{start_name}
 use Rattle.c_reading.proofs.StmtFalls.{stmt_shrinks}
 use Rattle.reading_steps.specs.Steps.{first_kind, any, Good, Ready, Law}
 use Rattle.reading_steps.specs.Stops.{is_int, is_name_kind, stops_whole, stops_expr, stops_stmt}
@@ -79,27 +80,6 @@ begins_stmt start = true
 start_no_end : (kind : TokenKind) → begins_stmt (stmt_start kind) ≡ true → is_end kind ≡ false
 start_no_end kinds.End h = absurd cc
 start_no_end kind h = refl
-
-start_name : (kind : TokenKind) (name : ℕ) → stmt_start kind ≡ starts.Name name → kind ≡ kinds.Name name
-start_name (kinds.Name n) name e = cc
-start_name (kinds.Punct puncts.OpenBrace) name e = absurd cc
-start_name (kinds.Punct puncts.Semicolon) name e = absurd cc
-start_name (kinds.Punct p) name e = absurd cc
-start_name (kinds.Keyword keywords.Attribute) name e = absurd cc
-start_name (kinds.Keyword keywords.Case) name e = absurd cc
-start_name (kinds.Keyword keywords.Default) name e = absurd cc
-start_name (kinds.Keyword keywords.If) name e = absurd cc
-start_name (kinds.Keyword keywords.Switch) name e = absurd cc
-start_name (kinds.Keyword keywords.While) name e = absurd cc
-start_name (kinds.Keyword keywords.Do) name e = absurd cc
-start_name (kinds.Keyword keywords.For) name e = absurd cc
-start_name (kinds.Keyword keywords.Goto) name e = absurd cc
-start_name (kinds.Keyword keywords.Continue) name e = absurd cc
-start_name (kinds.Keyword keywords.Break) name e = absurd cc
-start_name (kinds.Keyword keywords.Return) name e = absurd cc
-start_name (kinds.Keyword keywords.Asm) name e = absurd cc
-start_name (kinds.Keyword keyword) name e = absurd cc
-start_name kind name e = absurd cc
 
 -- A part in a scope of its own.
 

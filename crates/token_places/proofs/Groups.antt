@@ -1,5 +1,5 @@
 -- Groups in which brackets match, and what has one.
-use Rattle.std.proofs.Common.{◌≡◌, ℕ, suc, ◌<◌, Bool, true, false, if◌then◌else◌, List, [], ◌∷◌, ◌++◌, length, Some, None, ◌⊎◌, inl, inr, refl, sym, ◌∙◌, ap, arith}
+use Rattle.std.proofs.Common.{◌≡◌, ℕ, suc, Bool, true, false, List, [], ◌∷◌, ◌++◌, length, Some, None, ◌⊎◌, inl, inr, refl, sym, ◌∙◌, ap, arith}
 use Rattle.c_words.specs.declared.kinds.TokenKind.{TokenKind}
 use Rattle.c_words.specs.declared.kinds.TokenKind.TheVariants as kinds
 use Rattle.c_words.specs.declared.kinds.Punct.{Punct}
@@ -17,39 +17,12 @@ use Rattle.c_reading.specs.declared.kinds.Inside.TheVariants.{Opens, Closes, Pla
 use Rattle.c_reading.specs.Reading.{Found, Reader, ends, refuses, kind_at, token_at, run, and_then}
 use Rattle.c_reading.specs.Tokens.{is_end, is_open_paren, is_attribute, is_static_assert, is_semicolon, inside_of, is_same, Opened, bracket_by, bracket_step, bracket_turn, bracket_turn_by, group_at, attr_at, align_at, assert_at}
 use Rattle.c_reading.proofs.Binding.{done, ok_is}
-use Rattle.c_reading.proofs.Loops.{TurnShrinks, run_is}
+use Rattle.c_reading.proofs.Loops.{run_is}
 use Rattle.reading_steps.specs.Steps.{first_kind, any, Good, Ready, Law}
 use Rattle.reading_steps.proofs.Keeping.{kept_refl}
 use Rattle.reading_steps.proofs.Steps.{behind, refused_here, ends_good, ends_law, token_law, bind_law, take_behind, loop_law_good}
 use Rattle.token_places.proofs.Single.{open_paren_end, attribute_end, static_assert_end, semicolon_end, one_good}
-
--- one bracket read takes a token
-
-bracket_shrinks : TurnShrinks bracket_turn
-bracket_shrinks state s ts x e = by_brackets state.brackets ts e
-  where
-    by_inside : (i : Inside) (b : Bracket) (bs : List Bracket) (t : Lexeme) (ts : List Lexeme)
-        → bracket_by i b bs t s ts ≡ done x → length x.rest < length (t ∷ ts)
-    by_inside (Opens other) b bs t ts e = let is = ap (λ (x : Found Opened). length x.rest) (ok_is e) in omega (arith, is)
-    by_inside (Closes other) b bs t ts e = by_same (is_same other b) e
-      where
-        by_same : (c : Bool)
-            → (if c then ends (record { brackets = bs; last = t.at }) s ts else refuses Unexpected (t ∷ ts)) ≡ done x
-            → length x.rest < length (t ∷ ts)
-        by_same true e = let is = ap (λ (x : Found Opened). length x.rest) (ok_is e) in omega (arith, is)
-        by_same false e = absurd cc
-    by_inside Plain b bs t ts e = let is = ap (λ (x : Found Opened). length x.rest) (ok_is e) in omega (arith, is)
-    by_inside Stops b bs t ts e = absurd cc
-
-    by_step : (b : Bracket) (bs : List Bracket) (ts : List Lexeme) → bracket_step b bs s ts ≡ done x
-        → length x.rest < length ts
-    by_step b bs [] e = absurd cc
-    by_step b bs (t ∷ ts) e = by_inside (inside_of t.kind) b bs t ts e
-
-    by_brackets : (bs : List Bracket) (ts : List Lexeme) → bracket_turn_by bs s ts ≡ Some (done x)
-        → length x.rest < length ts
-    by_brackets [] ts e = absurd cc
-    by_brackets (b ∷ bs) ts e = by_step b bs ts cc
+use Rattle.c_reading.proofs.Groups.{bracket_shrinks}
 
 abbrev pub closing_of : Bracket → Punct
 closing_of Paren = puncts.CloseParen

@@ -23,6 +23,7 @@ use Rattle.c_reading.specs.Declaring.{absent, takes_name, least_pointer, is_bare
 use Rattle.c_reading.proofs.Binding.{bind_ok}
 use Rattle.room_laws.specs.Rooms.{number_of}
 use Rattle.room_laws.proofs.Specs.{attrs_lead}
+use Rattle.room_laws.proofs.Declr.{room_below, number_lower, plain_number}
 use Rattle.wide_laws.specs.Wide.{Near, Late, Both, InnerBoth}
 use Rattle.wide_laws.proofs.Both.{all_left, late_take, ready, refused, when, both_same, both_bind, both_behind, both_then, both_asks, both_if, BothTurn, both_run, both_listed, late_bind, late_if, late_refused}
 use Rattle.wide_laws.proofs.Words.{late_token, late_quals, late_array_words, attrs_both, pointer_words_both, late_name}
@@ -36,23 +37,6 @@ wider_at gap flag room wide d kind h = by_test (flag && (is_some d.closed || (is
     by_test : (b : Bool) → Near gap (if b then suc room else room) (if b then suc wide else wide)
     by_test true = omega (arith, h)
     by_test false = h
-
-room_below : (flag : Bool) (room n : ℕ) (d : Declared) (kind : TokenKind) → number_of flag room < suc n
-    → room_at flag room d kind < suc n
-room_below false room n d kind h = h
-room_below true room n d kind h = by_test (is_some d.closed || (is_open_paren kind && is_bare d.declr))
-  where
-    by_test : (b : Bool) → (if b then suc room else room) < suc n
-    by_test true = h
-    by_test false = omega (arith, h)
-
-number_lower : (flag : Bool) (room n : ℕ) → number_of flag room < suc n → 1 ≤ room → number_of flag (room - 1) < n
-number_lower false room n h one = omega (arith, h, one)
-number_lower true room n h one = omega (arith, h, one)
-
-plain_number : (flag : Bool) (room n : ℕ) → number_of flag room < suc n → room < suc n
-plain_number false room n h = h
-plain_number true room n h = omega (arith, h)
 
 -- names with a comma between two
 pub late_names_list : (name : Reader Identifier) → ((s : HeldScopes) (ts : List Lexeme) → Late ts (name s ts))

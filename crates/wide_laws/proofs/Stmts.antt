@@ -31,6 +31,7 @@ use Rattle.c_reading.specs.Stating.{stmt_start, stmt_with, label_at, some_init_w
 use Rattle.c_reading.specs.Initialising as initialising
 use Rattle.c_reading.specs.Stating as stating
 use Rattle.c_reading.proofs.Binding.{take_falls}
+use Rattle.c_reading.proofs.StmtKinds.{start_name}
 use Rattle.c_reading.proofs.KnotLaws.{none_tokens}
 use Rattle.room_laws.proofs.More.{first_fits}
 use Rattle.wide_laws.specs.Wide.{Near, Late, Both, Ahead, InnerBoth}
@@ -93,28 +94,6 @@ name_begins s (kinds.Name x) name is off = subst (λ (x : ℕ). not (names_type 
     some_is : (x y : ℕ) → Some x ≡ Some y → x ≡ y
     some_is x y h = cc
 name_begins s kind name is off = absurd cc
-
--- only a name begins as one
-start_name : (kind : TokenKind) (name : ℕ) → stmt_start kind ≡ starts.Name name → kind ≡ kinds.Name name
-start_name (kinds.Name n) name e = cc
-start_name (kinds.Punct puncts.OpenBrace) name e = absurd cc
-start_name (kinds.Punct puncts.Semicolon) name e = absurd cc
-start_name (kinds.Punct p) name e = absurd cc
-start_name (kinds.Keyword keywords.Attribute) name e = absurd cc
-start_name (kinds.Keyword keywords.Case) name e = absurd cc
-start_name (kinds.Keyword keywords.Default) name e = absurd cc
-start_name (kinds.Keyword keywords.If) name e = absurd cc
-start_name (kinds.Keyword keywords.Switch) name e = absurd cc
-start_name (kinds.Keyword keywords.While) name e = absurd cc
-start_name (kinds.Keyword keywords.Do) name e = absurd cc
-start_name (kinds.Keyword keywords.For) name e = absurd cc
-start_name (kinds.Keyword keywords.Goto) name e = absurd cc
-start_name (kinds.Keyword keywords.Continue) name e = absurd cc
-start_name (kinds.Keyword keywords.Break) name e = absurd cc
-start_name (kinds.Keyword keywords.Return) name e = absurd cc
-start_name (kinds.Keyword keywords.Asm) name e = absurd cc
-start_name (kinds.Keyword keyword) name e = absurd cc
-start_name kind name e = absurd cc
 
 module _ {S : Type 0} (n gap : ℕ) (inner other : Inner) (m : InnerBoth S n gap inner other) where
   -- Initialisers.
