@@ -10,11 +10,11 @@ use Rattle.c_tree.specs.Ends.{first_text}
 use Rattle.type_table.specs.Types.{CType, base, void, pointer}
 use Rattle.name_rules.specs.Spellings.{Place, Spelling, place}
 use Rattle.name_rules.specs.Scopes.{Names}
-use Rattle.name_rules.specs.Values.{value, Candidate, Association, is_fresh_pick, pick_shape, selected}
+use Rattle.name_rules.specs.Values.{value, Candidate, is_fresh_pick, pick_shape}
 use Rattle.name_rules.specs.Uses.{use_at, type_named_at, text_type}
 use Rattle.type_rules.specs.Tokens.{first_word, declared_name, is_bare}
 use Rattle.type_rules.specs.Shapes.{is_zero, shape_of, candidate_of, associations_of}
-use Rattle.row_rules.specs.Starting.{Around, Having, Start, declared_function, fresh, fresh_where, had_name, having_where, is_fresh_binary, is_fresh_prefix, is_some_pointer, name_start, quiet, some_fresh, some_place, use_start, of_function, with_skeleton, without_skeleton, prefix_starts, selected_by}
+use Rattle.row_rules.specs.Starting.{Around, Having, Start, declared_function, fresh, fresh_where, had_name, having_where, is_fresh_binary, is_some_pointer, name_start, quiet, some_fresh, some_place, use_start, of_function, with_skeleton, without_skeleton, prefix_starts, selected_by}
 use Rattle.c_tree.specs.Addresses.{comes_by_pointer}
 
 -- the type of the type's name that begins with these specifiers
@@ -111,24 +111,7 @@ abbrev mutual
 
   pub is_value_stmt : Stmt → Bool
   is_value_stmt (expr_stmt (some_expr e) semi) = true
-  is_value_stmt (expr_stmt no_expr semi) = false
-  is_value_stmt (block opening items closing) = false
-  is_value_stmt (attr_stmt attrs semi) = false
-  is_value_stmt (label name colon attrs t) = false
-  is_value_stmt (case_stmt keyword e colon t) = false
-  is_value_stmt (default_stmt keyword colon t) = false
-  is_value_stmt (if_stmt keyword opening e closing t other) = false
-  is_value_stmt (switch_stmt keyword opening e closing t) = false
-  is_value_stmt (while_stmt keyword opening e closing t) = false
-  is_value_stmt (do_stmt keyword t keyword2 opening e closing semi) = false
-  is_value_stmt (for_stmt keyword opening start e semi e2 closing t) = false
-  is_value_stmt (goto_stmt keyword name semi) = false
-  is_value_stmt (continue_stmt keyword semi) = false
-  is_value_stmt (break_stmt keyword semi) = false
-  is_value_stmt (return_stmt keyword e semi) = false
-  is_value_stmt (asm_stmt keyword words group semi) = false
-  is_value_stmt (case_range keyword e dots e2 colon t) = false
-  is_value_stmt (goto_value keyword star e semi) = false
+  is_value_stmt t = false
 
   pub some_expr_starts : Around → SomeExpr → List Start
   some_expr_starts a no_expr = []

@@ -2,7 +2,7 @@
 -- what is in
 -- it, or that of a value.
 use Rattle.std.specs.Prelude.{ℕ, Bool, if◌then◌else◌, suc, List, [], ◌∷◌, false}
-use Rattle.c_tree.specs.Tree.{Expr, operation, cast, prefix, sizeof_value, sizeof_type, extension, index, call, dot, arrow, post, compound, name_use, number_use, char_use, text_use, paren, statement_expr, va_arg, va_start, va_copy, offset, comma, assign, cond, binary, no_expr, some_expr, BlockItems, no_block_items, more_block_items, BlockItem, block_decl, block_stmt, Stmt, block, expr_stmt, attr_stmt, label, case_stmt, default_stmt, if_stmt, switch_stmt, while_stmt, do_stmt, for_stmt, goto_stmt, continue_stmt, break_stmt, return_stmt, asm_stmt, complex_part, label_use, compat, choose, generic, typeof_value, typeof_type, align, auto_word, range_desig, old_desig, case_range, goto_value, block_labels, identifiers, base_name, Assocs, no_assocs, more_assocs, Assoc, typed_assoc, default_assoc}
+use Rattle.c_tree.specs.Tree.{Expr, operation, cast, prefix, sizeof_value, sizeof_type, extension, index, call, dot, arrow, post, compound, name_use, number_use, char_use, text_use, paren, statement_expr, va_arg, va_start, va_copy, offset, comma, assign, cond, binary, no_expr, some_expr, BlockItems, no_block_items, more_block_items, BlockItem, block_decl, block_stmt, Stmt, expr_stmt, complex_part, label_use, compat, choose, generic, block_labels, Assocs, no_assocs, more_assocs, Assoc, typed_assoc, default_assoc}
 use Rattle.c_tree.specs.Ends.{first_text}
 use Rattle.qual_types.specs.Skel.{Skel, no_skeleton}
 use Rattle.name_rules.specs.Uses.{use_at}
@@ -72,24 +72,7 @@ module _ (w : World) where
 
     pub stmt_value : ℕ → Stmt → Skel
     stmt_value token (expr_stmt (some_expr e) semi) = value (val e)
-    stmt_value token (expr_stmt no_expr semi) = own w token
-    stmt_value token (block opening items closing) = own w token
-    stmt_value token (attr_stmt attrs semi) = own w token
-    stmt_value token (label name colon attrs t) = own w token
-    stmt_value token (case_stmt keyword e colon t) = own w token
-    stmt_value token (default_stmt keyword colon t) = own w token
-    stmt_value token (if_stmt keyword opening e closing t other) = own w token
-    stmt_value token (switch_stmt keyword opening e closing t) = own w token
-    stmt_value token (while_stmt keyword opening e closing t) = own w token
-    stmt_value token (do_stmt keyword t keyword2 opening e closing semi) = own w token
-    stmt_value token (for_stmt keyword opening start e semi e2 closing t) = own w token
-    stmt_value token (goto_stmt keyword name semi) = own w token
-    stmt_value token (continue_stmt keyword semi) = own w token
-    stmt_value token (break_stmt keyword semi) = own w token
-    stmt_value token (return_stmt keyword e semi) = own w token
-    stmt_value token (asm_stmt keyword words group semi) = own w token
-    stmt_value token (case_range keyword e dots e2 colon t) = own w token
-    stmt_value token (goto_value keyword star e semi) = own w token
+    stmt_value token t = own w token
 
   -- an expression that may be picked
   abbrev pub candidate_of : Expr → Candidate

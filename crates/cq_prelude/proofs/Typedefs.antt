@@ -3,11 +3,11 @@ use Rattle.std.proofs.Common.{◌≡◌, true, refl}
 use Rattle.std.specs.Bool.{if◌then◌else◌}
 use Rattle.c_tree.specs.Tree.{SpecWord, SpecWords, more_words, storage, thread, inline_word, noreturn, qualifier, basic, struct_type, enum_type, typedef_name, attribute, typeof_value, typeof_type, align, auto_word}
 use Rattle.c_tree.specs.Specifiers.{storage_words}
-use Rattle.cq_prelude.specs.Placing.{has_typedef}
+use Rattle.c_units.specs.Scoping.{has_typedef_word}
 use Rattle.cq_prelude.specs.Words.{is_typedef_word}
 
-pub typedef_more : (w : SpecWord) (ws : SpecWords) → has_typedef
-    (storage_words (more_words w ws)) ≡ (if is_typedef_word w then true else has_typedef (storage_words ws))
+pub typedef_more : (w : SpecWord) (ws : SpecWords) → has_typedef_word
+    (storage_words (more_words w ws)) ≡ (if is_typedef_word w then true else has_typedef_word (storage_words ws))
 typedef_more (storage word) ws = refl
 typedef_more (thread token) ws = refl
 typedef_more (inline_word token) ws = refl

@@ -1,7 +1,5 @@
 -- Where index words may stand in a prelude: on the types of functions that its file scope declares.
 use Rattle.std.specs.Prelude.{ℕ, Bool, true, false, ◌&&◌, not, List, [], ◌∷◌, ◌++◌, Option, None, Some, if◌then◌else◌}
-use Rattle.c_words.specs.declared.kinds.Keyword.{Keyword}
-use Rattle.c_words.specs.declared.kinds.Keyword.TheVariants as keywords
 use Rattle.c_syntax.specs.declared.parts.Qual.{Qual}
 use Rattle.c_syntax.specs.declared.parts.Qual.TheVariants as quals
 use Rattle.c_syntax.specs.declared.parts.PointerWord.{PointerWord}
@@ -10,6 +8,7 @@ use Rattle.c_syntax.specs.declared.parts.ArrayWord.{ArrayWord}
 use Rattle.c_syntax.specs.declared.parts.ArrayWord.TheVariants as array_words
 use Rattle.c_tree.specs.Tree.{Dots, SpecWords, no_words, more_words, SpecWord, storage, thread, inline_word, noreturn, qualifier, basic, struct_type, enum_type, typedef_name, attribute, Declr, pointer, declr_name, declr_paren, array, params, abs_pointer, abs_paren, abs_array, abs_params, SomeDeclr, no_declr, some_declr, Params, no_params, more_params, InitDeclrs, no_init_declrs, more_init_declrs, Declaration, declaration, Decl, decl_declaration, decl_assert, typeof_value, typeof_type, align, auto_word, identifiers, base_name}
 use Rattle.c_tree.specs.Specifiers.{storage_words}
+use Rattle.c_units.specs.Scoping.{has_typedef_word}
 use Rattle.c_tree.specs.Unit.{Item, function_item, decl_item, asm_item, semi_item, declares_function, old_function_item}
 
 -- the index words among qualifiers, by their tokens
@@ -106,19 +105,9 @@ abbrev pub has_some : InitDeclrs → Bool
 has_some no_init_declrs = false
 has_some (more_init_declrs attrs d label behind init ds) = true
 
--- whether a keyword is `typedef`
-abbrev pub is_typedef : Keyword → Bool
-is_typedef keywords.Typedef = true
-is_typedef keyword = false
-
--- whether `typedef` is among storage words
-abbrev pub has_typedef : List Keyword → Bool
-has_typedef [] = false
-has_typedef (keyword ∷ all) = if is_typedef keyword then true else has_typedef all
-
 -- a declaration of functions alone, of one at least
 abbrev pub is_of_functions : SpecWords → InitDeclrs → Bool
-is_of_functions ws ds = not (has_typedef (storage_words ws)) && (has_some ds && declare_functions ds)
+is_of_functions ws ds = not (has_typedef_word (storage_words ws)) && (has_some ds && declare_functions ds)
 
 -- the index words of a declaration, where it declares functions alone
 abbrev pub in_declaration : Declaration → List ℕ

@@ -5,7 +5,8 @@ ghost use Rattle.c_tree.specs.Lists.{init_declrs_from};
 ghost use Rattle.c_tree.specs.Specifiers.{storage_words};
 ghost use Rattle.c_tree.specs.Unit.{declares_function, is_round_name, spec_words_from};
 ghost use Rattle.c_tree.specs.View.{declr_of, spec_word_of};
-ghost use Rattle.cq_prelude.specs.Placing.{declare_functions, has_some, has_typedef, is_of_functions};
+ghost use Rattle.c_units.specs.Scoping.{has_typedef_word};
+ghost use Rattle.cq_prelude.specs.Placing.{declare_functions, has_some, is_of_functions};
 ghost use Rattle.cq_prelude.specs.Words.{is_typedef_word};
 
 use c_syntax::{Declr, InitDeclr, Listed, SpecWord};
@@ -35,7 +36,7 @@ fn is_typedef(word: &SpecWord) -> bool
 /// Whether there is a `typedef` among specifiers.
 #[tactic(auto, using(crate::proofs::Typedefs::typedef_more))]
 fn declare_types(words: &[SpecWord]) -> bool
-    ensures { result ≡ has_typedef (storage_words (spec_words_from words.now)) }
+    ensures { result ≡ has_typedef_word (storage_words (spec_words_from words.now)) }
 {
     for word in words {
         if is_typedef(word) {

@@ -1,6 +1,6 @@
 -- The type of each expression (C99, 6.5), by cases on the tree, over what names and types' names in it mean.
 use Rattle.std.specs.Prelude.{Bool, false, ◌&&◌, List, [], ◌∷◌, Option, None, Some}
-use Rattle.c_tree.specs.Tree.{Expr, operation, cast, prefix, sizeof_value, sizeof_type, extension, index, call, dot, arrow, post, compound, name_use, number_use, char_use, text_use, paren, statement_expr, va_arg, va_start, va_copy, offset, comma, assign, cond, binary, no_expr, some_expr, BlockItems, no_block_items, more_block_items, BlockItem, block_decl, block_stmt, Stmt, block, expr_stmt, attr_stmt, label, case_stmt, default_stmt, if_stmt, switch_stmt, while_stmt, do_stmt, for_stmt, goto_stmt, continue_stmt, break_stmt, return_stmt, asm_stmt, complex_part, label_use, compat, choose, generic, typeof_value, typeof_type, align, auto_word, range_desig, old_desig, case_range, goto_value, block_labels, identifiers, base_name, Assocs, no_assocs, more_assocs, Assoc, typed_assoc, default_assoc}
+use Rattle.c_tree.specs.Tree.{Expr, operation, cast, prefix, sizeof_value, sizeof_type, extension, index, call, dot, arrow, post, compound, name_use, number_use, char_use, text_use, paren, statement_expr, va_arg, va_start, va_copy, offset, comma, assign, cond, binary, no_expr, some_expr, BlockItems, no_block_items, more_block_items, BlockItem, block_decl, block_stmt, Stmt, expr_stmt, complex_part, label_use, compat, choose, generic, block_labels, Assocs, no_assocs, more_assocs, typed_assoc, default_assoc}
 use Rattle.type_table.specs.Types.{CType, base, void, pointer}
 use Rattle.name_rules.specs.Spellings.{Spelling, place}
 use Rattle.name_rules.specs.Scopes.{Names}
@@ -15,30 +15,7 @@ module _ (u : Spelling) (s : Names) where
   is_zero (paren opening e closing) = is_zero e
   is_zero (cast opening ws d closing e) =
       is_plain_void_pointer (type_named_at s.type_names (place u (first_word ws))) && is_zero e
-  is_zero (operation e op token e2) = false
-  is_zero (prefix token p e) = false
-  is_zero (sizeof_value word e) = false
-  is_zero (sizeof_type word opening ws d closing) = false
-  is_zero (extension keyword e) = false
-  is_zero (index e opening e2 closing) = false
-  is_zero (call e opening es closing) = false
-  is_zero (dot e token name) = false
-  is_zero (arrow e token name) = false
-  is_zero (post e token p) = false
-  is_zero (compound opening ws d closing list) = false
-  is_zero (name_use token name) = false
-  is_zero (char_use token) = false
-  is_zero (text_use texts) = false
-  is_zero (statement_expr opening opening2 items closing closing2) = false
-  is_zero (va_arg keyword opening e separator ws d closing) = false
-  is_zero (va_start keyword opening e separator e2 closing) = false
-  is_zero (va_copy keyword opening e separator e2 closing) = false
-  is_zero (offset keyword opening ws d separator name steps closing) = false
-  is_zero (complex_part keyword e) = false
-  is_zero (label_use token name) = false
-  is_zero (compat keyword opening ws d separator ws2 d2 closing) = false
-  is_zero (choose keyword opening e separator e2 separator2 e3 closing) = false
-  is_zero (generic keyword opening e xs closing) = false
+  is_zero e = false
 
   abbrev candidate : Shape → Bool → Candidate
   candidate shape zero = record { shape = shape; is_zero = zero }
@@ -100,24 +77,7 @@ module _ (u : Spelling) (s : Names) where
 
     pub stmt_value : Stmt → Option CType
     stmt_value (expr_stmt (some_expr e) semi) = value (shape_of e)
-    stmt_value (expr_stmt no_expr semi) = Some (void [])
-    stmt_value (block opening items closing) = Some (void [])
-    stmt_value (attr_stmt attrs semi) = Some (void [])
-    stmt_value (label name colon attrs t) = Some (void [])
-    stmt_value (case_stmt keyword e colon t) = Some (void [])
-    stmt_value (default_stmt keyword colon t) = Some (void [])
-    stmt_value (if_stmt keyword opening e closing t other) = Some (void [])
-    stmt_value (switch_stmt keyword opening e closing t) = Some (void [])
-    stmt_value (while_stmt keyword opening e closing t) = Some (void [])
-    stmt_value (do_stmt keyword t keyword2 opening e closing semi) = Some (void [])
-    stmt_value (for_stmt keyword opening start e semi e2 closing t) = Some (void [])
-    stmt_value (goto_stmt keyword name semi) = Some (void [])
-    stmt_value (continue_stmt keyword semi) = Some (void [])
-    stmt_value (break_stmt keyword semi) = Some (void [])
-    stmt_value (return_stmt keyword e semi) = Some (void [])
-    stmt_value (asm_stmt keyword words group semi) = Some (void [])
-    stmt_value (case_range keyword e dots e2 colon t) = Some (void [])
-    stmt_value (goto_value keyword star e semi) = Some (void [])
+    stmt_value t = Some (void [])
 
   -- an expression that may be picked
   abbrev pub candidate_of : Expr → Candidate

@@ -3,8 +3,6 @@ use Rattle.std.proofs.Common.{◌++◌, if◌then◌else◌, ◌≡◌, ℕ, suc
 use Rattle.std.specs.Prelude.{◌-◌, ◌||◌, not, ◌&&◌}
 use Rattle.c_words.specs.declared.kinds.TokenKind.{TokenKind}
 use Rattle.c_words.specs.declared.kinds.TokenKind.TheVariants as kinds
-use Rattle.c_words.specs.declared.kinds.Keyword.TheVariants as keywords
-use Rattle.c_words.specs.declared.kinds.Punct.TheVariants as puncts
 use Rattle.c_syntax.specs.declared.parts.Identifier.{Identifier}
 use Rattle.c_tree.specs.declared.lexeme.Lexeme.{Lexeme}
 use Rattle.c_syntax.specs.declared.parts.Attr.{Attr}
