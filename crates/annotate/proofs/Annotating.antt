@@ -44,6 +44,7 @@ step_piece items ends at n more left out comment is =
     ap (λ (c : List ℕ). (out ++ (take (ends n - at) left ++ c)) ++ rest) (ap closed is ∙ closed_is (items n))
     ∙ append_assoc out (take (ends n - at) left ++ comment_text (items n)) rest
 
+-- one token more, with the bytes up to its end and its comment, leaves the pieces from the next token on
 pub next_piece : (items : ℕ → List (List ℕ)) (ends : ℕ → ℕ) (at n count : ℕ) (left out comment : List ℕ) → n < count →
     comment ≡ opened (items n) →
     (out ++ (take (ends n - at) left ++ closed comment)) ++ with_comments
@@ -65,6 +66,7 @@ last_piece items ends at n count left out past =
     ap (λ (t : List ℕ). out ++ t) (sym (append-nil left) ∙ sym (append-nil (left ++ [])))
     ∙ ap (λ k. out ++ with_comments (pieces_from items ends at left n k)) no_more
 
+-- before the first token the pieces are those of all bytes of the unit
 pub first_pieces : (items : ℕ → List (List ℕ)) (ends : ℕ → ℕ) (count : ℕ) (left bytes out : List ℕ) → left ≡ bytes →
     out ++ with_comments (pieces_from items ends 0 left 0 (count - 0)) ≡ out ++ with_comments (pieces_from items ends 0 bytes 0 count)
 first_pieces items ends count left bytes out is =
@@ -79,6 +81,7 @@ some_is e = cc
 pub hold_none : (length {A = Vec ℕ Global} [] ≡ 0) × HoldComments (λ token. []) []
 hold_none = (refl, λ token comment there. absurd cc)
 
+-- one empty text more, behind empty ones, is the text of a token without a comment
 pub hold_one_more : (texts : List (Vec ℕ Global)) (text : Vec ℕ Global) → text.items ≡ []
     → HoldComments (λ token. []) texts →
     HoldComments (λ token. []) (texts ++ text ∷ [])
@@ -98,6 +101,7 @@ more_items scene unit token (l ∷ ls) listing =
     ap (λ (items : List (List ℕ)). here ++ items) (more_items scene unit token ls listing)
     ∙ sym (append_assoc here (items_at scene unit token ls) (item_at scene unit token listing (slice_get scene.positions listing.var)))
 
+-- an element that is listed without an item at a token leaves the items of this token as they were
 same_items : (scene : Scene) (unit token : ℕ) (before : List Listing) (listing : Listing) →
     item_at scene unit token listing (slice_get scene.positions listing.var) ≡ [] →
     items_at scene unit token before ≡ items_at scene unit token (before ++ listing ∷ [])
@@ -118,6 +122,7 @@ pub no_item : (scene : Scene) (unit token : ℕ) (listing : Listing) (found : Op
     item_at scene unit token listing found ≡ []
 no_item scene unit token listing found is = ap (item_at scene unit token listing) is
 
+-- an element of a variable in another unit has no item at a token
 pub other_unit : (scene : Scene) (unit token : ℕ) (listing : Listing) (found : Option PositionView) (at : PositionView) →
     found ≡ Some at → (at.unit ≡ unit → ⊥) → item_at scene unit token listing found ≡ []
 other_unit scene unit token listing found at is other =
@@ -129,6 +134,7 @@ false_and : (b : Bool) → b && false ≡ false
 false_and true = refl
 false_and false = refl
 
+-- an element of a variable at another token has no item at this one
 pub other_token : (scene : Scene) (unit token : ℕ) (listing : Listing) (found : Option PositionView) (at : PositionView) →
     found ≡ Some at → (at.token ≡ token → ⊥) → item_at scene unit token listing found ≡ []
 other_token scene unit token listing found at is other =
@@ -156,6 +162,7 @@ more_text (x ∷ xs) item =
     ap (λ (t : List ℕ). (codes ", " ++ x) ++ t) (more_text xs item)
     ∙ sym (append_assoc (codes ", " ++ x) (flat_map (λ (next : List ℕ). codes ", " ++ next) xs) (codes ", " ++ item))
 
+-- the text of items with one more behind a comma is the text of the items with this at their end
 opened_more : (items : List (List ℕ)) (item : List ℕ) → begun_with (opened items) ++ item ≡ opened (items ++ item ∷ [])
 opened_more [] item = sym (append-nil (codes "/*" ++ item))
 opened_more (x ∷ xs) item =
@@ -171,6 +178,7 @@ set_here [] n new comment within there = absurd (omega (arith, within))
 set_here (x ∷ xs) zero new comment within there = some_is there
 set_here (x ∷ xs) (suc n) new comment within there = set_here xs n new comment (omega (arith, within)) there
 
+-- a comment that is set for one token leaves those of other tokens as they were
 set_there : (comments : List (Vec ℕ Global)) (n token : ℕ) (new comment : Vec ℕ Global) → (n ≡ token → ⊥) →
     slice_get (slice_set comments n new) token ≡ Some comment → slice_get comments token ≡ Some comment
 set_there [] n token new comment other there = there

@@ -49,6 +49,7 @@ one_more lent sys number count at found same before over some s shows =
     let here = found_is (λ a. (s : Scene) → Shows lent s → IsOver s sys at) found over some in
     OneExceeds number count (before s shows) (subst Over same (here.1 s shows))
 
+-- a constraint that is no exceeded bound leaves the count as it was for those up to it
 pub none_more : {A : Type 0} (lent : Lent) (sys : System) (number count at : ℕ) (found : Option A) → at ≡ number →
     CountsOver lent sys number count → IfNone found ((s : Scene) → Shows lent s → IsOver s sys at → ⊥) → is_some found ≡ false →
     CountsOver lent sys (number + 1) count

@@ -36,6 +36,7 @@ pub record AreFirst (lent : Lent) (sys : System) (solutions : List Solved) (coun
   pub over : IfSome first (IsOverThere lent sys)
   pub before : (n : ℕ) → IsBefore n first → HoldsBelow lent sys count n
 
+-- in none of the first 0 lattices is a constraint exceeded
 pub none_first : (lent : Lent) (sys : System) (solutions : List Solved) → AreFirst lent sys solutions 0 None
 none_first lent sys solutions = record {
   kept = λ n view solution lt. absurd (omega arith);
@@ -50,6 +51,7 @@ pub record Own (lent : Lent) (sys : System) (solutions : List Solved) (count : �
   pub before : (n : ℕ) → IsBefore n found → (scene : Scene) → Shows lent scene → (order : Order)
       → slice_get (orders_of scene.lattices) count ≡ Some order → IsExceeded sys count order n → ⊥
 
+-- a constraint that is exceeded in none of the first lattices, nor in the next one, is so in none of these all
 one_more : (lent : Lent) (sys : System) (count n : ℕ) → HoldsBelow lent sys count n
     → ((scene : Scene) → Shows lent scene → (order : Order) → slice_get (orders_of scene.lattices) count ≡ Some order
     → IsExceeded sys count order n → ⊥)
@@ -64,6 +66,7 @@ one_more lent sys count n below own scene shows lattice order lt there over = by
     by_order (inr (inl before)) = below scene shows lattice order before there over
     by_order (inr (inr past)) = absurd (omega arith)
 
+-- a constraint before the earlier of two is before the first of them
 before_one : (n : ℕ) (first found : Option ℕ) → IsBefore n (earlier first found) → IsBefore n first
 before_one n None found is = tt
 before_one n (Some first) None is = is
@@ -74,6 +77,7 @@ before_one n (Some first) (Some second) is = elim (leb_tells (suc second) first)
   | inr a ↦ let Before : Bool → Type 0 = λ b. IsBefore n (if b then Some second else Some first) in subst Before a.0 is
 ]
 
+-- a constraint before the earlier of two is before the second of them
 before_other : (n : ℕ) (first found : Option ℕ) → IsBefore n (earlier first found) → IsBefore n found
 before_other n None found is = is
 before_other n (Some first) None is = tt
@@ -84,6 +88,7 @@ before_other n (Some first) (Some second) is = elim (leb_tells (suc second) firs
       let lt : n < first = subst Before a.0 is in let le = a.1 in omega arith
 ]
 
+-- what holds of two constraints, where they are there, holds of the earlier one
 over_one : (P : ℕ → Type 0) (first found : Option ℕ) → IfSome first P → IfSome found P → IfSome (earlier first found) P
 over_one P None found one other = other
 over_one P (Some first) None one other = one
@@ -93,6 +98,7 @@ over_one P (Some first) (Some second) one other = by_test (nat_lt second first)
     by_test true = other
     by_test false = one
 
+-- where neither of two constraints is there, what follows from both absences holds of the earlier one
 kept_both : (P Q : Type 0) (first found : Option ℕ) → IfNone first P → IfNone found (P → Q)
     → IfNone (earlier first found) Q
 kept_both P Q None None one other = other one
@@ -104,6 +110,7 @@ kept_both P Q (Some first) (Some second) one other = by_test (nat_lt second firs
     by_test true = tt
     by_test false = tt
 
+-- the earlier of the first exceeded bound so far and that of the next lattice is the first of all these
 pub next_first : (lent : Lent) (sys : System) (solutions : List Solved) (count : ℕ) (first found next : Option ℕ)
     → next ≡ earlier first found → AreFirst lent sys solutions count first → Own lent sys solutions count found
     → AreFirst lent sys solutions (count + 1) next
@@ -183,6 +190,7 @@ first_of_all lent sys solutions count (Some first) le are = record {
         views_length [] = refl
         views_length (l ∷ ls) = ap suc (views_length ls)
 
+-- where no bound of any lattice is exceeded, the solution of each is kept in its lattice
 pub kept_of_all : (lent : Lent) (sys : System) (solutions : List Solved) (count : ℕ) (first : Option ℕ)
     → length lent.lattices.now ≤ count → AreFirst lent sys solutions count first
     → IfNone first (AreKept sys lent.lattices.now solutions)

@@ -27,6 +27,7 @@ pub record ViewOf (lattices : List LatticeView) (n : ℕ) (order : Order) : Type
 some_order : {x y : Order} → Some x ≡ Some y → x ≡ y
 some_order e = cc
 
+-- the order of a lattice by its number is that of the view of this lattice
 pub view_of : (lattices : List LatticeView) (n : ℕ) (order : Order) → slice_get (orders_of lattices) n ≡ Some order
     → ViewOf lattices n order
 view_of [] n order is = absurd cc

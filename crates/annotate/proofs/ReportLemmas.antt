@@ -61,6 +61,7 @@ pub over_is_refuted : (scene : Scene) (sys : System) (n : ℕ) → ExceededIsRef
     IsAccepted sys (orders_of scene.lattices) → ⊥
 over_is_refuted scene sys n law over accepted = law sys over.lattice over.order n over.exceeded (accepted over.lattice over.order over.there)
 
+-- the line `rejected`, and the errors of all exceeded bounds behind it, are the report of a program with one
 pub rejected_report : (scene : Scene) (sys : System) (text begun errors : List ℕ) → ExceededIsRefuted → (n : ℕ)
     → IsOver scene sys n →
     begun ≡ line (codes "rejected") → text ≡ begun ++ errors → Errors scene sys (length sys.constraints) errors → IsRejectedReport scene sys text
@@ -99,6 +100,7 @@ module _ (lattices : List LatticeView) (sys : System) (number : ℕ) (order : Or
 pub adds_none : (old : List Listing) (Is : List Listing → Type 0) → Is [] → Adds old old Is
 adds_none old Is none = record { here = []; added = sym (append-nil old); is = none }
 
+-- what is added twice, one behind the other, is added with what both give together
 pub adds_both : {a b c : List Listing} {Is Has : List Listing → Type 0} (Both : List Listing → Type 0) → Adds a b Is
     → Adds b c Has →
     ((x y : List Listing) → Is x → Has y → Both (x ++ y)) → Adds a c Both

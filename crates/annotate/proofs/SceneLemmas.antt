@@ -41,6 +41,7 @@ pub record There (A : Type 0) (xs : List A) (n : ℕ) : Type 0 where
   pub item : A
   pub there : slice_get xs n ≡ Some item
 
+-- at an index below the length of a list there is an element
 pub item_at : {A : Type 0} (xs : List A) (n : ℕ) → n < length xs → There A xs n
 item_at [] n h = absurd (omega (arith, h))
 item_at (x ∷ xs) zero h = record { item = x; there = refl }
@@ -55,6 +56,7 @@ place_there unit token within = ap (place_at unit token) (item_at unit.lexed.tok
 pub not_equal : (a b : ℕ) → (a ≡ b → ⊥) → eqb a b ≡ false
 not_equal a b other = elim (eqb_tells a b) [ inl same ↦ absurd (other same.1) | inr is ↦ is.0 ]
 
+-- where the unit at an index has the number, it is the first of that number from there on
 from_here : (units : List LentUnit) (n number : ℕ) (d : LentUnit) → n < length units
     → (get_or units n d).tokens.now.unit ≡ number
     → unit_in (units_of (drop n units)) number ≡ Some (unit_of (get_or units n d))
@@ -62,6 +64,7 @@ from_here [] n number d within same = absurd (omega (arith, within))
 from_here (u ∷ us) zero number d within same = ap (λ (is : Bool). if is then Some (unit_of u) else unit_in (units_of us) number) (eq-eqb u.tokens.now.unit number same)
 from_here (u ∷ us) (suc n) number d within same = from_here us n number d (omega (arith, within)) same
 
+-- where the unit at an index has another number, the first from there on is that from the next index on
 past_here : (units : List LentUnit) (n number : ℕ) (d : LentUnit) → n < length units
     → ((get_or units n d).tokens.now.unit ≡ number → ⊥) →
     unit_in (units_of (drop n units)) number ≡ unit_in (units_of (drop (suc n) units)) number
@@ -74,6 +77,7 @@ pub unit_here : (units : List LentUnit) (n number : ℕ) (u : LentUnit) → n < 
 unit_here units n number u within is same =
     from_here units n number u within (ap (λ (v : LentUnit). v.tokens.now.unit) (sym is) ∙ same) ∙ ap (λ (v : LentUnit). Some (unit_of v)) (sym is)
 
+-- a unit of another number is passed by in the search for one
 pub unit_past : (units : List LentUnit) (n number : ℕ) (u : LentUnit) → n < length units → u ≡ get_or units n u
     → (u.tokens.now.unit ≡ number → ⊥) →
     unit_in (units_of (drop n units)) number ≡ unit_in (units_of (drop (n + 1) units)) number

@@ -12,6 +12,7 @@ use Rattle.annotate.specs.Solutions.{IsSolution}
 solution_is : {x y : Solved} → Some x ≡ Some y → x ≡ y
 solution_is e = cc
 
+-- a solution in a list with one more at its end was in the list, or is that one at its length
 before_or_at : (xs : List Solved) (x : Solved) (n : ℕ) (y : Solved) → slice_get (xs ++ x ∷ []) n ≡ Some y
     → (slice_get xs n ≡ Some y) ⊎ ((n ≡ length xs) × (x ≡ y))
 before_or_at [] x zero y is = inr (refl, solution_is is)
@@ -27,6 +28,7 @@ pub record AreFirst (sys : System) (count : ℕ) (solutions : List Solved) : Typ
 pub none_first : (sys : System) → AreFirst sys 0 []
 none_first sys = record { count_is = refl; each = λ n solution is. absurd cc }
 
+-- the solution of one lattice more comes behind those of the lattices so far
 pub next_first : (sys : System) (count : ℕ) (old new : List Solved) (x : Solved) → new ≡ old ++ x ∷ []
     → IsSolution sys count x → AreFirst sys count old → AreFirst sys (count + 1) new
 next_first sys count old new x more own first = record {
@@ -49,6 +51,7 @@ KeptBelow sys lattices solutions count = (n : ℕ) (view : LatticeView) (solutio
 view_is : {x y : LatticeView} → Some x ≡ Some y → x ≡ y
 view_is e = cc
 
+-- the solutions of the first lattices that are kept and that of the next one are kept together
 pub kept_next : (sys : System) (lattices : List LatticeView) (solutions : List Solved) (count : ℕ) (view : LatticeView) (solution : Solved)
     → slice_get lattices count ≡ Some view →
     slice_get solutions count ≡ Some solution → IsKept sys solution.solver view.order → KeptBelow sys lattices solutions count → KeptBelow sys lattices solutions (count + 1)

@@ -62,6 +62,7 @@ some_task e = cc
 some_names : {x y : FileNames} → Some x ≡ Some y → x ≡ y
 some_names e = cc
 
+-- the certificate that is written of an accepted program holds, where it is checked over the same files
 pub certified_is_verified : ProgramsAreOwned → WrittenReads → CertifiedIsVerified
 certified_is_verified owned law words others names certificate inputs text means other few (WithMeaning task _ _ is outcome) =
     by (some_task (sym is ∙ means)) outcome

@@ -32,6 +32,7 @@ some_unit e = cc
 abbrev IsFree : UnitRead → Type 0
 IsFree it = (token : ℕ) → HasNoFeed (text_of it.lexed token)
 
+-- units of sources that parse have no line feed in the texts of their tokens
 sources_free : TokensHaveNoFeed
     → (wide : Bool) (lattices : List LatticeView) (number left : ℕ) (sources : List (List ℕ × List ℕ)) (units : List UnitRead)
     → SourcesParse wide lattices number left sources units → All IsFree units
@@ -41,6 +42,7 @@ sources_free law wide lattices _ _ _ _ (OneSource number left source more unit u
     All-cons IsFree unit units (law marked.words unit.lexed marked.spelled)
     (sources_free law wide lattices (number + 1) (left - length source.1) more units rest)
 
+-- where the units of the sources have none, the unit of the prelude and these together have none
 all_free : TokensHaveNoFeed
     → (named : FileNames) (inputs : Inputs) (lattices : List LatticeView) (before units : List UnitRead) (marks : List IndexMark)
     → AreBefore named inputs lattices before marks → All IsFree units → All IsFree (before ++ units)
@@ -48,6 +50,7 @@ all_free law named inputs lattices _ units _ (NoPrelude none) free = free
 all_free law named inputs lattices _ units _ (OnePrelude file first marks is reads) free =
     let marked = reads.is.parses.lexes.marks in All-cons IsFree first units (law marked.words first.lexed marked.spelled) free
 
+-- a unit among the texts of free units has no line feed in the text of a token
 free_at : (named : FileNames) (units : List UnitRead) → All IsFree units → (k : ℕ) (unit : UnitText) (token : ℕ)
     → slice_get (texts_of named (lexed_of units)) k ≡ Some unit → HasNoFeed (text_of unit.lexed token)
 free_at named [] free k unit token there = absurd cc
@@ -55,6 +58,7 @@ free_at named (u ∷ units) free zero unit token there =
     subst (λ (t : UnitText). HasNoFeed (text_of t.lexed token)) (some_unit there) (All-head IsFree u units free token)
 free_at named (u ∷ units) free (suc k) unit token there = free_at named units (All-tail IsFree u units free) k unit token there
 
+-- no token of a program that is read has a line feed in its text
 tokens_free : TokensHaveNoFeed
     → (named : FileNames) (inputs : Inputs) (it : ProgramIsRead named inputs) (k : ℕ) (unit : UnitText) (token : ℕ)
     → slice_get (judged named inputs it).scene.units k ≡ Some unit → HasNoFeed (text_of unit.lexed token)
@@ -159,6 +163,7 @@ some_task e = cc
 some_names : {x y : FileNames} → Some x ≡ Some y → x ≡ y
 some_names e = cc
 
+-- the rejected report of a program holds, where it is checked over the same files
 pub rejected_is_checked : ProgramsAreOwned → ElementsAreNamed → RejectedReadsBack → TokensHaveNoFeed → RejectedIsChecked
 rejected_is_checked owned elements back free words others question names report inputs text means other files few (WithMeaning task _ _ is outcome) =
     by (some_task (sym is ∙ means)) outcome

@@ -26,12 +26,14 @@ either : (a b : Bool) → a || b ≡ true → (a ≡ true) ⊎ (b ≡ true)
 either true b is = inl refl
 either false b is = inr is
 
+-- bytes that all pass a test which a line feed fails have no line feed
 all_passed : (test : ℕ → Bool) (word : List ℕ) → test 10 ≡ false → list_all test word ≡ true → HasNoFeed word
 all_passed test [] fails is = All-nil (λ b. b ≢ 10)
 all_passed test (b ∷ word) fails is =
     let parts = both (test b) (list_all test word) is in
     All-cons (λ b. b ≢ 10) b word (passed test b fails parts.0) (all_passed test word fails parts.1)
 
+-- a word of a dollar, a letter and bytes of names has no line feed in it
 dollar_free : (word : List ℕ) → begins_with_dollar word ≡ true → HasNoFeed word
 dollar_free [] is = absurd cc
 dollar_free (b ∷ []) is = absurd cc
@@ -46,6 +48,7 @@ word_free : (word spelled : List ℕ) → bytes_eq word spelled ≡ true → lis
 word_free word spelled is free =
     subst HasNoFeed (sym ((bytes_eq-Decides word spelled).0 is)) (all_passed (λ b. not (nat_eq b 10)) spelled refl free)
 
+-- the name of an element has no line feed in it, be it a word with a dollar or one of C
 name_free : (word : List ℕ) → is_element_name word ≡ true → HasNoFeed word
 name_free word is = elim (either (begins_with_dollar word || bytes_eq word (codes "const") || bytes_eq word (codes "volatile")) (bytes_eq word (codes "restrict")) is) [
   | inl others ↦ elim (either (begins_with_dollar word || bytes_eq word (codes "const")) (bytes_eq word (codes "volatile")) others) [
@@ -61,6 +64,7 @@ name_free word is = elim (either (begins_with_dollar word || bytes_eq word (code
 some_is : {A : Type 0} {x y : A} → Some x ≡ Some y → x ≡ y
 some_is e = cc
 
+-- no name among the entries of a block has a line feed in it
 items_free : (wide : Bool) (entries : List Entry) (pairs : List Pair) (bytes rest : List ℕ)
     → Items wide entries pairs bytes rest → (n : ℕ) (name : List ℕ)
     → name_at entries n ≡ Some name → HasNoFeed name
@@ -72,6 +76,7 @@ items_free wide _ _ bytes rest (EntryItem own given entries pairs _ b1 b2 b3 _ i
 items_free wide _ _ bytes rest (LineItem low high entries pairs _ b1 b2 b3 _ is_low is_high one sign other items) n name there =
     items_free wide entries pairs b3 rest items n name there
 
+-- no name of an element of a lattice that is read has a line feed in it
 pub names_free : (wide : Bool) (blocks : List BlockView) (bytes : List ℕ) (lattices : List LatticeView)
     → IsLatticeText wide blocks bytes
     → AreAllBuilt blocks lattices → (k : ℕ) (view : LatticeView) (elem : ℕ) (name : List ℕ)

@@ -18,6 +18,7 @@ use Rattle.cqual_tool.specs.Preparing.{AreEarlier}
 use Rattle.cqual_tool.proofs.Joining.{nothing_earlier, one_more_may, prelude_alone, read_all}
 use Rattle.answer_laws.specs.Laws.{ProgramsAreOwned}
 
+-- each lattice that blocks build has as many entries as its order has elements
 pub built_sized : (blocks : List BlockView) (lattices : List LatticeView) → AreAllBuilt blocks lattices
     → AreSized lattices
 built_sized [] [] built = λ n view there. absurd cc
@@ -36,6 +37,7 @@ built_sized (block ∷ blocks) (lattice ∷ lattices) built = at (built_sized bl
     at rest zero view there = subst (λ (v : LatticeView). size v.order ≡ length v.entries) (first_is view there) own
     at rest (suc n) view there = rest n view there
 
+-- the orders that blocks build are lattices
 pub built_lattices : (blocks : List BlockView) (lattices : List LatticeView) → AreAllBuilt blocks lattices
     → AreLattices lattices
 built_lattices [] [] built = λ n view there. absurd cc
@@ -77,6 +79,7 @@ units_sound names inputs it =
     let may = (sources_may names.wide it.lattices 1 total_limit (sources_of names inputs) it.before it.units before it.parse).1 in
     sound_of (program_in it.lattices it.marks units).sources (read_all units may.formed)
 
+-- the constraints of files that are read are well owned, and name elements of their lattices
 pub programs_are_owned : SystemsAreOwned → LatticesAreNamed → ProgramsAreOwned
 programs_are_owned owned named names inputs it =
     let units = it.before ++ it.units in

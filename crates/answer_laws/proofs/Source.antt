@@ -39,6 +39,7 @@ one_unit : (wide : Bool) (lattices : List LatticeView) (number left : ℕ) (sour
     → (unit : UnitRead) × (units ≡ unit ∷ []) × SourceParses wide lattices number source.1 unit
 one_unit wide lattices _ _ _ _ (OneSource number left source _ unit _ within parses (NoSource _ _)) = (unit, refl, parses)
 
+-- where one source is named, what is read of the sources is one unit, of the bytes of that source
 the_unit : (named : FileNames) (inputs : Inputs) (it : ProgramIsRead named inputs) → length named.sources ≡ 1
     → (unit : UnitRead) × (it.units ≡ unit ∷ []) × SourceParses named.wide it.lattices 1 (first_of inputs.sources) unit
 the_unit named inputs it one =
@@ -46,6 +47,7 @@ the_unit named inputs it one =
     one_unit named.wide it.lattices 1 total_limit (file.0, first_of inputs.sources) it.units
     (subst (λ (files : List (List ℕ × List ℕ)). SourcesParse named.wide it.lattices 1 total_limit files it.units) file.1 it.parse)
 
+-- the text of an accepted program that was judged with unit 1 is its report with the annotated source
 of_text : CommentsComeOut → (named : FileNames) (inputs : Inputs) (it : ProgramIsRead named inputs) (text : List ℕ)
     → length named.sources ≡ 1
     → IsJudgedWith (judged named inputs it).scene (judged named inputs it).system (Some 1) true text
@@ -72,6 +74,7 @@ of_text law named inputs it text one is = by is
       source = law (judged named inputs it).scene source.0.lexed is.listings ∙ source.2.lexes.bytes_are;
     }
 
+-- the answer where the annotated source is asked for is the report with that source
 of_alone : CommentsComeOut
     → (named : FileNames) (inputs : Inputs) (it : ProgramIsRead named inputs) (text : List ℕ) (asked : Question)
     → asked ≡ Annotate → length named.sources ≡ 1 → IsAlone asked (judged named inputs it) Accepted text
@@ -82,6 +85,7 @@ of_alone law named inputs it text asked annotated one is =
     by : IsAlone Annotate (judged named inputs it) Accepted text → IsAnnotated named inputs text
     by (IsRight _ with_source) = of_text law named inputs it text one with_source
 
+-- an accepted end where the annotated source is asked for is the report with that source
 of_end : CommentsComeOut → (named : FileNames) (inputs : Inputs) (it : ProgramIsRead named inputs) (text : List ℕ)
     → named.asked ≡ Annotate → length named.sources ≡ 1
     → IsEnd named inputs.saved (judged named inputs it) Accepted text
@@ -90,6 +94,7 @@ of_end law named inputs it text annotated one (SavedJudged file _ _ there few is
     absurd (subst (λ (q : Question). IsOfSaved q (judged named inputs it) inputs.saved Accepted text) annotated is)
 of_end law named inputs it text annotated one (AnsweredAlone _ _ none is) = of_alone law named inputs it text named.asked annotated one is
 
+-- what is accepted behind lattices that were read is the report with the annotated source
 of_units : CommentsComeOut → (named : FileNames) (inputs : Inputs) (lattices : List LatticeView)
     → LatticesRead named.wide inputs.lattice lattices
     → (text : List ℕ) → named.asked ≡ Annotate → length named.sources ≡ 1 → OfUnits named inputs lattices Accepted text
@@ -110,6 +115,7 @@ some_task e = cc
 some_names : {x y : FileNames} → Some x ≡ Some y → x ≡ y
 some_names e = cc
 
+-- an accepted text with the annotated source is the report and the source with comments
 pub annotated_gives_the_source : CommentsComeOut → AnnotatedGivesTheSource
 annotated_gives_the_source law words names inputs text means (WithMeaning task _ _ is outcome) =
     by (some_task (sym is ∙ means)) outcome

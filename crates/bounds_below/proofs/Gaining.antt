@@ -15,6 +15,7 @@ use Rattle.bounds_below.proofs.Bits.{from_left, from_right, in_union}
 pub gains_same : (w : Work) → Gains w w
 gains_same w = record { size = refl; left = omega arith; kept = λ v b has. has; waits = λ v waits. waits; still = λ v. inr refl }
 
+-- sets that gain and gain again have gained in all
 pub gains_then : (a b c : Work) → Gains a b → Gains b c → Gains a c
 gains_then a b c p q = record {
   size = q.size ∙ p.size;

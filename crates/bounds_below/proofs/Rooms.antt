@@ -2,6 +2,7 @@
 use Rattle.std.proofs.Common.{ℕ, zero, suc, ◌<◌, ◌^◌, List, [], ◌∷◌, length, get_or, arith, set}
 use Rattle.bounds_below.specs.Carrying.{room}
 
+-- a set of 64 bits that becomes greater leaves less room
 pub room-set : (sets : List ℕ) (i y : ℕ) → i < length sets → get_or sets i 0 < y → y < 2 ^ 64
     → room (set sets i y) < room sets
 room-set [] i y within more fits = absurd (omega (arith, within))

@@ -13,6 +13,7 @@ use Rattle.name_rules.specs.ShapeSteps.State as shape_states
 use Rattle.name_rules.specs.ShapeSteps.Steps as shapes
 use Rattle.c_names.specs.Parts.{blamed, auto_declared, type_of_name, with_some_type}
 
+-- behind one op more, the shapes along the ops left are those along the tape from that op on
 pub shapes_on : (u : Spelling) (s : Names) (tape : List Op) (i : ℕ) (op : Op) (st after : shape_states.State)
     → op ≡ slice_index_or tape i op → i < length tape → after ≡ shapes.step u s st op
     → shapes.run u s after (drop (i + 1) tape) ≡ shapes.run u s st (drop i tape)
@@ -39,6 +40,7 @@ typed_is u token o made st is =
     ap (λ (s : State). with_type (type_or_base (option_map bare o)) s) (blamed_bare u token o (part_ended st)) ∙
     ap (λ (t : CType). with_type t (blamed u token o (part_ended st))) (bare_made o)
 
+-- a name declared with the bare type of a value, or the base type and a fault, is what the step of `auto` makes of it
 pub auto_is : (u : Spelling) (token : ℕ) (o made : Option CType) (st : State) → made ≡ option_map bare o →
     name_declared u (auto_declared (type_or_base made) (blamed u token made (part_ended st))) ≡ auto_typed u token o st
 auto_is u token o made st is =

@@ -38,6 +38,7 @@ past_filled : (rows : List Row) (other : CType) (n : ℕ) → length rows ≤ n 
 unfolding filled
 past_filled rows other n le = rw (le-ltb n (length rows) le) refl
 
+-- a number that shows one type by the types of every table grown from this one is a number of this table
 low_of : (rows : List Row) (n : ℕ) (made : CType) → ((t : ℕ → CType) → Knows t rows → t n ≡ made) → n < length rows
 low_of rows n made alike = elim (cases_lt n (length rows)) [
   | inl lt ↦ lt
@@ -56,6 +57,7 @@ abbrev other_types : List CType → List CType
 other_types [] = []
 other_types (t ∷ ts) = ts
 
+-- numbers that show the same types by those of every table grown from this one are numbers of this table
 lows_of : (rows : List Row) (ns : List ℕ) (made : List CType) → ((t : ℕ → CType) → Knows t rows → map t ns ≡ made)
     → AreBelow (length rows) ns
 lows_of rows [] made alike = tt
@@ -65,6 +67,7 @@ lows_of rows (n ∷ ns) made alike = (
       (λ t knows. ap other_types (alike t knows)),
 )
 
+-- specifiers whose type is the same by the types of every table grown from this one hold a number of this table at most
 so_far_low_of : (rows : List Row) (s : SoFar) (made : CType)
     → ((t : ℕ → CType) → Knows t rows → so_far_type t s ≡ made) → IsLow (length rows) s
 so_far_low_of rows so_fars.Base made alike = tt
@@ -101,6 +104,7 @@ module _ (rows : List Row) (s : State) (is : IsShown rows s) where
       (λ t knows. ap (λ ds. steps.innermost_or [] (map (types_of_list t) ds)) (sym there)
       ∙ ap (λ (x : steps.State). steps.innermost_or [] x.finished) (is.alike t [] knows))
 
+-- a declaration that is on top of a stack is the first of its list
 pub top_is : (ds : List OpenDeclaration) (d : OpenDeclaration) → Some d ≡ top ds
     → (rest : List OpenDeclaration) × (ds ≡ d ∷ rest)
 top_is [] d is = absurd cc
@@ -113,6 +117,7 @@ top_is (e ∷ ds) d is = (ds, ap (λ x. x ∷ ds) (some_is is))
     some_is : Some d ≡ Some e → e ≡ d
     some_is same = sym (ap unsome same)
 
+-- one op more of a tape is taken: those taken before, then the op at the position
 taken : (tape : List Op) (at : ℕ) (op : Op) → op ≡ slice_index_or tape at op → at < length tape →
     take (at + 1) tape ≡ take at tape ++ op ∷ []
 taken [] at op is lt = absurd (omega arith)
@@ -127,6 +132,7 @@ knows_before old new t grows knows = λ n lt. knows n (let l = grows.longer in o
 pub grows_none : (rows : List Row) → Grows rows rows
 grows_none rows = record { keeps = λ n lt. refl; longer = omega arith }
 
+-- a table that grows from one that grows from a first grows from the first
 pub grows_twice : (a b c : List Row) → Grows a b → Grows b c → Grows a c
 grows_twice a b c one two = record {
   keeps = λ n lt. two.keeps n (let l = one.longer in omega arith) ∙ one.keeps n lt;

@@ -8,11 +8,13 @@ use Rattle.c_names.specs.Identifiers.{number_in, typed_once, NumberTable, number
 pub none_numbered : (numbers : NumberTable) → ((key : ℕ) → number_there numbers key ≡ None) → AreNumbered [] numbers
 none_numbered numbers none = record { same = none }
 
+-- a search that finds nothing has no hit at its first item, and none behind it
 none_parts : (b : Bool) (o : Option ℕ) → (if b then Some 0 else option_map suc o) ≡ None → (b ≡ false) × (o ≡ None)
 none_parts true o e = absurd cc
 none_parts false None e = (refl, refl)
 none_parts false (Some n) e = absurd cc
 
+-- one identifier more, of a new spelling: its key has the number of all before it, other keys keep theirs
 number_behind : (all : List OldParameter) (it : OldParameter) (key : ℕ) → number_in it.key all ≡ None →
     number_in key (all ++ it ∷ []) ≡ (if nat_eq it.key key then Some (length all) else number_in key all)
 number_behind [] it key new = refl
@@ -46,6 +48,7 @@ one_numbered all new it n before after h unknown is at set = record {
       sym (number_behind all it key unknown) ∙ ap (number_in key) (sym is);
 }
 
+-- a type given to one parameter changes the number of no identifier
 typed_number : (all : List OldParameter) (n ty key : ℕ)
     → number_in key (changed_at all n (typed_once ty)) ≡ number_in key all
 typed_number [] n ty key = refl
@@ -60,12 +63,14 @@ typed_numbered all new n ty numbers h is = record {
   same = λ key. h.same key ∙ sym (typed_number all n ty key) ∙ ap (number_in key) (sym is);
 }
 
+-- an item set to what a function makes of it is the list changed there by the function
 pub changed : (xs : List OldParameter) (n : ℕ) (x y : OldParameter) (f : OldParameter → OldParameter) → n < length xs →
     x ≡ slice_index_or xs n x → y ≡ f x → slice_set xs n y ≡ changed_at xs n f
 changed [] n x y f lt is made = absurd (omega arith)
 changed (z ∷ xs) zero x y f lt is made = ap (λ w. w ∷ xs) (made ∙ ap f is)
 changed (z ∷ xs) (suc n) x y f lt is made = ap (λ ys. z ∷ ys) (changed xs n x y f (omega arith) is made)
 
+-- a change at a position past the end leaves the list as it is
 pub unchanged : (xs : List OldParameter) (n : ℕ) (f : OldParameter → OldParameter) → length xs ≤ n
     → xs ≡ changed_at xs n f
 unchanged [] n f le = refl

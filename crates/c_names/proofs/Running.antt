@@ -5,6 +5,7 @@ use Rattle.name_rules.specs.Spellings.{Spelling}
 use Rattle.name_rules.specs.NameSteps.State.{State}
 use Rattle.name_rules.specs.NameSteps.Steps.{step, run}
 
+-- behind one op more, the steps along the ops left are those along the tape from that op on
 pub runs_on : (u : Spelling) (tape : List Op) (i : ℕ) (op : Op) (s after : State) → op ≡ slice_index_or tape i op
     → i < length tape → after ≡ step u s op
     → run u (drop (i + 1) tape) after ≡ run u (drop i tape) s

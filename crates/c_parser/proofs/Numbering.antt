@@ -32,6 +32,7 @@ opens_none [] (suc n) h = refl
 opens_none (t ∷ tokens) zero h = absurd (omega (arith, h))
 opens_none (t ∷ tokens) (suc n) h = opens_none tokens n (omega (arith, h))
 
+-- one token more: the tokens up to it, numbered, are those before it and it, read by whether `(` comes next
 numbered_on : (first : ℕ) (tokens : List Token) (n at : ℕ) (kind : TokenKind)
     → option_map (λ token. token.kind) (slice_get tokens n) ≡ Some kind → at ≡ first + n →
     take (suc n) (numbered first tokens) ≡ take n (numbered first tokens) ++ record { kind = read_before kind (opens (drop (suc n) tokens)); at = at } ∷ []
@@ -46,6 +47,7 @@ pub lexemes_on : (tokens : List Token) (n : ℕ) (kind : TokenKind)
     take (n + 1) (numbered 0 tokens) ≡ take n (numbered 0 tokens) ++ record { kind = read_before kind (opens (drop (n + 1) tokens)); at = n } ∷ []
 lexemes_on tokens n kind is = rw add-one (numbered_on 0 tokens n n kind is (omega arith))
 
+-- as many numbered tokens as there are, or more, are all of them
 all_from : (first : ℕ) (tokens : List Token) (n : ℕ) → length tokens ≤ n
     → take n (numbered first tokens) ≡ numbered first tokens
 all_from first [] zero h = refl
@@ -58,6 +60,7 @@ all_from first (t ∷ tokens) (suc n) h =
 pub all_lexemes : (tokens : List Token) (n : ℕ) → length tokens ≤ n → take n (numbered 0 tokens) ≡ numbered 0 tokens
 all_lexemes tokens n h = all_from 0 tokens n h
 
+-- a numbered token has the number of the first and its position among them
 place_of : (first : ℕ) (tokens : List Token) (n : ℕ) (t : Lexeme) → slice_get (numbered first tokens) n ≡ Some t
     → t.at ≡ first + n
 place_of first [] n t is = cc

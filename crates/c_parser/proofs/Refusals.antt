@@ -44,6 +44,7 @@ kinds_front (t ∷ front) last =
     let first : TokenKind = read_before t.kind (opens (front ++ last ∷ [])) in
     (first ∷ rest.0, ap (λ (kinds : List TokenKind). first ∷ kinds) rest.1)
 
+-- tokens that end in an end mark still do once their kinds are read
 kinds_ended : (tokens : List Token) → tokens_end.IsEnded tokens → places.IsEnded (kinds_in tokens)
 kinds_ended tokens ended =
     let found = kinds_front ended.0 ended.1 in
@@ -56,6 +57,7 @@ pub record IsRefused (wide : Bool) (tokens : List Token) (fault : ParseFault) : 
   pub is : fault ≡ fault_named named token
   pub refused : unit_at wide (numbered 0 tokens) ≡ Err (named, token)
 
+-- a fault that is named with a token is at that token
 token_is : (fault : Fault) (token : ℕ) → token_of (fault_named fault token) ≡ token
 token_is reading.Unexpected token = refl
 token_is reading.TooDeep token = refl
@@ -63,6 +65,7 @@ token_is reading.Redeclared token = refl
 token_is reading.BadMix token = refl
 token_is reading.BadTarget token = refl
 
+-- a fault that is none for the height, once named, is not `TooDeep`
 not_deep : (fault : Fault) (token : ℕ) → is_for_height (fault_named fault token) ≡ false → ¬ (fault ≡ reading.TooDeep)
 not_deep reading.Unexpected token h e = absurd cc
 not_deep reading.TooDeep token h e = absurd cc
@@ -70,6 +73,7 @@ not_deep reading.Redeclared token h e = absurd cc
 not_deep reading.BadMix token h e = absurd cc
 not_deep reading.BadTarget token h e = absurd cc
 
+-- a named fault that is one of syntax is `Unexpected`, at the same token
 syntax_is : (fault : Fault) (one token : ℕ) → faults.Syntax token ≡ fault_named fault one
     → (fault ≡ reading.Unexpected) × (token ≡ one)
 syntax_is reading.Unexpected one token e = (refl, cc)
@@ -78,6 +82,7 @@ syntax_is reading.Redeclared one token e = absurd cc
 syntax_is reading.BadMix one token e = absurd cc
 syntax_is reading.BadTarget one token e = absurd cc
 
+-- a named fault that is one for the height is `TooDeep`, at the same token
 deep_is : (fault : Fault) (one token : ℕ) → faults.TooDeep token ≡ fault_named fault one
     → (fault ≡ reading.TooDeep) × (token ≡ one)
 deep_is reading.Unexpected one token e = absurd cc

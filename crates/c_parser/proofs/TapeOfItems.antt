@@ -23,6 +23,7 @@ use Rattle.c_parser.specs.Whole.{unit_found}
 pub of_one_item : (x : rust_item.Item) → tape_of (map item_of (x ∷ [])) ≡ item_tape (item_of x)
 of_one_item x = append-nil (item_tape (item_of x))
 
+-- the op of the node at a position, then those of the nodes behind it, are the ops from the position on
 dropped : (xs : List Node) (i : ℕ) (x : Node) → i < length xs → x ≡ slice_index_or xs i x
     → op_of x ∷ map op_of (drop (i + 1) xs) ≡ map op_of (drop i xs)
 dropped [] i x lt is = absurd (omega arith)

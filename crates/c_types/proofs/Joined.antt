@@ -13,6 +13,7 @@ use Rattle.c_types.specs.Sources.{UnitRead, lexed_of, source_behind, sources_beh
 use Rattle.c_types.specs.Units.{all_but_last, AreParts, IsTaped}
 use Rattle.c_types.proofs.Sources.{map_more}
 
+-- the sources of units and one more are those of the units, then that one behind the tokens of all of them
 sources_more : (earlier : List Lexed) (units : List UnitRead) (it : UnitRead)
     → sources_behind earlier (units ++ it ∷ []) ≡ sources_behind earlier units ++ source_behind (earlier ++ lexed_of units) it ∷ []
 sources_more earlier [] it = ap (λ (e : List Lexed). source_behind e it ∷ []) (sym (append-nil earlier))
@@ -23,6 +24,7 @@ sources_more earlier (u ∷ units) it =
 lexed_more : (units : List UnitRead) (it : UnitRead) → lexed_of (units ++ it ∷ []) ≡ lexed_of units ++ it.lexed ∷ []
 lexed_more units it = map_more (λ (u : UnitRead). u.lexed) units (it ∷ [])
 
+-- all but the last of a list and one more is the list
 but_last : (units : List Lexed) (it : Lexed) → all_but_last (units ++ it ∷ []) ≡ units
 but_last [] it = refl
 but_last (u ∷ []) it = refl

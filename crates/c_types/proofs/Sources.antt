@@ -40,6 +40,7 @@ map_more f (x ∷ xs) ys = ap (λ zs. f x ∷ zs) (map_more f xs ys)
 abbrev pub tapes_from : List Lexed → List Read → List Tape
 tapes_from before sources = map tape_of_source (sources_behind before (units_of sources))
 
+-- the tape of the source at a position, then those of the sources behind it, are those from the position on
 next_tape : (sources : List Read) (i : ℕ) (it : Read) (before : List Lexed) → it ≡ slice_index_or sources i it
     → i < length sources
     → tape_of_source (source_behind before (unit_of it)) ∷ tapes_from (before ++ it.tokens ∷ []) (drop (i + 1) sources)
@@ -65,6 +66,7 @@ tapes_on sources i it before units unit is lt made =
 
 -- what is found on tapes
 
+-- the faults found along the tapes of sources are those found on the sources
 found_is : (sources : List Source) (s : Names) → faults_among s (map tape_of_source sources) ≡ found_on sources s
 found_is [] s = refl
 found_is (it ∷ sources) s =

@@ -39,6 +39,7 @@ module _ (sys : System) where
       let here = each 0 o p refl refl in
       (here.0, here.1, plain_of os ps (omega (arith, many)) (λ n order part o_there p_there. each (suc n) order part o_there p_there))
 
+-- the text that is written of an accepted, well owned program comes to `Holds`
 pub written_reads : WrittenReads
 written_reads sys orders text owned ordered accepted is =
     let written = is.written in

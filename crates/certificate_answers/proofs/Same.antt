@@ -83,6 +83,7 @@ order_at [] (p ∷ ps) n part many there = absurd (omega (arith, many))
 order_at (o ∷ os) (p ∷ ps) zero part many there = (o, refl)
 order_at (o ∷ os) (p ∷ ps) (suc n) part many there = order_at os ps n part (omega (arith, many)) there
 
+-- two texts of certificates of one system are equal
 pub one_certificate : OneCertificate
 one_certificate sys orders text other a b =
     let same = all_same sys a.parts b.parts (a.written.as_many ∙ sym b.written.as_many)

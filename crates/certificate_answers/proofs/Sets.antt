@@ -6,6 +6,7 @@ use Rattle.std.proofs.lemmas.Nat.Bits.{bit_at-lt, bit_at-zero, same_from_bits}
 use Rattle.closure_check.specs.Parts.{has}
 use Rattle.closure_check.proofs.BitSets.{bit_of, of_bit}
 
+-- an element that is not in a set has bit 0 there
 no_bit : (set e : ℕ) → (has set e ≡ true → ⊥) → bit_at set e ≡ 0
 no_bit set e none = elim (eqb_tells (bit_at set e) 1) [
   | inl is ↦ absurd (none (of_bit set e is.1))

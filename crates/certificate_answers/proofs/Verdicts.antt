@@ -31,6 +31,7 @@ some_rule e = cc
 abbrev rules : List CertRule
 rules = A1 ∷ A2 ∷ A3 ∷ A4 ∷ A5 ∷ A6 ∷ A7 ∷ A8 ∷ A9 ∷ []
 
+-- each rule stands at its number less one in the list of rules
 at_number : (rule : CertRule) → slice_get rules (number_of rule - 1) ≡ Some rule
 at_number A1 = refl
 at_number A2 = refl

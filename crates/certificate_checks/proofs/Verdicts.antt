@@ -12,6 +12,7 @@ use Rattle.certificate_checks.specs.Checks.{ComesTo, StopsAt, NamesNone, unread_
 some_verdict : {x y : Verdict} → Some x ≡ Some y → x ≡ y
 some_verdict e = cc
 
+-- a text with a fault at its place comes to the verdict of that fault
 pub fault_comes : (sys : System) (orders : List Order) (text : List ℕ) (fault : CertFault) (verdict : Verdict)
     → unread_of fault ≡ Some verdict →
     IsPlaced sys orders (lines_of text) fault → ComesTo sys orders text verdict

@@ -34,6 +34,7 @@ exceeded_unmet sys lattice order n over accepted =
     let met = accepted over.depth in
     over.unmet met.0 met.1.rises (met.1.bound n)
 
+-- an item of a list with one more part is one of the list, or the new part at its end
 before_or_at : (xs : List Part) (x : Part) (n : ℕ) (y : Part) → slice_get (xs ++ x ∷ []) n ≡ Some y
     → (slice_get xs n ≡ Some y) ⊎ ((n ≡ length xs) × (x ≡ y))
 before_or_at [] x zero y is = inr (refl, some_part is)

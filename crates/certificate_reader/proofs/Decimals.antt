@@ -19,6 +19,7 @@ digit_is k small = grind arith
 pub digit_bounds : (d : ℕ) → is_ascii_digit d ≡ true → (48 ≤ d) × (d < 58)
 digit_bounds d h = grind (arith, h)
 
+-- digits that write a number write ten times it and the value of one more digit behind them
 pub append_behind : (v w : ℕ) (ds : List ℕ) (e : ℕ) → number_behind v ds ≡ Some w → is_ascii_digit e ≡ true
     → number_behind v (ds ++ e ∷ []) ≡ Some (10 * w + (e - 48))
 append_behind v w [] e is digit = let same : v ≡ w = cc in rw (digit, same) refl
@@ -27,6 +28,7 @@ append_behind v w (d ∷ ds) e is digit =
     (λ b. cond b (number_behind (10 * v + (d - 48)) ds) None ≡ Some w → cond b (number_behind (10 * v + (d - 48)) (ds ++ e ∷ [])) None ≡ Some (10 * w + (e - 48)))
     [ true ↦ λ h. append_behind (10 * v + (d - 48)) w ds e h digit | false ↦ λ h. absurd cc ]) is
 
+-- a number below 10 is written by its one digit
 one_digit : (n : ℕ) → n < 10 → Writes n ((48 + n) ∷ [])
 one_digit n small = record {
   value = let same : 10 * 0 + (48 + n - 48) ≡ n = omega arith in rw (digit_is n small, same) refl;
@@ -37,6 +39,7 @@ one_digit n small = record {
   leads = λ positive. omega (arith, positive);
 }
 
+-- digits that write a tenth of a number write it with its last digit behind them
 more_digits : (n : ℕ) (ds : List ℕ) → 10 ≤ n → Writes (n / 10) ds → Writes n (ds ++ ((48 + n % 10) ∷ []))
 more_digits n ds large w =
     let last : n % 10 < 10 = omega arith in
@@ -52,11 +55,13 @@ more_digits n ds large w =
       leads = λ positive. leads;
     }
 
+-- digits without a leading zero are read as the number that they write
 is_read : (d : ℕ) (rest : List ℕ) → (rest ≡ []) ⊎ (48 < d) → number_of (d ∷ rest) ≡ number_behind 0 (d ∷ rest)
 is_read d [] alone = refl
 is_read d (e ∷ es) (inl is) = absurd cc
 is_read d (e ∷ es) (inr above) = let other : (d == 48) ≡ false = ne_eqb d 48 (λ same. omega (arith, above, same)) in rw other refl
 
+-- the decimal digits of a number of 64 bits are read as it
 pub decimal_is_read : (n : ℕ) → n < 2 ^ 64 → number_of (decimal n) ≡ Some n
 decimal_is_read n fits =
     let w = decimal_by_steps Writes one_digit more_digits n fits in
@@ -78,6 +83,7 @@ by_digit : {A : Type 0} → (d n : ℕ) (rest : Option ℕ) (b : Bool) → is_as
 by_digit d n rest true is h then_ = then_ is h
 by_digit d n rest false is h then_ = absurd cc
 
+-- digits that write a number have a last one, and those before it write what is left without it
 last_of : (ds : List ℕ) (v n d : ℕ) → number_behind v (d ∷ ds) ≡ Some n → Last v n (d ∷ ds)
 last_of [] v n d h = by_digit d n (Some (10 * v + (d - 48))) (is_ascii_digit d) refl h
     (λ digit is.
@@ -97,6 +103,7 @@ last_of (e ∷ es) v n d h = by_digit d n (number_behind (10 * v + (d - 48)) (e 
       high = deeper.high;
     })
 
+-- digits behind a number write no less than it
 at_least : (ds : List ℕ) (v n : ℕ) → number_behind v ds ≡ Some n → v ≤ n
 at_least [] v n h = let same : v ≡ n = cc in omega (arith, same)
 at_least (d ∷ ds) v n h = by_digit d n (number_behind (10 * v + (d - 48)) ds) (is_ascii_digit d) refl h
@@ -117,6 +124,7 @@ by_lead d n rest false is h then_ = then_ is h
 no_zero : (d : ℕ) → (d == 48) ≡ false → 48 ≤ d → 48 < d
 no_zero d other low = grind (arith, other, low)
 
+-- a numeral of two digits and more is of a number from 10 on: digits of its tenth, and its last digit
 longer : (n d e : ℕ) (es : List ℕ) → number_of (d ∷ e ∷ es) ≡ Some n → Longer n (d ∷ e ∷ es)
 longer n d e es h = by_lead d n (number_behind 0 (d ∷ e ∷ es)) (d == 48) refl h
     (λ other whole. by_digit d n (number_behind (10 * 0 + (d - 48)) (e ∷ es)) (is_ascii_digit d) refl whole
@@ -137,6 +145,7 @@ longer n d e es h = by_lead d n (number_behind 0 (d ∷ e ∷ es)) (d == 48) ref
 abbrev OnlyOne : ℕ → List ℕ → Type 0
 OnlyOne n ds = (xs : List ℕ) → number_of xs ≡ Some n → xs ≡ ds
 
+-- a number below 10 has its one digit as its only numeral
 one_only : (n : ℕ) → n < 10 → OnlyOne n ((48 + n) ∷ [])
 one_only n small [] h = absurd cc
 one_only n small (d ∷ []) h = by_digit d n (Some (10 * 0 + (d - 48))) (is_ascii_digit d) refl h
@@ -146,6 +155,7 @@ one_only n small (d ∷ []) h = by_digit d n (Some (10 * 0 + (d - 48))) (is_asci
     ap (λ (c : ℕ). c ∷ []) same)
 one_only n small (d ∷ e ∷ es) h = absurd (omega (arith, small, (longer n d e es h).large))
 
+-- a number from 10 on has one numeral if its tenth has one
 more_only : (n : ℕ) (ds : List ℕ) → 10 ≤ n → OnlyOne (n / 10) ds → OnlyOne n (ds ++ ((48 + n % 10) ∷ []))
 more_only n ds large deeper [] h = absurd cc
 more_only n ds large deeper (d ∷ []) h = by_digit d n (Some (10 * 0 + (d - 48))) (is_ascii_digit d) refl h

@@ -23,6 +23,7 @@ record Said : Type 0 where
   pairs : List (ℕ × ℕ)
   parts : List Written
 
+-- what lines say: sets and pairs in front of the first line of a lattice, and the certificates from there on
 abbrev said : List Line → Said
 said [] = record { sets = []; pairs = []; parts = [] }
 said (Certificate ∷ lines) = said lines
@@ -43,6 +44,7 @@ nothing_behind : {A : Type 0} → (xs : List A) → xs ++ [] ≡ xs
 nothing_behind [] = refl
 nothing_behind (x ∷ xs) = ap (λ ys. x ∷ ys) (nothing_behind xs)
 
+-- the lines of parts say these parts, and nothing in front of them
 parts_said : (parts : List Written) (number : ℕ) → said (part_lines number parts []) ≡ record { sets = []; pairs = []; parts = parts }
 parts_said [] number = refl
 parts_said (part ∷ parts) number =
@@ -67,6 +69,7 @@ among_there [] x there = absurd there
 among_there (y ∷ xs) x (inl same) = (0, ap Some (sym same))
 among_there (y ∷ xs) x (inr later) = let deeper = among_there xs x later in (suc deeper.0, deeper.1)
 
+-- in ascending pairs each comes before all behind it
 pub ascending_rises : (pairs : List (ℕ × ℕ)) → AreAscending pairs → Rises Earlier pairs
 ascending_rises [] up = tt
 ascending_rises (p ∷ pairs) up = (
@@ -74,6 +77,7 @@ ascending_rises (p ∷ pairs) up = (
   ascending_rises pairs (λ i j q r low one other. up (suc i) (suc j) q r (omega (arith, low)) one other),
 )
 
+-- an item at a place of a list is among its items
 pub at_among : {A : Type 0} → (xs : List A) (k : ℕ) (x : A) → slice_get xs k ≡ Some x → Among x xs
 at_among [] k x there = absurd cc
 at_among (y ∷ xs) zero x there = let same : y ≡ x = cc in inl (sym same)
@@ -162,6 +166,7 @@ module _ (sys : System) where
         all_same orders parts others one.2 two.2 rest,
       )
 
+-- two lists of certificates that one text reads as have the same pairs and sets
 pub reads_once : ReadsOnce
 reads_once sys orders bytes parts others bounded one two =
     all_same sys orders parts others one.1 two.1

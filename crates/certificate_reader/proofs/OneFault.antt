@@ -15,6 +15,7 @@ front xs zero = (xs, refl)
 front [] (suc k) = ([], refl)
 front (x ∷ xs) (suc k) = let deeper = front xs k in (deeper.0, ap (λ ys. x ∷ ys) deeper.1)
 
+-- more first items of a list are fewer ones and some behind them
 pub longer_front : {A : Type 0} → (xs : List A) (k m : ℕ) → k ≤ m → (rest : List A) × (take m xs ≡ take k xs ++ rest)
 longer_front xs zero m short = (take m xs, refl)
 longer_front [] (suc k) zero short = absurd (omega (arith, short))
@@ -26,6 +27,7 @@ pub all_taken : {A : Type 0} → (xs : List A) → take (length xs) xs ≡ xs
 all_taken [] = refl
 all_taken (x ∷ xs) = ap (λ ys. x ∷ ys) (all_taken xs)
 
+-- a place that has an item is within the list
 pub there_within : {A : Type 0} → (xs : List A) (k : ℕ) (x : A) → slice_get xs k ≡ Some x → k < length xs
 there_within [] k x there = absurd cc
 there_within (y ∷ xs) zero x there = omega arith
@@ -106,6 +108,7 @@ module _ (sys : System) (orders : List Order) where
   shaped_has_none lines (NoSuchVariable n) shaped known is = unknown_clash is.line (all_known lines is.before is.line known is.there) is.unknown
   shaped_has_none lines NoMemory shaped known is = refl
 
+-- two faults of the same lines, neither of which is want of memory, are equal
 pub one_fault : OneFault
 one_fault sys orders lines (Grammar m) (Grammar n) some too one other = ap Grammar (same_misfit sys orders lines m n one other)
 one_fault sys orders lines (Grammar m) (NoSuchVariable n) some too one other = misfit_or_name sys orders lines m n one other

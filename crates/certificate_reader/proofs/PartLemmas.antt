@@ -33,6 +33,7 @@ set_here [] u x within = absurd (omega (arith, within))
 set_here (y ∷ xs) zero x within = refl
 set_here (y ∷ xs) (suc u) x within = set_here xs u x (omega (arith, within))
 
+-- setting one place of a list leaves what stands at another
 set_other : (xs : List ℕ) (u v x : ℕ) → (u ≡ v → ⊥) → slice_index (slice_set xs u x) v ≡ slice_index xs v
 set_other [] u v x apart = refl
 set_other (y ∷ xs) zero zero x apart = absurd (apart refl)
@@ -88,6 +89,7 @@ module _ (sys : System) (sets : List SetLine) (it : SetLine) (first second : Lis
 pub var_there : (sys : System) (end v : ℕ) → slice_get (ends_in sys) end ≡ Some v → var_at sys end ≡ v
 var_there sys end v there = get_or_from_slice_get (ends_in sys) end v 0 there
 
+-- an end of a constraint is below the number of variables
 below_highest : (cs : List Constraint) (k v : ℕ) → slice_get (ends_of cs) k ≡ Some v → v < highest cs
 below_highest [] k v there = absurd cc
 below_highest (c ∷ cs) zero v there = let same : first_end c.link ≡ v = cc in omega (arith, same, first_below c.link (vars_of_link c.link) (omega arith))
@@ -120,11 +122,13 @@ record Fits (all : ℕ) (it : SetLine) : Type 0 where
   first : it.first ≤ all
   second : it.second ≤ all
 
+-- sets that are found to fit are within all elements, the second not empty
 fits_of : (all : ℕ) (it : SetLine) → sets_fit all it.first it.second ≡ true → Fits all it
 fits_of all it h = both_hold (not (it.second == 0)) _ h
     (λ some rest. both_hold (not (nat_lt all it.first)) (not (nat_lt all it.second)) rest
     (λ one two. record { some = not_so _ some; first = within_all all it.first (not_so _ one); second = within_all all it.second (not_so _ two) }))
 
+-- each of several set lines that fit has sets that fit
 each_fits : (all : ℕ) (last : Option ℕ) (sets : List SetLine) → SetsFit all last sets → (it : SetLine) → Among it sets
     → Fits all it
 each_fits all last [] fit it there = absurd there
@@ -141,6 +145,7 @@ never_by_name x y one two = omega (arith, one, two)
 name_low : (last name : ℕ) → name_behind (Some last) name ≡ true → last < name
 name_low last name h = grind (arith, h)
 
+-- each of several set lines that fit behind a name has a higher name
 behind_all : (all last : ℕ) (sets : List SetLine) → SetsFit all (Some last) sets → (y : SetLine) → Among y sets
     → last < y.name
 behind_all all last [] fit y there = absurd there
@@ -151,12 +156,14 @@ sets_rise : (all : ℕ) (last : Option ℕ) (sets : List SetLine) → SetsFit al
 sets_rise all last [] fit = tt
 sets_rise all last (x ∷ sets) fit = (behind_all all x.name sets fit.2, sets_rise all (Some x.name) sets fit.2)
 
+-- a pair before one that is before another is before that other
 earlier_through : (p q r : ℕ × ℕ) → Earlier p q → Earlier q r → Earlier p r
 earlier_through p q r (inl a) (inl b) = inl (omega (arith, a, b))
 earlier_through p q r (inl a) (inr b) = inl (omega (arith, a, b.0))
 earlier_through p q r (inr a) (inl b) = inl (omega (arith, a.0, b))
 earlier_through p q r (inr a) (inr b) = inr (a.0 ∙ b.0, omega (arith, a.1, b.1))
 
+-- each of several pair lines that fit behind a pair comes after that pair
 pairs_behind : (p : ℕ × ℕ) (pairs : List (ℕ × ℕ)) → PairsFit (Some p) pairs → (q : ℕ × ℕ) → Among q pairs → Earlier p q
 pairs_behind p [] fit q there = absurd there
 pairs_behind p (r ∷ pairs) fit q (inl same) = subst (λ (s : ℕ × ℕ). Earlier p s) (sym same) (before_of p r.0 r.1 fit.0)
@@ -196,12 +203,14 @@ mapped sys [] q there = absurd there
 mapped sys (p ∷ pairs) q (inl same) = (p, inl refl, same)
 mapped sys (p ∷ pairs) q (inr later) = let deeper = mapped sys pairs q later in (deeper.0, inr deeper.1, deeper.2)
 
+-- a pair of names among others has its variables among theirs
 maps_to : (sys : System) (pairs : List (ℕ × ℕ)) (p : ℕ × ℕ) → Among p pairs
     → Among (vars_at sys p) (map (λ pair. vars_at sys pair) pairs)
 maps_to sys [] p there = absurd there
 maps_to sys (x ∷ pairs) p (inl same) = inl (ap (λ (q : ℕ × ℕ). vars_at sys q) same)
 maps_to sys (x ∷ pairs) p (inr later) = inr (maps_to sys pairs p later)
 
+-- pairs each of which comes before all behind it are ascending
 rises_ascend : (ps : List (ℕ × ℕ)) → Rises Earlier ps → AreAscending ps
 rises_ascend [] rise i j p q low one two = absurd cc
 rises_ascend (x ∷ ps) rise i zero p q low one two = absurd (omega (arith, low))

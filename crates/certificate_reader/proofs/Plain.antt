@@ -46,6 +46,7 @@ pub record IsSetOf (part : Part) (names : List Named) (it : SetLine) : Type 0 wh
   pub is : it ≡ record { name = x.name; first = slice_index part.first.items x.var; second = slice_index part.second.items x.var }
   pub some : (slice_index part.second.items x.var == 0) ≡ false
 
+-- a set line of a part has a name of the list and that variable's sets, the second of which is not empty
 pub set_from : (part : Part) (names : List Named) (it : SetLine) → Among it (sets_of part names) → IsSetOf part names it
 set_from part [] it there = absurd there
 set_from part (x ∷ names) it there = elim (among_either (set_of part x) (sets_of part names) it there) [
@@ -59,6 +60,7 @@ set_from part (x ∷ names) it there = elim (among_either (set_of part x) (sets_
     now false some (inl is) = record { x = x; there = inl refl; is = is; some = some }
     now false some (inr there) = absurd there
 
+-- a named variable whose second set is not empty has its line among the set lines of the part
 pub set_to : (part : Part) (names : List Named) (x : Named) → Among x names
     → (slice_index part.second.items x.var == 0) ≡ false →
     Among {A = SetLine} (record { name = x.name; first = slice_index part.first.items x.var; second = slice_index part.second.items x.var }) (sets_of part names)

@@ -43,6 +43,7 @@ certificate_begins : line_kind (codes "certificate") ≡ Certificate
 unfolding line_kind
 certificate_begins = refl
 
+-- the text of a name, its half and the letter of its remainder, is read as that name
 name_by : (name : ℕ) (b : Bool) → (name % 2 == 0) ≡ b → name < most_names
     → end_in (decimal (name / 2) ++ cond b (codes "a") (codes "b")) ≡ Some name
 name_by name true is small =
@@ -57,6 +58,7 @@ name_by name false is small =
 name_is_read : (name : ℕ) → name < most_names → end_in (name_text name) ≡ Some name
 name_is_read name small = name_by name (name % 2 == 0) refl small
 
+-- the decimal digits of a set of 64 bits are read as it
 bits_are_read : (set : ℕ) → set < 2 ^ 64 → bits_of (number_of (decimal set)) ≡ Some set
 bits_are_read set small =
     let fits : nat_lt set (2 ^ 64) ≡ true = grind (arith, small) in
@@ -75,6 +77,7 @@ pub record IsSmall (it : SetLine) : Type 0 where
   pub first : it.first < 2 ^ 64
   pub second : it.second < 2 ^ 64
 
+-- the text of a set line with numbers that are small is that line
 set_is : (it : SetLine) → IsSmall it → line_kind (set_bytes it) ≡ Set it.name it.first it.second
 set_is it small =
     let name = name_text it.name in
@@ -87,6 +90,7 @@ set_is it small =
     ∙ ap (λ (o : Option ℕ). set_line (Some it.name) o (bits_of (number_of second))) (bits_are_read it.first small.first)
     ∙ ap (set_line (Some it.name) (Some it.first)) (bits_are_read it.second small.second)
 
+-- the text of a pair line with names that are small is that line
 pair_is : (pair : ℕ × ℕ) → pair.0 < most_names → pair.1 < most_names → line_kind (pair_bytes pair) ≡ Pair pair.0 pair.1
 pair_is pair one other =
     let from = name_text pair.0 in
@@ -97,11 +101,13 @@ pair_is pair one other =
     ∙ ap (λ (o : Option ℕ). pair_line o (end_in to)) (name_is_read pair.0 one)
     ∙ ap (pair_line (Some pair.0)) (name_is_read pair.1 other)
 
+-- the text of a lattice line with a number below 2^32 - 1 is that line
 lattice_is : (number : ℕ) → number < 2 ^ 32 - 1 → line_kind (lattice_bytes number) ≡ Lattice number
 lattice_is number small =
     let same : min number (2 ^ 32 - 1) ≡ number = omega (arith, small) in
     lattice_begins (decimal number) ∙ ap lattice_line (decimal_is_read number (omega (arith, small))) ∙ ap Lattice same
 
+-- the text of a set line has no line feed
 set_free : (it : SetLine) → has 10 (set_bytes it) ≡ false
 set_free it =
     let name = name_text it.name in
@@ -114,6 +120,7 @@ set_free it =
     (decimal_lacks 10 it.first (omega arith))) refl)
     (decimal_lacks 10 it.second (omega arith))
 
+-- the text of a pair line has no line feed
 pair_free : (pair : ℕ × ℕ) → has 10 (pair_bytes pair) ≡ false
 pair_free pair =
     let from = name_text pair.0 in
@@ -138,6 +145,7 @@ abbrev pub AreSmallParts : List Written → Type 0
 AreSmallParts [] = Unit {0}
 AreSmallParts (part ∷ parts) = AreSmallSets part.sets × AreSmallPairs part.pairs × AreSmallParts parts
 
+-- the text of set lines in front of another is these lines and those of the other
 sets_lines : (sets : List SetLine) (rest : List ℕ) → AreSmallSets sets
     → lines_of (sets_text sets ++ rest) ≡ set_lines sets (lines_of rest)
 sets_lines [] rest small = refl
@@ -147,6 +155,7 @@ sets_lines (it ∷ sets) rest small =
     ∙ ap (λ (kind : Line). kind ∷ lines_of (sets_text sets ++ rest)) (set_is it small.0)
     ∙ ap (λ (ls : List Line). Set it.name it.first it.second ∷ ls) (sets_lines sets rest small.1)
 
+-- the text of pair lines in front of another is these lines and those of the other
 pairs_lines : (pairs : List (ℕ × ℕ)) (rest : List ℕ) → AreSmallPairs pairs
     → lines_of (pairs_text pairs ++ rest) ≡ pair_lines pairs (lines_of rest)
 pairs_lines [] rest small = refl
@@ -159,6 +168,7 @@ pairs_lines (pair ∷ pairs) rest small =
 four_parts : (a b c rest : List ℕ) → a ++ b ++ c ++ rest ≡ a ++ (b ++ (c ++ rest))
 four_parts a b c rest = append_assoc (a ++ b) c rest ∙ append_assoc a b (c ++ rest)
 
+-- the text of parts from a number on has the lines of those parts
 parts_lines : (parts : List Written) (number : ℕ) → AreSmallParts parts → number + length parts ≤ 2 ^ 32 - 1
     → lines_of (parts_text number parts) ≡ part_lines number parts []
 parts_lines [] number small few = refl
@@ -173,6 +183,7 @@ parts_lines (part ∷ parts) number small few =
     (sets_lines part.sets (pairs ++ rest) small.0
     ∙ ap (set_lines part.sets) (pairs_lines part.pairs rest small.1 ∙ ap (pair_lines part.pairs) (parts_lines parts (number + 1) small.2 (omega (arith, few)))))
 
+-- the text of a whole certificate has its lines, where its numbers are small
 pub text_lines : (parts : List Written) → AreSmallParts parts → length parts < 2 ^ 32 - 1
     → lines_of (text_of parts) ≡ lines_of_parts parts
 text_lines parts small few =
@@ -188,6 +199,7 @@ IsSmallLine (Set name first second) = name < most_names
 IsSmallLine (Pair from to) = (from < most_names) × (to < most_names)
 IsSmallLine Other = Unit {0}
 
+-- bytes are the one text of a line, by its form
 abbrev pub IsSpelled : Line → List ℕ → Type 0
 IsSpelled Certificate bytes = bytes ≡ codes "certificate"
 IsSpelled (Lattice number) bytes = bytes ≡ lattice_bytes number
@@ -212,6 +224,7 @@ by_end digits second name None is h low small = absurd cc
 letter_of : (name : ℕ) (b : Bool) → (name % 2 == 0) ≡ b → letter name ≡ cond b (codes "a") (codes "b")
 letter_of name b is = ap (λ (c : Bool). cond c (codes "a") (codes "b")) is
 
+-- digits and a letter that are read as a name are the text of that name
 named : (digits : List ℕ) (c name : ℕ) (a b : Bool) → (c == 97) ≡ a → (c == 98) ≡ b →
     cond a (end_of (number_of digits) 0) (cond b (end_of (number_of digits) 1) None) ≡ Some name → name < most_names → digits ++ c ∷ [] ≡ name_text name
 named digits c name true b is also h small =
@@ -226,6 +239,7 @@ named digits c name false true is also h small =
     ap (λ (xs : List ℕ). xs ++ c ∷ []) it.0 ∙ ap (λ (d : ℕ). decimal (name / 2) ++ d ∷ []) last ∙ ap (λ (xs : List ℕ). decimal (name / 2) ++ xs) (sym (letter_of name false odd))
 named digits c name false false is also h small = absurd cc
 
+-- bytes that are read as a name are the text of that name
 name_of_end : (bytes : List ℕ) (name : ℕ) → end_in bytes ≡ Some name → name < most_names → bytes ≡ name_text name
 name_of_end [] name h small = absurd cc
 name_of_end (x ∷ xs) name h small =
@@ -237,6 +251,7 @@ name_of_end (x ∷ xs) name h small =
     subst (λ (k : ℕ). by_letter (number_of (take k (x ∷ xs))) (slice_index (x ∷ xs) k) ≡ Some name) less h in
     sym whole ∙ named digits last name (last == 97) (last == 98) refl refl read small
 
+-- a numeral below 2^64 that is read as a set is the set's decimal digits
 bits_by : (bytes : List ℕ) (set n : ℕ) (b : Bool) → nat_lt n (2 ^ 64) ≡ b → number_of bytes ≡ Some n
     → cond b (Some n) None ≡ Some set → bytes ≡ decimal set
 bits_by bytes set n true is read h =
@@ -263,6 +278,7 @@ by_sets bytes a b c (Some n) (Some f) None is name first second small = tt
 by_sets bytes a b c (Some n) None s is name first second small = tt
 by_sets bytes a b c None f s is name first second small = tt
 
+-- a line of `pair`, two words and a space is the text of the pair line that it is read as
 by_pairs : (bytes a b : List ℕ) (from to : Option ℕ) → bytes ≡ codes "  pair " ++ (a ++ 32 ∷ b) → end_in a ≡ from
     → end_in b ≡ to → Spells (pair_line from to) bytes
 by_pairs bytes a b (Some m) (Some n) is from to small =
@@ -273,6 +289,7 @@ by_pairs bytes a b (Some m) (Some n) is from to small =
 by_pairs bytes a b (Some m) None is from to small = tt
 by_pairs bytes a b None n is from to small = tt
 
+-- a line of `lattice` and a numeral is the text of the lattice line that it is read as
 lattice_spells : (bytes numeral : List ℕ) (o : Option ℕ) → bytes ≡ codes "lattice " ++ numeral → number_of numeral ≡ o
     → Spells (lattice_line o) bytes
 lattice_spells bytes numeral (Some n) is read small =
@@ -280,6 +297,7 @@ lattice_spells bytes numeral (Some n) is read small =
     is ∙ ap (λ (t : List ℕ). codes "lattice " ++ t) (decimal_of numeral n (omega (arith, small)) read) ∙ ap (λ (m : ℕ). lattice_bytes m) (sym same)
 lattice_spells bytes numeral None is read small = tt
 
+-- a line of `set` and words is the text of the set line that it is read as
 set_spells : (bytes rest : List ℕ) (ws : List (List ℕ)) → bytes ≡ codes "  set " ++ rest → rest ≡ join_with_byte 32 ws
     → Spells (set_kind ws) bytes
 set_spells bytes rest [] is parts small = tt
@@ -289,6 +307,7 @@ set_spells bytes rest (a ∷ b ∷ c ∷ []) is parts small =
     by_sets bytes a b c (end_in a) (bits_of (number_of b)) (bits_of (number_of c)) (is ∙ ap (λ (t : List ℕ). codes "  set " ++ t) parts) refl refl refl small
 set_spells bytes rest (a ∷ b ∷ c ∷ d ∷ more) is parts small = tt
 
+-- a line of `pair` and words is the text of the pair line that it is read as
 pair_spells : (bytes rest : List ℕ) (ws : List (List ℕ)) → bytes ≡ codes "  pair " ++ rest → rest ≡ join_with_byte 32 ws
     → Spells (pair_kind ws) bytes
 pair_spells bytes rest [] is parts small = tt

@@ -27,6 +27,7 @@ few_alls lattices alls are few =
     let three : length alls ≡ length (alls_of (orders_of lattices)) = ap length are in
     omega (arith, few, one, two, three)
 
+-- a system and lattices within the limits of the tool are bounded
 pub bounded_of : (sys : System) (lattices : List LatticeView) → length sys.constraints ≤ most_constraints
     → length lattices ≤ 16 → AreSmall (length lattices) (orders_of lattices) →
     IsBounded sys (orders_of lattices)

@@ -9,6 +9,7 @@ use Rattle.certificate_text.specs.Names.{first_end, second_end, ends_of, first_f
 some_is : {A : Type 0} → {x y : A} → Some x ≡ Some y → x ≡ y
 some_is e = cc
 
+-- the end of twice a constraint's number is its first one
 pub first_there : (cs : List Constraint) (n k : ℕ) (c : Constraint) → slice_get cs n ≡ Some c → k ≡ 2 * n
     → slice_get (ends_of cs) k ≡ Some (first_end c.link)
 first_there [] n k c there is = absurd cc
@@ -19,6 +20,7 @@ first_there (x ∷ cs) (suc n) k c there is =
     let same : k ≡ suc (suc (2 * n)) = omega (arith, is) in
     rw same (first_there cs n (2 * n) c there refl)
 
+-- the end of twice a constraint's number and one is its second one
 pub second_there : (cs : List Constraint) (n k : ℕ) (c : Constraint) → slice_get cs n ≡ Some c → k ≡ 2 * n + 1
     → slice_get (ends_of cs) k ≡ Some (second_end c.link)
 second_there [] n k c there is = absurd cc
@@ -29,6 +31,7 @@ second_there (x ∷ cs) (suc n) k c there is =
     let same : k ≡ suc (suc (2 * n + 1)) = omega (arith, is) in
     rw same (second_there cs n (2 * n + 1) c there refl)
 
+-- the first end of a link is below a number that is above its variables
 pub first_below : (link : Link) (vars : ℕ) → vars_of_link link ≤ vars → first_end link < vars
 first_below (Le u v) vars h = omega (arith, h)
 first_below (Const l e v) vars h = omega (arith, h)
@@ -36,6 +39,7 @@ first_below (Bound v l e) vars h = omega (arith, h)
 first_below (Enter s u v) vars h = omega (arith, h)
 first_below (Leave s u v) vars h = omega (arith, h)
 
+-- the second end of a link is below a number that is above its variables
 pub second_below : (link : Link) (vars : ℕ) → vars_of_link link ≤ vars → second_end link < vars
 second_below (Le u v) vars h = omega (arith, h)
 second_below (Const l e v) vars h = omega (arith, h)
@@ -58,11 +62,13 @@ drop_none : {A : Type 0} → (k : ℕ) → drop {A = A} k [] ≡ []
 drop_none zero = refl
 drop_none (suc k) = refl
 
+-- nothing is left of a list without as many items as it has, or more
 pub drop_all : {A : Type 0} → (xs : List A) (k : ℕ) → length xs ≤ k → drop k xs ≡ []
 drop_all [] k h = drop_none k
 drop_all (x ∷ xs) zero h = absurd (omega (arith, h))
 drop_all (x ∷ xs) (suc k) h = drop_all xs k (omega (arith, h))
 
+-- setting one place leaves the length of a list
 pub set_length : {A : Type 0} → (xs : List A) (k : ℕ) (x : A) → length (slice_set xs k x) ≡ length xs
 set_length [] k x = refl
 set_length (y ∷ xs) zero x = refl

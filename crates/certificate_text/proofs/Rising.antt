@@ -6,6 +6,7 @@ abbrev pub Among : {A : Type 0} → A → List A → Type 0
 Among x [] = ⊥
 Among x (y ∷ ys) = (x ≡ y) ⊎ Among x ys
 
+-- what is in a list is in it with another behind
 pub among_left : {A : Type 0} → (xs ys : List A) (x : A) → Among x xs → Among x (xs ++ ys)
 among_left [] ys x there = absurd there
 among_left (z ∷ xs) ys x (inl is) = inl is
@@ -15,11 +16,13 @@ pub among_right : {A : Type 0} → (xs ys : List A) (x : A) → Among x ys → A
 among_right [] ys x there = there
 among_right (z ∷ xs) ys x there = inr (among_right xs ys x there)
 
+-- what is in two joined lists is in the one or in the other
 pub among_either : {A : Type 0} → (xs ys : List A) (x : A) → Among x (xs ++ ys) → Among x xs ⊎ Among x ys
 among_either [] ys x there = inr there
 among_either (z ∷ xs) ys x (inl is) = inl (inl is)
 among_either (z ∷ xs) ys x (inr later) = elim (among_either xs ys x later) [ inl a ↦ inl (inr a) | inr b ↦ inr b ]
 
+-- what stands at a place of a list is in it
 among_at : {A : Type 0} → (xs : List A) (x : A) (k : ℕ) → k < length xs → get_or xs k x ≡ x → Among x xs
 among_at [] x k within is = absurd (omega (arith, within))
 among_at (y ∷ xs) x zero within is = inl (sym is)
@@ -28,6 +31,7 @@ among_at (y ∷ xs) x (suc k) within is = inr (among_at xs x k (omega (arith, wi
 pub among_contained : {A : Type 0} → (xs : List A) (x : A) → Contains xs x → Among x xs
 among_contained xs x there = among_at xs x there.0 there.1 there.2
 
+-- what is in a list by recursion is contained at some place
 pub contained_among : {A : Type 0} → (xs : List A) (x : A) → Among x xs → Contains xs x
 contained_among [] x there = absurd there
 contained_among (y ∷ xs) x (inl is) = (0, omega arith, sym is)

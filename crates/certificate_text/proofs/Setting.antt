@@ -19,6 +19,7 @@ sets_of-append part (x ∷ xs) ys = ap (λ t. set_of part x ++ t) (sets_of-appen
 abbrev pub sets_from : System → Part → ℕ → List ℕ
 sets_from sys part k = sets_text (sets_of part (names_from sys k (drop k (ends_in sys))))
 
+-- the set lines from an end on are that of its variable, where this is its name, and those from the next end on
 pub sets_step : (sys : System) (part : Part) (k v : ℕ) → slice_get (ends_in sys) k ≡ Some v →
     sets_from sys part k ≡ sets_text (sets_of part (named_at sys k v)) ++ sets_from sys part (k + 1)
 sets_step sys part k v there =

@@ -22,12 +22,14 @@ Earlier p q = IsBefore p q.0 q.1
 abbrev pub Lower : Named → Named → Type 0
 Lower x y = x.name < y.name
 
+-- of two pairs not both are before the other
 pub never_both : (p q : ℕ × ℕ) → Earlier p q → Earlier q p → ⊥
 never_both p q (inl a) (inl b) = omega (arith, a, b)
 never_both p q (inl a) (inr b) = omega (arith, a, b.0)
 never_both p q (inr a) (inl b) = omega (arith, a.0, b)
 never_both p q (inr a) (inr b) = omega (arith, a.1, b.1)
 
+-- two pairs whose parts compare, the first ones and then the second ones, as less are one before the other
 less_is : (p q : ℕ × ℕ) (a b : Ordering) → MatchOrdering a (p.0 < q.0) (p.0 ≡ q.0) (q.0 < p.0)
     → MatchOrdering b (p.1 < q.1) (p.1 ≡ q.1) (q.1 < p.1) →
     ordering_then a b ≡ Less → Earlier p q
@@ -40,6 +42,7 @@ less_is p q Greater b one other e = absurd cc
 pub earlier_less : (p q : ℕ × ℕ) → pair_cmp p q ≡ Less → Earlier p q
 earlier_less p q e = less_is p q (nat_cmp p.0 q.0) (nat_cmp p.1 q.1) (ranked p.0 q.0 _ refl) (ranked p.1 q.1 _ refl) e
 
+-- a pair that compares as less than all of a list comes before each of them
 all_earlier : (p : ℕ × ℕ) (qs : List (ℕ × ℕ)) → AllByRecursion (λ q. pair_cmp p q ≡ Less) qs → (q : ℕ × ℕ) → Among q qs
     → Earlier p q
 all_earlier p [] all q there = absurd there

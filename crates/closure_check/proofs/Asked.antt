@@ -82,6 +82,7 @@ call_obeyed given all = λ n s u x st. (all n (Enter s u x) st).0 refl
 pub pair_flow_obeyed : (given : Claim) → AsksPairs given A6 → IsObeyed given A6
 pair_flow_obeyed given all = λ n u v z f st owner pair. ((all z u pair).1 (λ (wrong : A6 ≡ A8). cc) n).0 refl v f st owner
 
+-- a certificate obeys A7 where each link and each pair is as A7 asks
 pub group_obeyed : (given : Claim) → AsksLinks given A7 → AsksPairs given A7 → IsObeyed given A7
 group_obeyed given links pairs = λ n m s u x y v st inside back. (
   (links n (Enter s u x) st).1 refl y m inside v back,

@@ -18,6 +18,7 @@ of_bit set e h = elim (eqb_tells (bit_at set e) 1) [ inl is ↦ is.0 | inr not �
 pub subset_of : (one other : ℕ) → bit_and one other ≡ one → IsSubset one other
 subset_of one other same e h = of_bit other e (and_both one other e (ap (λ n. bit_at n e) same ∙ bit_of one e h)).1
 
+-- the lesser of two bits is the first where the second is set whenever the first is
 least_is : (x y : ℕ) → x < 2 → y < 2 → (x ≡ 1 → y ≡ 1) → min x y ≡ x
 least_is x y one two on = elim (eqb_tells x 1) [
   | inl is ↦ let same : y ≡ 1 = on is.1 in omega (arith, is.1, same)

@@ -12,6 +12,7 @@ use Rattle.unit_starts.specs.declared.start.Start.{Start}
 use Rattle.unit_starts.specs.Views.{start_in}
 use Rattle.constraint_gen.specs.Listing.{numbers, listed_at, listed_from}
 
+-- a number n below e, then the numbers from n + 1 up to e, are the numbers from n up to e
 next_number : (n e : ℕ) → n < e → n ∷ numbers (e - (n + 1)) (n + 1) ≡ numbers (e - n) n
 next_number n e lt =
     let a : n + 1 ≡ suc n = omega arith in

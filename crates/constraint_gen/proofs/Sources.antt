@@ -41,12 +41,14 @@ use Rattle.constraint_gen.specs.Generating.{IsGenerated, IsProgramOf}
 
 -- along tapes, source by source
 
+-- the skeletons on the tapes of sources are those that the rules find in the sources
 starts_by : (access : Bool) (s : Names) (sources : List Source)
     → starts_among access s (map tape_of_source sources) ≡ found_on access s sources
 starts_by access s [] = refl
 starts_by access s (it ∷ sources) =
     ap (λ (found : List Start). unit_starts access it.spelling s (tape_of it.items) ++ found) (starts_by access s sources)
 
+-- the selections on the tapes of sources are those that the rules find in the sources
 selections_by : (s : Names) (sources : List Source)
     → selections_among s (map tape_of_source sources) ≡ start_laws.selections_on s sources
 selections_by s [] = refl
@@ -62,6 +64,7 @@ meant_of p = record { lattices = p.lattices; mark = p.mark; index = p.index }
 abbrev selections_of : List Source → List Selection
 selections_of sources = systems.selections_among (names_of sources) sources
 
+-- the constraints on the tapes of a program's sources are those that the rules find in the sources
 rows_by : (p : Program) (sources : List Source)
     → rows_among (meant_of p) (names_of p.sources) (starts_of (has_access p.lattices) p.sources) (selections_of p.sources)
     (map tape_of_source sources)

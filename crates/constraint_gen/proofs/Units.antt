@@ -53,6 +53,7 @@ same_units earlier [] n = refl
 same_units earlier (it ∷ all) n =
     ap (λ (b : Bool). if nat_eq it.lexed.unit n then true else b) (same_units (earlier ++ it.lexed ∷ []) all n)
 
+-- where the sources of units differ in number, behind any tokens, the tokens of the units do
 differ_behind : (earlier : List Lexed) (all : List UnitRead) → UnitsDiffer (sources_behind earlier all)
     → NumbersDiffer (lexed_of all)
 differ_behind earlier [] differ = tt

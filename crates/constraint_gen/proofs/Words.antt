@@ -41,6 +41,7 @@ among_known (first ∷ units) lexed p known =
     by_test false true at same is others = among_other units lexed p (here at same)
     by_test false false at same is others = others is
 
+-- where no unit has the number of a place, no annotation word of the units stands at it
 none_among : (units : List Lexed) (p : Place) → has_unit units p.0 ≡ false → mark_among units p ≡ None
 none_among [] p none = refl
 none_among (first ∷ units) p none = by_test (nat_eq first.unit p.0) none (λ is. none_among units p is)
@@ -51,6 +52,7 @@ none_among (first ∷ units) p none = by_test (nat_eq first.unit p.0) none (λ i
     by_test true is others = absurd cc
     by_test false is others = others is
 
+-- a word in a unit whose number no earlier unit has means among all what it means in this unit
 among_new : (units : List Lexed) (lexed : Lexed) (p : Place) → has_unit units p.0 ≡ false → nat_eq lexed.unit p.0 ≡ true
     → mark_among (units ++ lexed ∷ []) p ≡ mark_at lexed p.1
 among_new [] lexed p none here = ap (λ (b : Bool). if b then mark_at lexed p.1 else None) here
@@ -82,6 +84,7 @@ pub marks_known : (units : List Lexed) (lexed : Lexed) (found : PlaceMap (ℕ ×
     → AreMarks units found → AreMarks (units ++ lexed ∷ []) found
 marks_known units lexed found known are p = are p ∙ sym (among_known units lexed p known)
 
+-- a map of what the words of units name, with the marks of one unit more added, is that of the units with it
 pub marks_more : (units : List Lexed) (lexed : Lexed) (old new : PlaceMap (ℕ × ℕ)) → has_unit units lexed.unit ≡ false
     → AreMarks units old → IsMarked (mark_in lexed) old new → AreMarks (units ++ lexed ∷ []) new
 marks_more units lexed old new none are marked p =

@@ -24,6 +24,7 @@ one_same n = rw (eq-eqb n n refl) refl
 one_other : (n m : ℕ) → n ≢ m → one_at n m ≡ 0
 one_other n m other = grind (arith, nat_tests)
 
+-- a number that is other than all of a list is counted 0 times in it
 count_none : (n : ℕ) (xs : List ℕ) → All (IsOther n) xs → count n xs ≡ 0
 count_none n [] h = refl
 count_none n (x ∷ xs) h =
@@ -31,6 +32,7 @@ count_none n (x ∷ xs) h =
     let rest = count_none n xs (All-tail (IsOther n) x xs h) in
     omega (arith, sum_by-cons (one_at n) x xs)
 
+-- a number that is counted 0 times in a list is other than all of it
 none_count : (n : ℕ) (xs : List ℕ) → count n xs ≡ 0 → All (IsOther n) xs
 none_count n [] h = All-nil (IsOther n)
 none_count n (x ∷ xs) h =
@@ -45,6 +47,7 @@ when_is b is = rw is refl
 when_not : (b : Bool) → b ≡ false → cond {A = ℕ} b 1 0 ≡ 0
 when_not b is = rw is refl
 
+-- in a list of different numbers each is counted at most once
 different_count : (xs : List ℕ) → AreDifferent xs → (n : ℕ) → count n xs ≤ 1
 different_count [] h n = omega arith
 different_count (x ∷ xs) h n = ⊎_elim
@@ -53,6 +56,7 @@ different_count (x ∷ xs) h n = ⊎_elim
     (λ (other : (eqb x n ≡ false) × (x ≢ n)). omega (arith, sum_by-cons (one_at n) x xs, when_not _ other.0, different_count xs h.1 n))
     (eqb_tells x n)
 
+-- a list in which each number is counted at most once has different numbers
 count_different : (xs : List ℕ) → ((n : ℕ) → count n xs ≤ 1) → AreDifferent xs
 count_different [] h = tt
 count_different (x ∷ xs) h = (
@@ -63,6 +67,7 @@ count_different (x ∷ xs) h = (
 pub permuted : (xs ys : List ℕ) → IsPermutation xs ys → AreDifferent xs → AreDifferent ys
 permuted xs ys moved h = count_different ys (λ n. omega (arith, different_count xs h n, sum_by-IsPermutation (one_at n) xs ys moved))
 
+-- in an ascending list all numbers behind the first are above it
 above : (x : ℕ) (xs : List ℕ) → AreAscending (x ∷ xs) → All (λ y. x < y) xs
 above x [] h = All-nil (λ y. x < y)
 above x (y ∷ ys) h =
@@ -72,22 +77,26 @@ rest_ascends : (x : ℕ) (xs : List ℕ) → AreAscending (x ∷ xs) → AreAsce
 rest_ascends x [] h = tt
 rest_ascends x (y ∷ ys) h = h.1
 
+-- the numbers of an ascending list are different
 ascending_different : (xs : List ℕ) → AreAscending xs → AreDifferent xs
 ascending_different [] h = tt
 ascending_different (x ∷ xs) h =
     (All-weaker (λ y. x < y) (IsOther x) (λ y lt is. omega arith) xs (above x xs h), ascending_different xs (rest_ascends x xs h))
 
+-- a list in which each number is below the next one ascends
 ascends : (xs : List ℕ) → ((k d : ℕ) → suc k < length xs → get_or xs k d < get_or xs (suc k) d) → AreAscending xs
 ascends [] h = tt
 ascends (x ∷ []) h = tt
 ascends (x ∷ y ∷ ys) h = (h 0 0 (omega arith), ascends (y ∷ ys) (λ k d lt. h (suc k) d (omega arith)))
 
+-- in an ascending list each number is below the next one
 adjacent : (xs : List ℕ) → AreAscending xs → (k d : ℕ) → suc k < length xs → get_or xs k d < get_or xs (suc k) d
 adjacent [] h k d lt = absurd (omega arith)
 adjacent (x ∷ []) h k d lt = absurd (omega arith)
 adjacent (x ∷ y ∷ ys) h zero d lt = h.0
 adjacent (x ∷ y ∷ ys) h (suc k) d lt = adjacent (y ∷ ys) h.1 k d (omega arith)
 
+-- in a list of different numbers each is other than the next one
 different_places : (xs : List ℕ) → AreDifferent xs → (k d : ℕ) → suc k < length xs → get_or xs k d ≢ get_or xs (suc k) d
 different_places [] h k d lt = absurd (omega arith)
 different_places (x ∷ xs) h zero d lt = All-get_or (IsOther x) xs 0 d (omega arith) h.0
@@ -103,6 +112,7 @@ pub is_ascending : (xs : List ℕ) (r : Bool) → IsAllAdjacentAnswer (λ x y b.
 is_ascending xs r h is = ascends xs (λ k d lt. let all = rw is at h in
     ltb-true (get_or xs k d) (get_or xs (suc k) d) (sym (rw add-one at (all k d (omega arith)))))
 
+-- where the test of adjacent numbers answers false, the list does not ascend
 pub is_no_ascending : (xs : List ℕ) (r : Bool) → IsAllAdjacentAnswer (λ x y b. b ≡ ltb x y) xs r → r ≡ false
     → AreAscending xs → ⊥
 is_no_ascending xs r h is up =
@@ -111,6 +121,7 @@ is_no_ascending xs r h is up =
     let lt = adjacent xs up some.0 0 (omega (arith, some.1)) in
     omega arith
 
+-- a permutation of a list that ascends is the list with each number once, in order
 pub arranges : (xs ys : List ℕ) → IsPermutation xs ys → AreAscending ys → Arranges xs ys
 arranges xs ys moved up = record {
   different = permuted ys xs (IsPermutation-sym xs ys moved) (ascending_different ys up);

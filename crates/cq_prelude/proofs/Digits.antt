@@ -21,6 +21,7 @@ behind_drop : (digits : List ℕ) (i n : ℕ) → i < length digits →
     number_behind n (drop i digits) ≡ number_behind (n * 10 + (get_or digits i 0 - 48)) (drop (i + 1) digits)
 behind_drop digits i n lt = rw (add-one, drop-cons digits i 0 lt) refl
 
+-- one digit more, within the limit, keeps what is read the number of the digits so far
 pub goes_on : (digits : List ℕ) (i number next : ℕ) → AreReadTo digits i number → i < length digits →
     IsDigit (get_or digits i 0) × (next ≡ number * 10 + (get_or digits i 0 - 48)) × (next ≤ most_index) → AreReadTo digits (i + 1) next
 goes_on digits i number next h lt one = record {
@@ -29,6 +30,7 @@ goes_on digits i number next h lt one = record {
   within = one.2;
 }
 
+-- where the next byte is no digit, or the number with it is over the limit, the bytes say no number
 pub stops : (digits : List ℕ) (i number n : ℕ) → AreReadTo digits i number → i < length digits →
     (IsDigit (get_or digits i 0) → number * 10 + (get_or digits i 0 - 48) ≤ most_index → ⊥) → IsWritten digits n → ⊥
 stops digits i number n h lt none w =
@@ -37,6 +39,7 @@ stops digits i number n h lt none w =
     let within = w.within in
     none (All-get_or IsDigit digits i 0 lt w.numeral.decimal) (omega arith)
 
+-- behind the last of some digits what is read is the number that they say
 pub ends : (digits : List ℕ) (i number : ℕ) → AreReadTo digits i number → length digits ≤ i
     → false ≡ (length digits == 0) →
     IsWritten digits number

@@ -36,12 +36,14 @@ cut digits (more ∷ groups) h all =
     ∙ ap (λ (parts : List (List ℕ)). digits ∷ parts)
     (cut more groups (All-head IsNumeral more groups all) (All-tail IsNumeral more groups all))
 
+-- groups that each say a number are numerals
 numerals : (groups : List (List ℕ)) (numbers : List ℕ) → AllZip IsWritten groups numbers → All IsNumeral groups
 numerals [] [] h = All-nil IsNumeral
 numerals [] (n ∷ ns) h = absurd h
 numerals (g ∷ gs) [] h = absurd h
 numerals (g ∷ gs) (n ∷ ns) h = All-cons IsNumeral g gs h.0.numeral (numerals gs ns h.1)
 
+-- the numbers that groups say are those of the groups, in order
 numbers_are : (groups : List (List ℕ)) (numbers : List ℕ) → AllZip IsWritten groups numbers
     → numbers ≡ map number_of groups
 numbers_are [] [] h = refl
@@ -49,6 +51,7 @@ numbers_are [] (n ∷ ns) h = absurd h
 numbers_are (g ∷ gs) [] h = absurd h
 numbers_are (g ∷ gs) (n ∷ ns) h = let first = h.0.says in let rest = numbers_are gs ns h.1 in cc
 
+-- the numbers that groups say are within the limit
 within : (groups : List (List ℕ)) (numbers : List ℕ) → AllZip IsWritten groups numbers
     → All (λ n. n ≤ most_index) numbers
 within [] [] h = All-nil (λ n. n ≤ most_index)
@@ -59,6 +62,7 @@ within (g ∷ gs) (n ∷ ns) h = All-cons (λ n. n ≤ most_index) n ns h.0.with
 some_parts : (bytes : List ℕ) → slice_split is_low_line bytes ≢ []
 some_parts bytes is = let all = flat bytes in let none : flat_map group (slice_split is_low_line bytes) ≡ [] = rw is refl in cc
 
+-- a dollar, a low line and bytes that say different numbers are an index word of these
 is_word : (bytes numbers : List ℕ) → SayAll bytes numbers → AreDifferent numbers → IsIndexWord (36 ∷ 95 ∷ bytes) numbers
 is_word bytes numbers h different = record {
   groups = slice_split is_low_line bytes;
@@ -70,6 +74,7 @@ is_word bytes numbers h different = record {
   different = different;
 }
 
+-- numerals whose numbers are within the limit each say theirs
 written : (groups : List (List ℕ)) → All IsNumeral groups → All (λ n. n ≤ most_index) (map number_of groups) →
     AllZip IsWritten groups (map number_of groups)
 written [] all low = tt
@@ -99,6 +104,7 @@ parts_of bytes numbers h = parts_from h.groups h.some h.numerals h.spelled h.num
         (written (g ∷ gs) all (subst (All (λ n. n ≤ most_index)) is low))),
   )
 
+-- a group that says a number, behind groups that say theirs, gives the numbers with this one at the end
 pub more_written : (groups : List (List ℕ)) (numbers : List ℕ) (i : ℕ) (g : List ℕ) (n : ℕ) → i < length groups
     → g ≡ get_or groups i g →
     AllZip IsWritten (take i groups) numbers → IsWritten g n →
@@ -132,6 +138,7 @@ pub says_different : (bytes rest ours theirs : List ℕ) → bytes ≡ 36 ∷ 95
 says_different bytes rest ours theirs is h word =
     subst AreDifferent (numbers_are _ theirs (says_of bytes rest theirs is word) ∙ sym (numbers_are _ ours h)) word.different
 
+-- an index word that says different numbers says the set of them in ascending order
 pub set_of : (bytes rest numbers set : List ℕ) → bytes ≡ 36 ∷ 95 ∷ rest → SayAll rest numbers → Arranges numbers set
     → IsSetOf bytes set
 set_of bytes rest numbers set is h arranged = record {

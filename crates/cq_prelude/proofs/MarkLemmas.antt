@@ -13,6 +13,7 @@ use Rattle.cq_prelude.specs.Rules.{IsIndex, IsSetOf, Says}
 abbrev mark_at : ℕ → List ℕ → IndexMark
 mark_at at set = record { token = at; numbers = set }
 
+-- a mark at a token behind all others gives this token its numbers
 here : (marks : List IndexMark) (at : ℕ) (set : List ℕ) → All (λ it. it.token < at) marks →
     numbers_at (marks ++ mark_at at set ∷ []) at ≡ set
 here [] at set h = rw (eq-eqb at at refl) refl
@@ -20,6 +21,7 @@ here (it ∷ marks) at set h =
     let below = All-head (λ (it : IndexMark). it.token < at) it marks h in
     rw (ne_eqb it.token at (λ same. omega arith)) (here marks at set (All-tail (λ (it : IndexMark). it.token < at) it marks h))
 
+-- a mark at another token leaves the numbers of a token as they were
 elsewhere : (marks : List IndexMark) (at token : ℕ) (set : List ℕ) → token ≢ at →
     numbers_at (marks ++ mark_at at set ∷ []) token ≡ numbers_at marks token
 elsewhere [] at token set other = rw (ne_eqb at token (λ same. other (sym same))) refl
@@ -33,6 +35,7 @@ below_more : (marks : List IndexMark) (at : ℕ) → All (λ it. it.token < at) 
 below_more marks at h =
     All-weaker (λ (it : IndexMark). it.token < at) (λ (it : IndexMark). it.token < at + 1) (λ it lt. omega arith) marks h
 
+-- a right index word, at the end of what is marked so far, keeps the marks right with its own at the end
 pub marks_word : (lexed : Lexed) (flags : List Bool) (at : ℕ) (marks : List IndexMark) (set : List ℕ)
     → AreMarkedTo lexed flags at marks →
     IsIndex lexed at → is_marked flags at ≡ true → Says lexed at set →

@@ -7,6 +7,7 @@ use Rattle.c_lexer.specs.declared.token.Token.{Token}
 use Rattle.c_lexer.specs.declared.places.Mark.{Mark}
 use Rattle.c_lexer.specs.Reading.{Front, IsKind, Meanings, Reaches, Spells, begins, skips, takes}
 
+-- what kind of token bytes are by some words they are by other words that mean the same
 kind_by : (unit : ℕ) (wide : Bool) (words others : Meanings) → MeansTheSame words others
     → (names : List (List ℕ)) (bytes : List ℕ) (kind : TokenKind) →
     IsKind unit wide words names bytes kind → IsKind unit wide others names bytes kind
@@ -20,6 +21,7 @@ kind_by unit wide words others same names bytes (Qual lattice elem) h = (h.0, h.
 kind_by unit wide words others same names bytes Index h = h
 kind_by unit wide words others same names bytes End h = h
 
+-- what bytes reach by some words they reach by other words that mean the same
 reached_by : (unit : ℕ) (wide : Bool) (words others : Meanings) → MeansTheSame words others
     → (bytes : List ℕ) (front : Front) →
     Reaches unit wide words bytes front → Reaches unit wide others bytes front
@@ -40,6 +42,7 @@ reached_by unit wide words others same bytes _ (takes old new before step) =
       marks = step.marks;
     })
 
+-- bytes that spell tokens by some words spell them by other words that mean the same
 pub spelled_by : (unit : ℕ) (wide : Bool) (words others : Meanings) → MeansTheSame words others →
     (bytes : List ℕ) (tokens : List Token) (names : List (List ℕ)) (marks : List Mark) →
     Spells unit wide words bytes tokens names marks → Spells unit wide others bytes tokens names marks

@@ -37,6 +37,7 @@ pub sound_alone : (source : Source)
 sound_alone source h zero d lt = (lexemes_of source.tokens, h.rules)
 sound_alone source h (suc k) d lt = absurd (omega arith)
 
+-- a refusal of the bytes is the fault of a prelude, and want of memory is one of any
 pub lex_refusal : (wide : Bool) (words : Meanings) (bytes : List ℕ) (fault : LexFault)
     → IsRefusal 0 wide words bytes fault →
     IsFaultOf wide words bytes (placed_lex fault)
@@ -56,6 +57,7 @@ abbrev made : ℕ → Bool → List ℕ → List Token → List Mark → Option 
 made unit wide bytes tokens marks constant volatile restrict =
     record { unit = unit; wide = wide; bytes = bytes; tokens = tokens; marks = marks; constant = constant; volatile = volatile; restrict = restrict }
 
+-- tokens of a unit with the same unit, bytes, tokens, marks and qualifiers of C are one
 same : (one other : Lexed) → one.unit ≡ other.unit → one.wide ≡ other.wide → one.bytes ≡ other.bytes
     → one.tokens ≡ other.tokens → one.marks ≡ other.marks →
     one.constant ≡ other.constant → one.volatile ≡ other.volatile → one.restrict ≡ other.restrict → one ≡ other
@@ -64,6 +66,7 @@ same one other unit dialect bytes tokens marks constant volatile restrict =
     ≡ made other.unit other.wide other.bytes other.tokens other.marks other.constant other.volatile other.restrict = cc in
     parts
 
+-- tokens that bytes spell are those that were read of them, where the bytes spell only these
 pub same_lexed : (wide : Bool) (words : Meanings) (bytes : List ℕ) (one other : Lexed) → one.unit ≡ 0 → one.wide ≡ wide
     → one.bytes ≡ bytes → NamesKeywords words one →
     Lexes wide words bytes other →
@@ -84,6 +87,7 @@ pub lex_only : (wide : Bool) (words : Meanings) (bytes : List ℕ) (lexed : Lexe
 lex_only wide words bytes lexed fault h only =
     let spelled = spells wide words bytes lexed h in ap placed_lex (only lexed.tokens spelled.0 lexed.marks spelled.1)
 
+-- a fault of the parser is a fault of the prelude, at the place of its token
 pub parse_fault : (wide : Bool) (words : Meanings) (bytes : List ℕ) (lexed : Lexed) (fault : ParseFault)
     → Lexes wide words bytes lexed →
     (fault ≢ OutOfRoom → IsUnitRefusal lexed fault)
@@ -95,6 +99,7 @@ parse_fault wide words bytes lexed (BadMix token) h refused = (lexed, h, λ same
 parse_fault wide words bytes lexed (BadTarget token) h refused = (lexed, h, λ same. (cc), refused (λ same. (cc)), refl)
 parse_fault wide words bytes lexed OutOfRoom h refused = tt
 
+-- where tokens are well formed, a refusal of the parser is no more than want of memory
 parse_only : (lexed : Lexed) (fault : ParseFault) (items : List Item) →
     (fault ≢ OutOfRoom → (items : List Item) → IsWellFormed lexed.wide (lexemes_of lexed) items → ⊥) →
     IsWellFormed lexed.wide (lexemes_of lexed) items →
@@ -106,6 +111,7 @@ parse_only lexed (BadMix token) items none h = absurd (none (λ same. (cc)) item
 parse_only lexed (BadTarget token) items none h = absurd (none (λ same. (cc)) items h)
 parse_only lexed OutOfRoom items none h = refl
 
+-- a fault of a well-formed unit is a fault of the bytes that parse as it
 pub unit_fault : (wide : Bool) (words : Meanings) (bytes : List ℕ) (it : UnitRead) (fault : PreludeFault)
     → Parses wide words bytes it → IsFaultIn it fault →
     IsFaultOf wide words bytes fault
@@ -119,6 +125,7 @@ unit_fault wide words bytes it NoMemory parses h = tt
 none_first : (fault : Fault) (all : List Fault) → all ≡ [] → rules.IsFirst fault all → ⊥
 none_first fault all is h = let has = subst (λ (faults : List Fault). Contains faults fault) is h.there in omega (arith, has.1)
 
+-- where names and types have no fault, no fault of them is the first
 no_shape : (it : UnitRead) (fault : ShapeFault) (spot : Spot) → HasNoFault (sources_in (it ∷ []))
     → IsShaped it fault spot → ⊥
 no_shape it (shapes.Undeclared unit token) spot none h = none_first _ _ none h.first
@@ -132,6 +139,7 @@ no_shape it (shapes.TypeTooLarge unit token) spot none h = none_first _ _ none h
 no_shape it (shapes.NoType unit token) spot none h = none_first _ _ none h.first
 no_shape it shapes.NoMemory spot none h = h.reason refl
 
+-- a unit that breaks no rule and has no fault of names and types fails by want of memory alone
 unit_only : (it : UnitRead) (fault : PreludeFault) → NoneFails it.lexed it.items → HasNoFault (sources_in (it ∷ []))
     → IsFaultIn it fault →
     fault ≡ NoMemory

@@ -27,6 +27,7 @@ cases_of : (token : ℕ) (tokens : List ℕ) (x : ℕ) → Contains (token ∷ t
 cases_of token tokens x (zero, lt, is) = inl is
 cases_of token tokens x (suc k, lt, is) = inr (k, omega arith, is)
 
+-- the lesser of two tokens is one of them and above neither
 lesser_is : (best token : ℕ) → (least_with (Some best) token ≤ best) × (least_with (Some best) token ≤ token)
     × ((least_with (Some best) token ≡ best) ⊎ (least_with (Some best) token ≡ token))
 lesser_is best token = ⊎_elim
@@ -34,6 +35,7 @@ lesser_is best token = ⊎_elim
     (λ (ge : ltb best token ≡ false). rw ge (omega (arith, ltb-false best token ge), omega arith, inr refl))
     (cases_Bool (ltb best token))
 
+-- the least of tokens behind a first one is there and is one of them all, below the others
 least_is : (best : ℕ) (tokens : List ℕ)
     → (found : ℕ) × (least_behind (Some best) tokens ≡ Some found) × IsLeast (best ∷ tokens) found
 least_is best [] = (
@@ -70,6 +72,7 @@ least_is best (token ∷ tokens) =
       },
     )
 
+-- the token that is found as the least is one of the tokens, below the others
 found_is : (tokens : List ℕ) (found : ℕ) → least_behind None tokens ≡ Some found → IsLeast tokens found
 found_is [] found is = absurd (cc)
 found_is (token ∷ tokens) found is =

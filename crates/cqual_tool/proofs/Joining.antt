@@ -26,6 +26,7 @@ use Rattle.cqual_tool.specs.Preparing.{AreEarlier, IsEarlier, IsFormed, IsOneMor
 
 -- tokens that are numbered by their places have numbers of their own
 
+-- tokens that are numbered from m on have no number below m
 no_number : (n m : ℕ) (ts : List Token) → n < m → has_number n (numbered m ts) ≡ false
 no_number n m [] lt = refl
 no_number n m (t ∷ ts) lt = by (nat_eq m n) refl (no_number n (suc m) ts (omega arith))
@@ -39,6 +40,7 @@ are_numbered : (n : ℕ) (ts : List Token) → AreNumbered (numbered n ts)
 are_numbered n [] = tt
 are_numbered n (t ∷ ts) = (no_number n (suc n) ts (omega arith), are_numbered (suc n) ts)
 
+-- the sources of well-formed units are read, whatever tokens come before them
 read_behind : (earlier : List Lexed) (units : List UnitRead) → All IsFormed units
     → All IsRead (sources_behind earlier units)
 read_behind earlier [] formed = All-nil IsRead
@@ -54,6 +56,7 @@ sound sources read = All-weaker IsRead IsSound (λ it h. (h.all, h.rules)) sourc
 
 -- one more unit of another number
 
+-- numbers that differ one way round differ the other way round
 other_way : (n m : ℕ) → nat_eq n m ≡ false → nat_eq m n ≡ false
 other_way n m e = by (nat_eq m n) refl
   where
@@ -61,6 +64,7 @@ other_way n m e = by (nat_eq m n) refl
     by true is = let same : nat_eq n m ≡ true = eq-eqb n m (sym (eqb-true m n is)) in absurd cc
     by false is = refl
 
+-- a number that neither the units nor one more has is not among the units with that one behind them
 no_unit_on : (n : ℕ) (earlier : List Lexed) (units : List UnitRead) (it : UnitRead)
     → has_unit n (sources_behind earlier units) ≡ false → nat_eq it.lexed.unit n ≡ false
     → has_unit n (sources_behind earlier (units ++ it ∷ [])) ≡ false
@@ -77,6 +81,7 @@ no_unit_on n earlier (u ∷ units) it none other =
     by true e more = absurd cc
     by false e more = more e
 
+-- units of different numbers stay so with one more behind them whose number none of them has
 differ_on : (earlier : List Lexed) (units : List UnitRead) (it : UnitRead) → UnitsDiffer (sources_behind earlier units)
     → has_unit it.lexed.unit (sources_behind earlier units) ≡ false
     → UnitsDiffer (sources_behind earlier (units ++ it ∷ []))
@@ -95,6 +100,7 @@ differ_on earlier (u ∷ units) it differ none =
     by false e own more =
         (no_unit_on u.lexed.unit behind units it differ.0 (other_way u.lexed.unit it.lexed.unit e), more own)
 
+-- a lower number compares as different from a higher one
 apart : (n m : ℕ) → n < m → nat_eq n m ≡ false
 apart n m lt = by (nat_eq n m) refl
   where
@@ -146,12 +152,14 @@ refused Refuses line answer says is = (says.0, subst Refuses (sym says.1) is)
 
 -- texts of units that have different numbers
 
+-- the texts of units have a unit number exactly where their sources have it
 same_texts : (named : FileNames) (earlier : List Lexed) (units : List UnitRead) (n : ℕ)
     → has_unit n (sources_behind earlier units) ≡ scenes.has_unit (texts_of named (lexed_of units)) n
 same_texts named earlier [] n = refl
 same_texts named earlier (it ∷ units) n =
     ap (λ (b : Bool). if nat_eq it.lexed.unit n then true else b) (same_texts named (earlier ++ it.lexed ∷ []) units n)
 
+-- where the sources of units differ in number, so do their texts
 apart_behind : (named : FileNames) (earlier : List Lexed) (units : List UnitRead)
     → UnitsDiffer (sources_behind earlier units)
     → scenes.AreApart (texts_of named (lexed_of units))
@@ -169,6 +177,7 @@ shown_on : (shown : List LentUnit) (u : LentUnit)
 shown_on [] u = refl
 shown_on (it ∷ shown) u = ap (λ (units : List UnitText). scenes.unit_of it ∷ units) (shown_on shown u)
 
+-- the text of the i-th unit before the texts from i + 1 on gives the texts from i on
 next_text : (named : FileNames) (units : List Lexed) (i : ℕ) (it : Lexed) → it ≡ slice_index_or units i it
     → i < length units
     → text_of named it ∷ texts_of named (drop (i + 1) units) ≡ texts_of named (drop i units)
@@ -177,6 +186,7 @@ next_text named (x ∷ units) zero it is lt = ap (λ (s : Lexed). text_of named 
 next_text named (x ∷ units) (suc i) it is lt =
     let e : suc i + 1 ≡ suc (i + 1) = omega arith in rw e (next_text named units i it is (omega arith))
 
+-- the texts that are shown with those still to come stay the same when one more is shown
 pub texts_on : (named : FileNames) (units : List Lexed) (i : ℕ) (it : Lexed) (shown : List LentUnit) (u : LentUnit)
     → scenes.unit_of u ≡ text_of named it → it ≡ slice_index_or units i it → i < length units
     → scenes.units_of (shown ++ u ∷ []) ++ texts_of named (drop (i + 1) units) ≡ scenes.units_of shown ++ texts_of named (drop i units)

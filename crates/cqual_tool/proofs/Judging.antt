@@ -35,6 +35,7 @@ judged : (unit : Option ℕ) (it : Judging) (accepted : Bool) (text : List ℕ)
 judged unit it true text is = IsRight text is
 judged unit it false text is = IsWrong text is
 
+-- what was judged with a scene is the report of that scene, with the status of being accepted or not
 pub judged_as : (unit : Option ℕ) (it : Judging) (sys : System) (accepted : Bool) (status : Status) (text words : List ℕ)
     → it.system ≡ sys → status ≡ status_of accepted → text ≡ words → IsJudgedWith it.scene sys unit accepted words
     → IsReport unit it status text
@@ -76,6 +77,7 @@ certified_as it lattices sys found text same system some written accepted =
     (subst (λ (s : System). IsCertificate s (orders_of it.scene.lattices) text.items) system
     (subst (λ (ls : List LatticeView). IsCertificate sys (orders_of ls) text.items) (sym same) is))
 
+-- where a program is not accepted, its plain report is the answer for a certificate that was asked for
 pub uncertified_as : {E : Type 0} (it : Judging) (lattices : List LatticeView) (sys : System) (result : Result Answer E)
     → it.scene.lattices ≡ lattices → sys ≡ it.system → (IsAccepted sys (orders_of lattices) → ⊥)
     → IfOk result (λ answer. IsReport None it answer.status answer.text.items)
@@ -94,6 +96,7 @@ answered_as it sys name found text system some is =
     (subst (λ (s : System). IsWho it.scene s name (Some text.items)) (sym system)
     (subst (λ (o : Option (Vec ℕ Global)). IsWho it.scene sys name (option_map (λ (t : Vec ℕ Global). t.items) o)) some is))
 
+-- where the question who reaches a name finds nothing, the line of no such name is its answer
 pub unnamed_as : (it : Judging) (sys : System) (name : List ℕ) (found : Option (Vec ℕ Global)) (status : Status) (text : List ℕ)
     → it.system ≡ sys → found ≡ None → status ≡ NoName → text ≡ no_name_line name
     → IsWho it.scene sys name (option_map (λ (t : Vec ℕ Global). t.items) found) → IsAnswered it name status text
@@ -102,6 +105,7 @@ unnamed_as it sys name found status text system none says spelled is =
     (Unnamed (subst (λ (s : System). IsWho it.scene s name None) (sym system)
     (subst (λ (o : Option (Vec ℕ Global)). IsWho it.scene sys name (option_map (λ (t : Vec ℕ Global). t.items) o)) none is)))
 
+-- a certificate is verified with the status and the text of its verdict; one that holds needs an accepted program
 verified : (it : Judging) (bytes : List ℕ) (found : Verdict)
     → CertificateComesTo it.system (orders_of it.scene.lattices) bytes found
     → (found ≡ Holds → IsAccepted it.system (orders_of it.scene.lattices))
@@ -110,6 +114,7 @@ verified it bytes Holds comes accepted = Proving comes (accepted refl)
 verified it bytes (Fails lattice rule) comes accepted = Breaking lattice rule comes
 verified it bytes (Unread line code) comes accepted = NoProof line code comes
 
+-- the same over lattices, constraints, a status and a text that are equal to those of the verdict
 pub verified_as : (it : Judging) (lattices : List LatticeView) (sys : System) (bytes : List ℕ) (found : Verdict) (status : Status) (text : List ℕ)
     → it.scene.lattices ≡ lattices → it.system ≡ sys → status ≡ verdict_status found → text ≡ verdict_text found
     → CertificateComesTo sys (orders_of lattices) bytes found → (found ≡ Holds → IsAccepted sys (orders_of lattices))
@@ -133,6 +138,8 @@ checked : (it : Judging) (bytes : List ℕ) (found : Checked)
 checked it bytes Hold comes refutes = Holding comes (refutes refl)
 checked it bytes (Bad line code) comes refutes = Failing line code comes
 
+-- a report is checked with the status and the text of what it comes to; one that holds needs a program that is not
+-- accepted
 pub checked_as : (it : Judging) (lattices : List LatticeView) (sys : System) (bytes : List ℕ) (found : Checked) (status : Status) (text : List ℕ)
     → it.scene.lattices ≡ lattices → it.system ≡ sys → status ≡ checked_status found → text ≡ checked_text found
     → ComesTo sys (orders_of lattices) bytes found → (found ≡ Hold → IsAccepted sys (orders_of lattices) → ⊥)

@@ -11,6 +11,7 @@ text_or (Some name) = name.now
 
 -- the last source
 
+-- the last of the names of sources is the one at the index of their count less 1, or empty where there are none
 last_name : (names : List (Bor (List ℕ)))
     → text_or (slice_get names (length names - 1)) ≡ last_of (map (λ name. name.now) names)
 last_name [] = refl
@@ -25,17 +26,20 @@ last_is names name is = ap text_or is ∙ last_name names
 
 -- the sources from one on
 
+-- names from an index on are the name at this index and those from the next index on
 pub drop_from : (names : List (List ℕ)) (i : ℕ) (name : List ℕ) → slice_get names i ≡ Some name
     → drop i names ≡ name ∷ drop (i + 1) names
 drop_from [] i name is = absurd cc
 drop_from (n ∷ names) zero name is = let same : n ≡ name = cc in ap (λ (m : List ℕ). m ∷ names) same
 drop_from (n ∷ names) (suc i) name is = let e : suc i + 1 ≡ suc (i + 1) = omega arith in rw e (drop_from names i name is)
 
+-- an index at which there is a name is below the count of the names
 pub within : (names : List (List ℕ)) (i : ℕ) (name : List ℕ) → slice_get names i ≡ Some name → i < length names
 within [] i name is = absurd cc
 within (n ∷ names) zero name is = omega arith
 within (n ∷ names) (suc i) name is = let deeper = within names i name is in omega (arith, deeper)
 
+-- from an index without a name on there are no names
 pub none_left : (names : List (List ℕ)) (i : ℕ) → slice_get names i ≡ None → drop i names ≡ []
 none_left [] zero none = refl
 none_left [] (suc i) none = refl

@@ -31,6 +31,7 @@ nothing_read s = record {
 
 -- one reading, and others behind it
 
+-- a reading and those behind it agree with what is told of the files, where each part does
 agree_on : (told now : Option (List (List ℕ × List ℕ))) (r : Reading) (these : List Reading) → now ≡ told
     → IfSome told (λ all. All (Agrees all) (r ∷ [])) → IfSome now (λ all. All (Agrees all) these)
     → IfSome now (λ all. All (Agrees all) (r ∷ these))
@@ -39,6 +40,7 @@ agree_on told (Some all) r these same one more =
     let first : All (Agrees all) (r ∷ []) = subst (λ (o : Option (List (List ℕ × List ℕ))). IfSome o (λ them. All (Agrees them) (r ∷ []))) (sym same) one in
     All-cons (Agrees all) r these (All-head (Agrees all) r [] first) more
 
+-- a reading and then others go from the old standing to the new one, over the standing between them
 pub read_then : (old mid new : Standing) (r : Reading) (these : List Reading) → ReadOn old mid (r ∷ [])
     → ReadOn mid new these → ReadOn old new (r ∷ these)
 read_then old mid new r these one more =
@@ -73,6 +75,7 @@ broken_then r these is = or_false (is_broken r.end) (has_broken these) (unbroken
 
 -- the content of a file that was read
 
+-- a file of just the bytes that were read may have given them, however the reading stands
 own_bytes : (end : End) (bytes : List ℕ) → MayGive end bytes bytes
 own_bytes Going bytes = ([], sym (append-nil bytes))
 own_bytes Whole bytes = refl
@@ -81,6 +84,7 @@ own_bytes Broken bytes = ([], sym (append-nil bytes))
 pub whole_is : (r : Reading) (content : List ℕ) → r.end ≡ Whole → MayGive r.end content r.bytes → content ≡ r.bytes
 whole_is r content is gives = subst (λ (end : End). MayGive end content r.bytes) is gives
 
+-- where more than the limit was read and more may come, the content of the file has more than the limit
 pub past_limit : (limit : ℕ) (r : Reading) (content : List ℕ) → (r.end ≡ Going) × (limit < length r.bytes)
     → MayGive r.end content r.bytes
     → limit < length content

@@ -17,6 +17,7 @@ use Rattle.cqual_tool.specs.Answering.{AnsweredBy, IsSaid, TaskGoes}
 use Rattle.cqual_tool.specs.Running.{Ran}
 use Rattle.cqual_tool.proofs.Readings.{none, nothing_read, since_is}
 
+-- a status that says what was decided of the files is an answer
 decided_answers : (status : Status) → IsDecided status → IsAnswer status
 decided_answers Accepted is = tt
 decided_answers Rejected is = tt
@@ -213,6 +214,7 @@ module _ (words : List (List ℕ)) (s : Standing) (before after : List ℕ) (fai
         }
       ]
 
+-- where memory is wanting before any file is started, nothing was read or written, and the status says so
 pub ran_not : (words : List (List ℕ)) (s : Standing) (written : List ℕ) (failed : ℕ)
     → Ran words s s written written failed failed NoMemory []
 ran_not words s written failed = record {
@@ -243,6 +245,7 @@ some_broken (r ∷ these) is = by (is_broken r.end) is (λ e. some_broken these 
     by true e more = omega arith
     by false e more = let some = more e in omega (arith, some)
 
+-- where no call for readings failed by their count, none of them is broken
 pub none_broken : (these : List Reading) → (0 < broken_in these → ⊥) → has_broken these ≡ false
 none_broken these not = by (has_broken these) refl
   where

@@ -39,6 +39,7 @@ order_is e = cc
 
 -- ---- the one lattice
 
+-- where a library suits, its lattice at index 0 is its only one
 pub one_lattice : (sys : System) (lattices : List LatticeView) (got : LatticeView) → Suits sys lattices
     → slice_get lattices 0 ≡ Some got →
     lattices ≡ got ∷ []
@@ -47,6 +48,7 @@ one_lattice sys lattices got suits there =
     let first : slice_get lattices 0 ≡ Some one.0 = ap (λ (ls : List LatticeView). slice_get ls 0) one.1 in
     one.1 ∙ ap (λ (l : LatticeView). l ∷ []) (view_is (sym first ∙ there))
 
+-- constraints that are accepted over their one lattice are accepted over the list of it alone
 pub accepted_one : (sys : System) (lattices : List LatticeView) (got : LatticeView) → lattices ≡ got ∷ []
     → IsAcceptedIn sys 0 got.order →
     IsAccepted sys (orders_of lattices)

@@ -50,6 +50,7 @@ with_lattice inputs bytes = record { lattice = bytes; prelude = inputs.prelude; 
 abbrev with_prelude : Inputs → List ℕ → Inputs
 with_prelude inputs bytes = record { lattice = inputs.lattice; prelude = bytes; sources = inputs.sources; saved = inputs.saved }
 
+-- the inputs with other bytes of the first source
 abbrev with_source : Inputs → List ℕ → Inputs
 with_source inputs bytes = record {
   lattice = inputs.lattice;

@@ -27,6 +27,7 @@ rest_of inputs = record {
 
 -- one more source in front
 
+-- a source within the limit that parses, before sources that parse, gives sources that parse
 pub one_more : (wide : Bool) (lattices : List LatticeView) (number left : ℕ) (file bytes content : List ℕ) (more : List (List ℕ × List ℕ)) (unit : UnitRead)
     (units : List UnitRead) → content ≡ bytes → length bytes ≤ limit_in left
     → SourceParses wide lattices number bytes unit

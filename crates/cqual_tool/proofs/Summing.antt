@@ -22,6 +22,7 @@ use Rattle.cqual_tool.specs.Preparing.{IsReady}
 use Rattle.cqual_tool.specs.Outcome.{IsSummed, LatticesRead, MadeRead, NoSource, NotCounted, NotParsed, OfMade, OfSources, OneSource, Refused, SourceParses, SourceRefused, SourcesParse, SourcesRead, SummedUp, TooLarge, UnitsRefused, made_names, source_limit, sum_status, total_limit}
 use Rattle.cqual_tool.proofs.Outcomes.{at_equal}
 
+-- counts are the record of their four numbers
 counts_are : (counts : Counts) (v c s e : ℕ) → counts.variables ≡ v → counts.constraints ≡ c → counts.sites ≡ s
     → counts.errors ≡ e
     → counts ≡ record { variables = v; constraints = c; sites = s; errors = e }
@@ -31,6 +32,7 @@ counts_are counts v c s e one two three four =
     ∙ ap (λ (n : ℕ). record { variables = v; constraints = c; sites = n; errors = counts.errors }) three
     ∙ ap (λ (n : ℕ). record { variables = v; constraints = c; sites = s; errors = n }) four
 
+-- the counts of a program with the number of its errors are its sum, with the status that the errors give
 pub summed_as : (number errors : ℕ) (it : Judging) (sys : System) (counts : Counts) (status : Status) (text : List ℕ)
     → it.system ≡ sys
     → status ≡ sum_status errors → text ≡ summary_text number counts → counts.variables ≡ length it.scene.positions

@@ -35,6 +35,7 @@ agrees words =
     ap₂ (λ b ks. level_fault shape [] nothing_held words b ks) (no_entered stop) (no_entered_fault stop) in
     subst (λ ks. Judged ks (matches_of tool words) (asked_behind words)) (sym same) (walks words [] Free (λ a other. refl))
 
+-- matches without a fault say which flags stand, and ask what the words mean
 pub matches_right : (words : List Text) (f : Found) → fault_of tool words ≡ [] → rows_of f ≡ matches_of tool words
     → (stands : Flag → Bool) × HasFlags f stands
     × (asked_by stands (λ id. first_value f id) (raw_of f (codes "source")) ≡ asked_behind words)
@@ -48,6 +49,7 @@ matches_right words f fine rows =
           (raw_values-rows f (codes "source") i)) ∙ judged.2,
     )
 
+-- words with a fault of a kind but want of memory mean nothing
 pub refusal_right : (words : List Text) (e : Error) → HasKind (fault_of tool words) e → kind_of e ≢ kind.OutOfMemory
     → None ≡ asked_behind words
 refusal_right words e has other = go (fault_of tool words) (agrees words) has

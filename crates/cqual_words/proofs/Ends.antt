@@ -25,6 +25,7 @@ end_rows rows = fold with_default rows all_rules
 
 -- ---- no default is at fault
 
+-- the default of a part, a flag's `false` or none, is not at fault
 fine_default : (rows : List Row) (a : Part) → default_fault rows (rule_for a) ≡ []
 fine_default rows a = go (has_row (rule_for a).id rows || is_empty (rule_for a).defaults)
   where
@@ -60,6 +61,7 @@ with_off (Flagged flag) None = Some (codes "false" ∷ [])
 with_off (Flagged flag) (Some texts) = Some texts
 with_off Source texts = texts
 
+-- giving a part its default twice is giving it once
 off_again : (a : Part) (texts : Option (List Text)) → with_off a (with_off a texts) ≡ with_off a texts
 off_again (Valued key) texts = refl
 off_again (Flagged flag) None = refl
@@ -124,6 +126,7 @@ texts_behind a (b ∷ bs) rows = texts_behind a bs (with_default rows (rule_for 
         ∙ twice_off (is_some (find (λ c. is_part c a) bs))
     go false e = ap (λ o. cond (is_some (find (λ c. is_part c a) bs)) (with_off a o) o) (other_default a b rows e)
 
+-- at the end the texts of a part are those among the pieces, and `false` for a flag that does not stand
 end_texts : (a : Part) (ps : List Piece)
     → all_of (name_of a) (end_rows (rows_at ps)) ≡ with_off a (joined None (texts_of a ps))
 end_texts a ps = texts_behind a parts (rows_at ps)
@@ -132,16 +135,19 @@ end_texts a ps = texts_behind a parts (rows_at ps)
 
 -- ---- a flag that stands has the text `true`
 
+-- whether a part is a flag
 abbrev is_flagged : Part → Bool
 is_flagged (Valued key) = false
 is_flagged (Flagged flag) = true
 is_flagged Source = false
 
+-- a piece that is a flag has the text `true`
 says_true : (p : Piece) (flag : Flag) → part_of p ≡ Flagged flag → text_of p ≡ codes "true"
 says_true (Set other) flag e = refl
 says_true (Value key text) flag e = absurd (true≢false (sym (ap is_flagged e)))
 says_true (Plain word) flag e = absurd (true≢false (sym (ap is_flagged e)))
 
+-- all texts of a flag among pieces are `true`
 flag_texts : (flag : Flag) (ps : List Piece)
     → texts_of (Flagged flag) ps ≡ map (λ _. codes "true") (texts_of (Flagged flag) ps)
 flag_texts flag [] = refl
@@ -160,6 +166,7 @@ abbrev AreWritten : List Row → Type 0
 AreWritten [] = Unit {0}
 AreWritten (r ∷ rows) = (r.reading ≡ AsWritten) × AreWritten rows
 
+-- a new text that reads as it was written leaves all rows reading so
 values_written : (id : Text) (s : ValueSource) (t : Text) (rows : List Row) → AreWritten rows
     → AreWritten (with_values id AsWritten s (t ∷ []) rows)
 values_written id s t [] all = (refl, tt)
@@ -170,11 +177,13 @@ values_written id s t (r ∷ rows) all = go (bytes_eq r.id id) (values_written i
     go true next = all
     go false next = (all.0, next)
 
+-- rows of pieces read as they were written
 pieces_written : (ps : List Piece) (rows : List Row) → AreWritten rows → AreWritten (fold with_piece rows ps)
 pieces_written [] rows all = all
 pieces_written (p ∷ ps) rows all =
     pieces_written ps (with_piece rows p) (values_written (name_of (part_of p)) CommandLine (text_of p) rows all)
 
+-- the default of a part leaves all rows reading as they were written
 default_written : (a : Part) (rows : List Row) → AreWritten rows → AreWritten (with_default rows (rule_for a))
 default_written (Valued key) rows all = go (has_row (key_name key) rows)
   where
@@ -197,6 +206,7 @@ end_written : (bs : List Part) (rows : List Row) → AreWritten rows
 end_written [] rows all = all
 end_written (b ∷ bs) rows all = end_written bs (with_default rows (rule_for b)) (default_written b rows all)
 
+-- a row that reads as it was written has its first value as its text
 row_written : (r : Row) → r.reading ≡ AsWritten → row_text r ≡ slice_get r.values 0
 row_written r e = ap (λ how. option_map (read_as how) (slice_get r.values 0)) e ∙ go (slice_get r.values 0)
   where
@@ -204,6 +214,7 @@ row_written r e = ap (λ how. option_map (read_as how) (slice_get r.values 0)) e
     go None = refl
     go (Some t) = refl
 
+-- where rows read as they were written, the one text of an id is its first value
 one_written : (id : Text) (rows : List Row) → AreWritten rows → one_of id rows ≡ first_of id rows
 one_written id [] all = refl
 one_written id (r ∷ rows) all = go (bytes_eq r.id id) (one_written id rows all.1)
@@ -245,6 +256,7 @@ options_fit ps (Valued key) = are_fit (Valued key) (texts_of (Valued key) ps)
 options_fit ps (Flagged flag) = are_fit (Flagged flag) (texts_of (Flagged flag) ps)
 options_fit ps Source = true
 
+-- an option with at most one text is fit just if that text has a meaning
 fit_once : (ts : List Text) → is_once ts ≡ true
     → is_fit (slice_get ts 0) ≡ (list_all has_meaning ts && nat_le (length ts) 1)
 fit_once [] h = refl
@@ -255,6 +267,7 @@ fit_once (t ∷ []) h = go (has_meaning t)
     go false = refl
 fit_once (t ∷ s ∷ ts) h = absurd (true≢false (sym h))
 
+-- a flag with at most one text, which is `true`, is fit
 flag_fit : (ts : List Text) → ts ≡ map (λ _. codes "true") ts → is_once ts ≡ true
     → true ≡ (list_all has_meaning ts && nat_le (length ts) 1)
 flag_fit [] e h = refl
@@ -264,6 +277,7 @@ flag_fit (t ∷ s ∷ ts) e h = absurd (true≢false (sym h))
 abbrev first_at : List Piece → Text → Option Text
 first_at ps id = first_of id (end_rows (rows_at ps))
 
+-- where each option stands once, a part among the matches is fit just if its texts among the pieces are
 part_fits : (ps : List Piece) → OnceEach ps → (a : Part) → fits_part (first_at ps) a ≡ options_fit ps a
 part_fits ps once (Valued key) = ap is_fit (value_is ps key) ∙ fit_once (texts_of (Valued key) ps) (once (Valued key) refl)
 part_fits ps once (Flagged flag) = flag_fit (texts_of (Flagged flag) ps) (flag_texts flag ps) (once (Flagged flag) refl)
@@ -289,6 +303,7 @@ sources_first ps = go (are_fit Source (texts_of Source ps)) refl
     go true e = λ i. asked (list_all (λ a. same e a i) parts) (texts_of Source ps)
     go false e = ap (λ b. asked b (texts_of Source ps)) (sym (fails (λ a. are_fit a (texts_of a ps)) Source e))
 
+-- where each option stands once, the matches at the end ask what the pieces ask
 pub asked_is : (ps : List Piece) → OnceEach ps
     → asked_by (stands_among ps) (first_at ps) (all_of (codes "source") (end_rows (rows_at ps))) ≡ task_in ps
 asked_is ps once =

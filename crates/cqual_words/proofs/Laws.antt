@@ -15,6 +15,7 @@ abbrev AllFit : Option Task → Type 0
 AllFit None = ⊤
 AllFit (Some task) = HasFit task
 
+-- what is asked of files has as many sources as its question may have
 asked_has : (files : FileNames) (question : Option Question) → AllFit (asked_of files question)
 asked_has files None = tt
 asked_has files (Some question) = go (fits question files.sources) (goes_with question files.prelude) refl
@@ -24,6 +25,7 @@ asked_has files (Some question) = go (fits question files.sources) (goes_with qu
     go true false e = tt
     go false c e = tt
 
+-- what a number asks is a made source, which has no files to fit
 made_has : (n : Text) (p : Option Text) (question : Option Question) (sources : List Text)
     → AllFit (made_of n p question sources)
 made_has n (Some p) question sources = tt
@@ -41,6 +43,7 @@ made_has n None (Some (Verify v)) sources = tt
 made_has n None (Some (Who w)) sources = tt
 made_has n None (Some Sign) sources = tt
 
+-- what lattice, prelude, number, question and sources ask has as many sources as it may
 task_has : (l p n : Option Text) (question : Option Question) (sources : List Text)
     → AllFit (task_with l p n question sources)
 task_has (Some l) p None question sources = asked_has (files_of l p sources) question
@@ -48,6 +51,7 @@ task_has (Some l) p (Some n) question sources = tt
 task_has None p (Some n) question sources = made_has n p question sources
 task_has None p None question sources = tt
 
+-- what the words behind `--wide` ask has as many sources as it may
 behind_has : (words : List Text) → AllFit (asked_behind words)
 behind_has words = go (list_all (λ part. are_fit part (texts_of part pieces)) parts)
   where
@@ -59,6 +63,7 @@ behind_has words = go (list_all (λ part. are_fit part (texts_of part pieces)) p
     go true = task_has (value_among pieces Lattice) (value_among pieces Prelude) (value_among pieces Number) _ (texts_of Source pieces)
     go false = tt
 
+-- what fits still does when its sources are read as wider C
 widened_has : (wide : Bool) (task : Option Task) → AllFit task → AllFit (option_map (widened wide) task)
 widened_has wide None fit = tt
 widened_has wide (Some (Ask question files)) fit = fit

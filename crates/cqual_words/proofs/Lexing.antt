@@ -25,6 +25,7 @@ pub data Looks (word : Text) : Type 0 where
   Other : bytes_eq word hyphens ≡ false → long_of word ≡ None → short_of word ≡ None → word_of word ≡ Whole (Plain word)
       → Looks word
 
+-- a word is `--`, an option's word, a hyphen with more behind it, or any other
 pub looks : (word : Text) → Looks word
 looks [] = Other refl refl refl refl
 looks (a ∷ []) = go (a == 45) refl
@@ -47,6 +48,7 @@ looks (a ∷ b ∷ c ∷ more) = go (a == 45) (b == 45) refl refl
 
 -- ---- what clap makes of each
 
+-- no word is a subcommand, whatever waits
 pub no_subcommand : (waiting : Waiting) (word : Text) → subcommand_met [] waiting word ≡ None
 no_subcommand idle word = refl
 no_subcommand (option id) word = refl
@@ -116,6 +118,7 @@ refused : (b : ℕ) (more : Text) (h : Held) (x : ℕ) → slice_get (chars (b �
 unfolding flags_fault
 refused b more h x e = rw e refl
 
+-- a short option is refused, or read as any other word where its bytes spell no characters
 pub short_read : (waiting : Waiting) (word : Text) (h : Held) (b : ℕ) (more : Text) → bytes_eq word hyphens ≡ false
     → long_of word ≡ None
     → short_of word ≡ Some (b ∷ more) → ReadsShort waiting word (no_skip h)

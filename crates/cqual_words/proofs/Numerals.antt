@@ -24,6 +24,7 @@ digits_pass : (ds : List ℕ) → AllDigits 10 ds → list_all is_digit ds ≡ t
 digits_pass [] h = refl
 digits_pass (d ∷ ds) h = rw (below_digit d h.0) (digits_pass ds h.1)
 
+-- bytes that pass the test of digits are decimal digits
 digits_from : (ds : List ℕ) → list_all is_digit ds ≡ true → AllDigits 10 ds
 digits_from [] h = tt
 digits_from (d ∷ ds) h =
@@ -59,6 +60,7 @@ read_number text n begins h is most =
     let small : nat_le (digits_value 10 text) 1000 ≡ true = subst (λ m. nat_le m 1000 ≡ true) n_is (le-leb n 1000 most) in
     rw (begins, digits, small) (ap Some n_is)
 
+-- digits behind a number write no less than it
 after_more : (n : ℕ) (ds : List ℕ) → n ≤ digits_value_after 10 n ds
 after_more n [] = omega arith
 after_more n (d ∷ ds) =
@@ -68,6 +70,7 @@ after_more n (d ∷ ds) =
 digit_some : (b : ℕ) → (nat_le 49 b && nat_le b 57) ≡ true → 1 ≤ 0 * 10 + digit_value b
 digit_some b h = grind (arith, nat_tests)
 
+-- a numeral that does not begin with 0 writes at least 1
 begins_some : (text : Text) → begins_number text ≡ true → 1 ≤ digits_value 10 text
 begins_some [] h = absurd (true≢false (sym h))
 begins_some (b ∷ more) h =

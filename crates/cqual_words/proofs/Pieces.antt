@@ -24,6 +24,7 @@ use Rattle.cqual_words.specs.Tool.{plain_texts}
 abbrev pub first_named : Text → Option Part
 first_named name = find (λ b. bytes_eq (name_of b) name) parts
 
+-- each part is the first one with its name
 pub found : (a : Part) → first_named (name_of a) ≡ Some a
 found (Valued Lattice) = refl
 found (Valued Prelude) = refl
@@ -62,6 +63,7 @@ is_option (Valued key) = true
 is_option (Flagged flag) = true
 is_option Source = false
 
+-- an option or a flag stands once at the most
 option_most : (a : Part) → is_option a ≡ true → most_of a ≡ 1
 option_most (Valued key) h = refl
 option_most (Flagged flag) h = refl
@@ -117,6 +119,7 @@ all_other other id s t (r ∷ rows) apart = go (bytes_eq r.id other) refl (all_o
 
 -- ---- texts of a part
 
+-- the texts of a part in two lists of pieces are those in the first, then those in the second
 pub texts_append : (a : Part) (ps qs : List Piece) → texts_of a (ps ++ qs) ≡ texts_of a ps ++ texts_of a qs
 texts_append a [] qs = refl
 texts_append a (p ∷ ps) qs = go (is_part (part_of p) a) (texts_append a ps qs)
@@ -146,6 +149,7 @@ joined_one : (o : Option (List Text)) (t : Text) (ts : List Text)
 joined_one None t ts = refl
 joined_one (Some before) t ts = ap Some (append_assoc before (t ∷ []) ts)
 
+-- rows with pieces added have for each part the texts that were there and those of the pieces
 texts_from : (a : Part) (ps : List Piece) (rows : List Row)
     → all_of (name_of a) (fold with_piece rows ps) ≡ joined (all_of (name_of a) rows) (texts_of a ps)
 texts_from a [] rows = joined_none (all_of (name_of a) rows)
@@ -168,6 +172,7 @@ texts_from a (p ∷ ps) rows = texts_from a ps (with_piece rows p) ∙ go (is_pa
 pub texts_are : (a : Part) (ps : List Piece) → all_of (name_of a) (rows_at ps) ≡ joined None (texts_of a ps)
 texts_are a ps = texts_from a ps []
 
+-- the rows of pieces have as sources the plain words among these
 pub plain_are : (ps : List Piece) → plain_texts (all_of (name_of Source) (rows_at ps)) ≡ texts_of Source ps
 plain_are ps = ap plain_texts (texts_are Source ps) ∙ go (texts_of Source ps)
   where
@@ -178,6 +183,7 @@ plain_are ps = ap plain_texts (texts_are Source ps) ∙ go (texts_of Source ps)
 abbrev pub has_any : {X : Type 0} → List X → Bool
 has_any xs = list_any (λ _. true) xs
 
+-- an id has a row just if it has texts
 pub some_row : (id : Text) (rows : List Row) → has_row id rows ≡ is_some (all_of id rows)
 some_row id [] = refl
 some_row id (r ∷ rows) = go (bytes_eq r.id id) (some_row id rows)
@@ -187,6 +193,7 @@ some_row id (r ∷ rows) = go (bytes_eq r.id id) (some_row id rows)
     go true e = refl
     go false e = e
 
+-- the rows of pieces have a row of a part just if the pieces have a text of it
 pub has_row_is : (a : Part) (ps : List Piece) → has_row (name_of a) (rows_at ps) ≡ has_any (texts_of a ps)
 has_row_is a ps = some_row (name_of a) (rows_at ps) ∙ ap is_some (texts_are a ps) ∙ go (texts_of a ps)
   where
@@ -198,6 +205,7 @@ has_row_is a ps = some_row (name_of a) (rows_at ps) ∙ ap is_some (texts_are a 
 abbrev pub first_in : Option (List Text) → Option Text
 first_in o = option_and_then (λ ts. slice_get ts 0) o
 
+-- the first value of an id is the first of all its texts
 pub first_by : (id : Text) (rows : List Row) → first_of id rows ≡ first_in (all_of id rows)
 first_by id rows = go (find (is_id id) rows)
   where
@@ -225,6 +233,7 @@ bad_among (x ∷ xs) t ys h = rw (bad_among xs t ys h) (and-false (has_meaning x
 too_many : (n : ℕ) → nat_le (suc (suc n)) 1 ≡ false
 too_many n = grind (arith, nat_tests)
 
+-- a text behind some other is more than one
 again_among : (xs : List Text) (t : Text) (ys : List Text) → has_any xs ≡ true
     → nat_le (length (xs ++ t ∷ ys)) 1 ≡ false
 again_among [] t ys h = absurd (true≢false (sym h))

@@ -13,6 +13,7 @@ use Rattle.cqual_words.specs.Words.{name_of, named, parts, spells}
 use Rattle.cqual_words.specs.Tool.{rule_of_part, tool}
 use Rattle.cqual_words.proofs.Pieces.{found, with_piece}
 
+-- the filled rule of a part, as the parser has it
 abbrev pub rule_for : Part → Rule
 rule_for (Valued key) = filled (rule_of_part (Valued key))
 rule_for (Flagged flag) = filled (rule_of_part (Flagged flag))
@@ -26,6 +27,7 @@ all_rules = map rule_for parts
 
 -- ---- rows
 
+-- a change at an id without a row puts what is missing behind the rows
 pub at_none : (id : Text) (change : Row → List Row) (missing rows : List Row) → has_row id rows ≡ false
     → at_row id change missing rows ≡ rows ++ missing
 at_none id change missing [] h = refl

@@ -21,11 +21,13 @@ pub data Pend : Type 0 where
   Holds : Hand → Pend
   Wants : Key → Pend
 
+-- the id and the texts that wait to be used, by the piece that waits
 abbrev pub pending_at : Pend → Option (Text × List Text)
 pending_at Free = None
 pending_at (Holds hand) = Some (name_of (part_of (piece_of hand)), text_of (piece_of hand) ∷ [])
 pending_at (Wants key) = Some (key_name key, [])
 
+-- what the walk waits for, by the piece that waits
 abbrev pub waits_for : Pend → Waiting
 waits_for Free = idle
 waits_for (Holds (OfKey key text)) = idle
@@ -47,6 +49,7 @@ walk_at h waiting is_trailing = record { held = h; waiting = waiting; position =
 
 -- ---- each option and each flag once
 
+-- whether there is at most one text
 abbrev pub is_once : List Text → Bool
 is_once [] = true
 is_once (t ∷ []) = true
@@ -59,6 +62,7 @@ none_there : (xs : List Text) (t : Text) → has_any xs ≡ false → is_once (x
 none_there [] t h = refl
 none_there (x ∷ xs) t h = absurd (true≢false h)
 
+-- a piece of an option that has no row yet keeps each option standing once
 pub once_more : (ps : List Piece) (p : Piece) → OnceEach ps
     → (is_option (part_of p) ≡ true → has_row (name_of (part_of p)) (rows_at ps) ≡ false) → OnceEach (ps ++ p ∷ [])
 once_more ps p once none a once_only = ap is_once (texts_append a ps (p ∷ [])) ∙ go (is_part (part_of p) a) refl
@@ -105,6 +109,7 @@ held_more : (ps : List Piece) (hand : Hand)
 held_more ps hand e = ap (λ rs. record { rows = rs; pending = None; skip = 0 })
     (settled_uses ps (part_of (piece_of hand)) (text_of (piece_of hand) ∷ []) ∙ e ∙ sym (rows_more ps (piece_of hand)))
 
+-- the piece that waits is used, or it is an option that was there before or lacks its value
 pub settling : (ps : List Piece) (pend : Pend) → OnceEach ps → Settling ps pend
 settling ps Free once = Settles refl refl once
 settling ps (Wants key) once = Lacks key refl (wants_fault ps key)

@@ -171,6 +171,7 @@ is_wanting _ = false
 pub not_wanting : (pend : Pend) → is_wanting pend ≡ false → (key : Key) → pend ≡ Wants key → {T : Type 0} → T
 not_wanting pend still key e = absurd (true≢false (sym (ap is_wanting e) ∙ still))
 
+-- behind `--` the walk's answer is what the pieces and the words, all plain, ask
 pub trails : (words : List Text) (ps : List Piece) (pend : Pend) (waiting : Waiting) → is_wanting pend ≡ false
     → OnceEach ps
     → Claim (walk_at (held_at ps pend) waiting true) words (task_in (all_at ps pend ++ map Plain words))
@@ -183,6 +184,7 @@ trails (word ∷ words) ps pend waiting still once = source_read ps pend waiting
     (append_assoc (all_at ps pend) (Plain word ∷ []) (map Plain words))
     (trails words (all_at ps pend) (Holds (OfSource word)) positional refl once_all))
 
+-- behind `--` an option without its value is a fault at the first word or at the end
 pub trail_lacks : (words : List Text) (ps : List Piece) (key : Key) (waiting : Waiting) (task : Option Task)
     → settle_fault all_rules false (held_at ps (Wants key)) ≡ kind.InvalidValue ∷ [] → task ≡ None
     → Claim (walk_at (held_at ps (Wants key)) waiting true) words task

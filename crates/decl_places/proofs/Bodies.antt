@@ -42,6 +42,7 @@ use Rattle.decl_places.proofs.Members.{value_law, members_good, members_shrinks,
 abbrev pub no_brace : TokenKind → Bool
 no_brace kind = not (is_open_brace kind)
 
+-- a token that passes for no brace fails the test for `{`
 no_brace_is : (kind : TokenKind) → no_brace kind ≡ true → is_open_brace kind ≡ false
 no_brace_is kind h = by_test (is_open_brace kind) h
   where

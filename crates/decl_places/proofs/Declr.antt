@@ -47,36 +47,42 @@ use Rattle.decl_places.proofs.Params.{paren_type, attrs_none, attrs_some, attrs_
 
 -- What may follow a declarator.
 
+-- `)` stops a declarator of each mode
 paren_declr : (mode : Mode) (kind : TokenKind) → is_close_paren kind ≡ true → stops_declr mode kind ≡ true
 paren_declr Named (kinds.Punct puncts.CloseParen) h = refl
 paren_declr Abstract (kinds.Punct puncts.CloseParen) h = refl
 paren_declr Either (kinds.Punct puncts.CloseParen) h = refl
 paren_declr mode kind h = absurd cc
 
+-- what stops a declarator is no `(`
 declr_open_paren : (mode : Mode) (kind : TokenKind) → stops_declr mode kind ≡ true → is_open_paren kind ≡ false
 declr_open_paren Named (kinds.Punct puncts.OpenParen) h = absurd cc
 declr_open_paren Abstract (kinds.Punct puncts.OpenParen) h = absurd cc
 declr_open_paren Either (kinds.Punct puncts.OpenParen) h = absurd cc
 declr_open_paren mode kind h = refl
 
+-- what stops a declarator is no `[`
 declr_open_bracket : (mode : Mode) (kind : TokenKind) → stops_declr mode kind ≡ true → is_open_bracket kind ≡ false
 declr_open_bracket Named (kinds.Punct puncts.OpenBracket) h = absurd cc
 declr_open_bracket Abstract (kinds.Punct puncts.OpenBracket) h = absurd cc
 declr_open_bracket Either (kinds.Punct puncts.OpenBracket) h = absurd cc
 declr_open_bracket mode kind h = refl
 
+-- what stops a declarator is no `*`
 declr_star : (mode : Mode) (kind : TokenKind) → stops_declr mode kind ≡ true → is_star kind ≡ false
 declr_star Named (kinds.Punct puncts.Star) h = absurd cc
 declr_star Abstract (kinds.Punct puncts.Star) h = absurd cc
 declr_star Either (kinds.Punct puncts.Star) h = absurd cc
 declr_star mode kind h = refl
 
+-- what stops the name of a type begins no word of a pointer
 type_word : (kind : TokenKind) → stops_type kind ≡ true → begins_pointer_word kind ≡ false
 type_word (kinds.Punct puncts.CloseParen) h = refl
 type_word (kinds.Punct puncts.Comma) h = refl
 type_word (kinds.Punct puncts.Colon) h = refl
 type_word kind h = absurd cc
 
+-- what stops the name of a type spells no name
 type_name_none : (kind : TokenKind) → stops_type kind ≡ true → spelled_name kind ≡ None
 type_name_none (kinds.Punct puncts.CloseParen) h = refl
 type_name_none (kinds.Punct puncts.Comma) h = refl
@@ -116,6 +122,7 @@ name_no_base s Named (Some Typedef) name = by_wide (is_wide s)
     by_wide false = refl
 name_no_base s mode wanted name = refl
 
+-- a token that is a base word in the place of a name is not the end
 base_end : (s : HeldScopes) (mode : Mode) (wanted : Option Kind) (kind : TokenKind)
     → names_base s mode wanted kind ≡ true → is_end kind ≡ false
 base_end s Named (Some Typedef) kinds.End h = absurd (by_wide (is_wide s) h)
@@ -132,6 +139,7 @@ front_of Named kind = is_name_kind kind
 front_of Abstract kind = stops_type kind
 front_of Either kind = stops_type kind
 
+-- what a declarator completed from nothing begins with begins no word of a pointer
 front_word : (mode : Mode) (kind : TokenKind) → front_of mode kind ≡ true → begins_pointer_word kind ≡ false
 front_word Named kind h = name_word kind h
 front_word Abstract kind h = type_word kind h

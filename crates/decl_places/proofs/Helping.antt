@@ -41,12 +41,14 @@ fits_not least room ts read h = rw h refl
 pub left_is : {A : Type 0} {y x : Found A} → done y ≡ done x → length y.rest ≡ length x.rest
 left_is {A} e = ap (λ (x : Found A). length x.rest) (ok_is e)
 
+-- a reader of one token that passes a test, which makes something of it, takes a token
 pub token_then_shrinks : {B : Type 0} (test : TokenKind → Bool) (make : ℕ → B)
     → Shrinks (behind (token_at test) (λ token. ends (make token)))
 token_then_shrinks test make s ts y e =
     let a = bind_ok e in
     omega (arith, token_falls test _ _ _ a.1, left_is a.2)
 
+-- a reader of any one token, with one behind it that adds none, takes a token
 pub take_shrinks : {B : Type 0} (f : ℕ → Reader B) → ((x : ℕ) → Falls (f x)) → Shrinks (behind take_one f)
 take_shrinks f falls s ts x e =
     let a = bind_ok e in
@@ -194,6 +196,7 @@ pub none_before : (b k : List Lexeme) → b ++ k ≡ k → b ≡ []
 none_before [] k h = refl
 none_before (t ∷ b) k h = let one = ap length h in let two = length_behind b k in absurd (omega (arith, one, two))
 
+-- lists of tokens that are equal before the same tail are equal
 pub append_same : (b c k : List Lexeme) → b ++ k ≡ c ++ k → b ≡ c
 append_same [] c k h = sym (none_before c k (sym h))
 append_same (t ∷ b) [] k h = none_before (t ∷ b) k h
@@ -203,6 +206,8 @@ append_same (t ∷ b) (u ∷ c) k h =
     let same = append_same b c k later in
     rw (first, same) refl
 
+-- where fewer tokens are left than were given before a tail, the part left before that tail is shorter than the part
+-- given
 pub fewer_tokens : (b c p rest k : List Lexeme) (m : ℕ) → b ≡ c → rest ≡ p ++ k → length rest < length (c ++ k)
     → length b < suc m → length p < m
 fewer_tokens b c p rest k m same parts fewer less =

@@ -16,6 +16,7 @@ use Rattle.reading_steps.proofs.Fresh.{fresh_free, free_names_no_type}
 use Rattle.reading_steps.proofs.Steps.{kind_same, refused_here, good_as}
 use Rattle.token_places.proofs.Single.{name_good}
 
+-- a list's identifier is read, refused and completed lawfully, before any token, where its front is each name
 pub identifier_law : (keep : Bool) (front : TokenKind → Bool) → ((name : ℕ) → front (kinds.Name name) ≡ true)
     → Law keep identifier_at front any
 identifier_law keep front named = record {

@@ -65,6 +65,7 @@ semi_comma : (kind : TokenKind) → is_semicolon kind ≡ true → is_comma kind
 semi_comma (kinds.Punct puncts.Semicolon) h = refl
 semi_comma kind h = absurd cc
 
+-- `int` begins the specifiers of each role
 int_begins : (role : Role) (s : HeldScopes) (kind : TokenKind) → is_int kind ≡ true → begins_role role s kind ≡ true
 int_begins Declaring s (kinds.Keyword keywords.Int) h = refl
 int_begins Typed s (kinds.Keyword keywords.Int) h = refl

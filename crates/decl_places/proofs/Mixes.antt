@@ -47,6 +47,7 @@ pub named_whole : (ws : SpecWords) (w : SpecWord) → class_of w ≡ classes.Nam
 named_whole ws w is h =
     ap whole_in (mix_of_pushed ws w ∙ ap (then_class (mix_of ws)) is) ∙ named_is_whole (mix_of ws) (ap (λ (class : Class). is_some (then_class (mix_of ws) class)) (sym is) ∙ h)
 
+-- equal mixes, where there are any, have the same types
 same_types : (mix m : Mix) → Some mix ≡ Some m → m.types ≡ mix.types
 same_types mix m h = sym (ap types_of h)
   where
@@ -80,6 +81,7 @@ none_from : (ws : SpecWords) → mix_from None ws ≡ None
 none_from no_words = refl
 none_from (more_words w ws) = none_from ws
 
+-- words without a type leave the types of a mix as they are
 untyped_types : (ws : SpecWords) (mix m : Mix) → is_typed ws ≡ false → mix_from (Some mix) ws ≡ Some m
     → m.types ≡ mix.types
 untyped_types no_words mix m e h = same_types mix m h
@@ -164,6 +166,7 @@ abbrev IsNamedMix : Option Mix → Type 0
 IsNamedMix None = Unit {0}
 IsNamedMix (Some mix) = mix.types ≡ Named
 
+-- a mix whose type is named stays so behind a word of each class, or ends
 named_then : (mix : Mix) (class : Class) → mix.types ≡ Named → IsNamedMix (then_class (Some mix) class)
 named_then mix (classes.Stores keyword) h = by_storage (stored mix.storage (storing keyword))
   where
@@ -174,11 +177,13 @@ named_then mix (classes.Spells keyword) h = rw h tt
 named_then mix classes.Named h = rw h tt
 named_then mix classes.Free h = h
 
+-- a mix whose type is named, or none, stays so behind any words, or ends
 named_from : (ws : SpecWords) (mix : Option Mix) → IsNamedMix mix → IsNamedMix (mix_from mix ws)
 named_from no_words mix h = h
 named_from (more_words w ws) None h = named_from ws None tt
 named_from (more_words w ws) (Some mix) h = named_from ws (then_class (Some mix) (class_of w)) (named_then mix (class_of w) h)
 
+-- a mix has a named type behind a word that names one, or ends
 named_class : (mix : Option Mix) → IsNamedMix (then_class mix classes.Named)
 named_class None = tt
 named_class (Some mix) = by_types mix.types
@@ -191,6 +196,7 @@ auto_class : (w : SpecWord) → is_auto w ≡ true → class_of w ≡ classes.Na
 auto_class (auto_word token) h = refl
 auto_class w h = absurd cc
 
+-- a mix has a named type behind words that hold `__auto_type`, or ends
 auto_mix : (ws : SpecWords) (mix : Option Mix) → has_auto ws ≡ true → IsNamedMix (mix_from mix ws)
 auto_mix no_words mix h = absurd cc
 auto_mix (more_words w ws) mix h = by_word (is_auto w) refl h (auto_mix ws (then_class mix (class_of w)))
@@ -201,6 +207,7 @@ auto_mix (more_words w ws) mix h = by_word (is_auto w) refl h (auto_mix ws (then
     by_word true is h later = named_from ws (then_class mix (class_of w)) (subst (λ (class : Class). IsNamedMix (then_class mix class)) (sym (auto_class w is)) (named_class mix))
     by_word false is h later = later h
 
+-- behind words that hold `__auto_type` no base word goes on
 pub auto_base : (ws : SpecWords) → has_auto ws ≡ true → goes_on ws (classes.Spells keywords.BaseWord) ≡ false
 auto_base ws h = by_mix (mix_of ws) (auto_mix ws (Some no_mix) h)
   where

@@ -80,6 +80,7 @@ paren_or : (kind : TokenKind) → is_close_paren kind ≡ true → dots_or_paren
 paren_or (kinds.Punct puncts.CloseParen) h = refl
 paren_or kind h = absurd cc
 
+-- `...` and `)` are no qualifiers
 or_qual : (kind : TokenKind) → dots_or_paren kind ≡ true → is_made (word_qual_of kind) ≡ false
 or_qual (kinds.Punct puncts.Ellipsis) h = refl
 or_qual (kinds.Punct puncts.CloseParen) h = refl

@@ -29,6 +29,7 @@ use Rattle.token_places.proofs.Single.{mapped_law}
 use Rattle.decl_places.proofs.Helping.{behind_good}
 use Rattle.decl_places.proofs.Declr.{declr_good, declr_named, declr_absent, declr_starred}
 
+-- what stops the name of a type stops specifiers
 type_specs : (kind : TokenKind) → stops_type kind ≡ true → stops_specs kind ≡ true
 type_specs (kinds.Punct puncts.CloseParen) h = refl
 type_specs (kinds.Punct puncts.Comma) h = refl

@@ -69,6 +69,7 @@ typed_start_same s (starts.Name name) h = by_type (names_type s name)
     by_type false = refl
 typed_start_same s start h = h
 
+-- what stops specifiers begins no word behind a type, in any scopes
 stops_start : (s : HeldScopes) (kind : TokenKind) → stops_specs kind ≡ true → is_start (start_at s true kind) ≡ false
 stops_start s kind h = typed_start_same s (kind_start kind) (by_test (is_start (start_at [] true kind)) h)
   where
@@ -76,6 +77,7 @@ stops_start s kind h = typed_start_same s (kind_start kind) (by_test (is_start (
     by_test true h = absurd cc
     by_test false h = refl
 
+-- what stops specifiers is no `{`
 stops_brace : (kind : TokenKind) → stops_specs kind ≡ true → no_brace kind ≡ true
 stops_brace kind h = by_test (not (is_start (start_at [] true kind))) h
   where
@@ -83,6 +85,7 @@ stops_brace kind h = by_test (not (is_start (start_at [] true kind))) h
     by_test true h = h
     by_test false h = absurd cc
 
+-- a keyword of a basic type may stand among the specifiers of each role
 spells_may : (role : Role) (keyword : Keyword) → may_stand role (starts.Basic keyword) ≡ true
 spells_may Declaring keyword = refl
 spells_may Typed keyword = refl

@@ -117,6 +117,7 @@ pub bound_take : (room d : ℕ) (s : HeldScopes) (ts : List Lexeme) → BoundAt 
 bound_take room d s [] = record { held = λ e. absurd cc }
 bound_take room d s (t ∷ ts) = record { held = record { before = t ∷ []; parts = refl; low = omega arith } }
 
+-- a token that passes a test is bounded by eight levels, and none is refused for the height
 pub bound_token : (test : TokenKind → Bool) (room d : ℕ) (s : HeldScopes) (ts : List Lexeme)
     → BoundAt token_levels 0 room d ts
     (token_at test s ts)
@@ -127,6 +128,7 @@ bound_token test room d s (t ∷ ts) =
           record { before = t ∷ []; parts = refl; low = omega arith };
     }) (λ is. record { held = λ e. absurd cc })
 
+-- a name is bounded by eight levels, and none is refused for the height
 pub bound_name : (room d : ℕ) (s : HeldScopes) (ts : List Lexeme) → BoundAt token_levels 0 room d ts (name_at s ts)
 bound_name room d s [] = record { held = λ e. absurd cc }
 bound_name room d s (t ∷ ts) = by_name (spelled_name t.kind)
@@ -135,6 +137,7 @@ bound_name room d s (t ∷ ts) = by_name (spelled_name t.kind)
     by_name None = record { held = λ e. absurd cc }
     by_name (Some name) = record { held = record { before = t ∷ []; parts = refl; low = omega arith } }
 
+-- a tag, which may be absent, has no height, and none is refused for the height
 pub bound_tag : (room d : ℕ) (s : HeldScopes) (ts : List Lexeme) → BoundAt no_levels 0 room d ts (tag_at s ts)
 bound_tag room d s [] = record { held = record { before = []; parts = refl; low = omega arith } }
 bound_tag room d s (t ∷ ts) = by_name (spelled_name t.kind)
@@ -249,6 +252,7 @@ with_next_low : {T E : Type 0} (height : T → ℕ) (xs : List T) (y : Next T E)
 with_next_low height xs (one_more x) c h l = most_push height xs x c h l
 with_next_low height xs (list_end e) c h l = h
 
+-- a list read on behind commas is bounded where its items so far and each next one are
 pub bound_commas : {T E : Type 0} (next : ℕ → Reader (Next T E)) (height : T → ℕ) (c room d : ℕ)
     → ((comma : ℕ) → Falls (next
     comma)) → c ≤ d →

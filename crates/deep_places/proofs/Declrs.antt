@@ -29,6 +29,7 @@ use Rattle.deep_places.proofs.Specs.{b_specs_here, b_present}
 use Rattle.deep_places.specs.Bounds.{BoundAt, StepAt, begun_levels, declared_height, param_item_height, InnerBounds}
 use Rattle.deep_places.proofs.Bounding.{bound_ends, bound_weaker, bound_bind, bound_fits, bound_if, token_levels, no_levels, bound_take, bound_token, bound_run, next_height, list_height, bound_listed, known_of, known_by}
 
+-- the room behind a declarator is no less than what it has before it
 room_least : (flag : Bool) (room : ℕ) (d : Declared) (kind : TokenKind) → room ≤ room_at flag room d kind
 room_least flag room d kind = by_more (flag && (is_some d.closed || (is_open_paren kind && is_bare d.declr)))
   where

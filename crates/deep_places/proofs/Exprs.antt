@@ -47,6 +47,7 @@ finished_pot (above s l) e = finished_pot s (operation l.tree l.operator l.token
 abbrev pot_of : Settled → ℕ
 pot_of left = pot left.below (expr_height left.last)
 
+-- operators that are joined up to a level leave the height of the whole row as it is
 settled_pot : (level : ℕ) (s : Stack) (e : Expr) → pot_of (settle_of level s e) ≡ pot s (expr_height e)
 settled_pot level bottom e = refl
 settled_pot level (above s l) e = by_level (nat_le (right_level l.operator) level) (settled_pot level s (operation l.tree l.operator
@@ -63,6 +64,7 @@ pot_least : (s : Stack) (h : ℕ) → how_many s + h ≤ pot s h
 pot_least bottom h = omega arith
 pot_least (above s l) h = let rest = pot_least s (max (expr_height l.tree) (max (operator_height l.operator) h) + 1) in omega arith
 
+-- a row fits with a last operand no higher than one that fits, or than a height that fits above all that wait
 pot_both : (s : Stack) (a b x c d : ℕ) → pot s a ≤ c → c ≤ d → how_many s + b ≤ d → x ≤ max a b → pot s x ≤ d
 pot_both bottom a b x c d low more few is = omega arith
 pot_both (above s l) a b x c d low more few is =

@@ -73,6 +73,7 @@ pub low_words_of_attrs : (xs : List Attr) → specs_height (words_of_attrs xs) �
 low_words_of_attrs [] = omega arith
 low_words_of_attrs (x ∷ xs) = let rest = low_words_of_attrs xs in omega arith
 
+-- the least height of a specifier, by its first token, is at most 4
 pub low_least : (start : SpecStart) → least_of start ≤ 4
 low_least (starts.Struct keyword) = omega arith
 low_least starts.Enum = omega arith
@@ -83,6 +84,7 @@ low_least starts.Typeof = omega arith
 low_least starts.Atomic = omega arith
 low_least start = omega arith
 
+-- the least height of a pointer, in each mode, is at most 2
 pub low_least_pointer : (mode : Mode) → least_pointer mode ≤ 2
 low_least_pointer Named = omega arith
 low_least_pointer Abstract = omega arith
@@ -103,6 +105,7 @@ either : (b : Bool) (one two : Declr) (h : ℕ) → declr_height one ≤ h → d
 either true one two h x y = x
 either false one two h x y = y
 
+-- a pointer is at most one higher than its words and what it points from, if anything
 pub low_pointer : (token : ℕ) (words : List PointerWord) (d : SomeDeclr)
     → declr_height (with_pointer token words d) ≤ max
     (pointer_words_height words) (some_declr_height d) + 1
@@ -110,6 +113,7 @@ low_pointer token words no_declr = omega arith
 low_pointer token words (some_declr d) = either (is_named d) (pointer token words d) (abs_pointer token words (some_declr d)) (max
     (pointer_words_height words) (declr_height d) + 1) (omega arith) (omega arith)
 
+-- an array is at most one higher than its declarator, if any, and its size
 pub low_array : (d : SomeDeclr) (opening : ℕ) (words : List ArrayWord) (size : SomeSize) (closing : ℕ)
     → declr_height (with_array d
     opening words size closing) ≤ max (some_declr_height d) (some_size_height size) + 1
@@ -117,6 +121,7 @@ low_array no_declr opening words size closing = omega arith
 low_array (some_declr d) opening words size closing = either (is_named d) (array d opening words size closing) (abs_array
     (some_declr d) opening words size closing) (max (declr_height d) (some_size_height size) + 1) (omega arith) (omega arith)
 
+-- a function is at most one higher than its declarator, if any, and its parameters
 pub low_params_of : (d : SomeDeclr) (opening : ℕ) (ps : Params) (dots : Option Dots) (closing : ℕ)
     → declr_height (with_params d
     opening ps dots closing) ≤ max (some_declr_height d) (params_height ps) + 1
@@ -139,6 +144,7 @@ pub low_declarations : (xs : List Declaration) → declarations_height xs ≤ mo
 low_declarations [] = omega arith
 low_declarations (x ∷ xs) = let rest = low_declarations xs in omega arith
 
+-- a declarator is at least 1 high
 pub low_declr : (d : Declr) → 1 ≤ declr_height d
 low_declr (pointer token words d) = omega arith
 low_declr (declr_name token name) = omega arith

@@ -24,6 +24,7 @@ use Rattle.deep_places.proofs.Declrs.{b_declr_with, b_type_name_with}
 use Rattle.deep_places.proofs.Stmts.{b_block_with, b_stmt_with}
 use Rattle.deep_places.proofs.Items.{b_items_with}
 
+-- readers that refuse everything are bounded, as they never refuse for the height
 never_bounds : InnerBounds never
 never_bounds = record {
   expr = λ reach begun room s ts. record { held = λ e. absurd cc };
@@ -35,6 +36,7 @@ never_bounds = record {
   stmt = λ room s ts. record { held = λ e. absurd cc };
 }
 
+-- readers made of bounded ones are bounded
 tied_bounds : (n : ℕ) (inner : Inner) → Laws [] n inner → InnerBounds inner → InnerBounds (tied inner)
 tied_bounds n inner laws good = record {
   expr = b_expr_with [] none_numbered none_tokens n inner laws good;

@@ -30,6 +30,7 @@ use Rattle.deep_places.proofs.Bounding.{bound_ends, bound_weaker, bound_bind, bo
 
 -- Groups.
 
+-- each turn of the loop over brackets takes a token
 bracket_shrinks : TurnShrinks bracket_turn
 bracket_shrinks state s ts x e = by_brackets state.brackets ts e
   where
@@ -57,6 +58,7 @@ bracket_shrinks state s ts x e = by_brackets state.brackets ts e
     by_brackets [] ts e = absurd cc
     by_brackets (b ∷ bs) ts e = by_step b bs ts cc
 
+-- a turn of the loop over brackets has no height, and never refuses for the height
 bracket_step_bound : (room : ℕ) (state : Opened) (s : HeldScopes) (ts : List Lexeme) (c : ℕ) → 0 ≤ c → 0 ≤ c
     → StepAt (λ (o :
     Opened). 0) c room (c + 0) ts (bracket_turn state s ts)
@@ -142,6 +144,7 @@ fewer_levels room ts (Err e) b = record { held = b.held }
 
 -- Rows.
 
+-- a row of tokens that each make something has no height, and is never refused for the height
 made_row : {A : Type 0} (of : TokenKind → Option (ℕ → A)) (begins : TokenKind → Bool) (room : ℕ) (s : HeldScopes) (ts : List Lexeme)
     → BoundAt no_levels 0 room 0 ts (repeated begins (made_at of) s ts)
 made_row {A} of begins room s ts = forget (repeated begins (made_at of) s ts) (bound_repeated begins (made_at of) no_levels 0 room 0
@@ -229,6 +232,7 @@ b_attrs_at room s ts =
     }
     forget (Err e) b = record { held = b.held }
 
+-- the words of a pointer are at most 1 high
 pointer_words_low : (xs : List PointerWord) → pointer_words_height xs ≤ 1
 pointer_words_low [] = omega arith
 pointer_words_low (pointer_words.Qual q ∷ xs) = pointer_words_low xs
@@ -276,6 +280,7 @@ b_pointer_words_at room s ts =
 
 -- Lists of names.
 
+-- the next name of a list leaves fewer tokens than it was given, or as many
 next_falls : (name : Reader Identifier) → Shrinks name → (comma : ℕ) → Falls (next_name name comma)
 next_falls name shrinks comma s ts x e =
     let a = bind_ok e in

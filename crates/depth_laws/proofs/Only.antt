@@ -26,6 +26,7 @@ use Rattle.depth_laws.specs.Laws.{OnlyTheHeight}
 abbrev refused : Refusal → Read (List Item)
 refused d = Err d
 
+-- the first kinds of tokens, as many as are taken, with those that are left behind them, are all
 cut_here : (n : ℕ) (ks : List TokenKind) → take n ks ++ drop n ks ≡ ks
 cut_here zero ks = refl
 cut_here (suc n) [] = refl

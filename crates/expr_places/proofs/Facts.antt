@@ -22,6 +22,7 @@ use Rattle.reading_steps.specs.Stops.{is_number, stops_operand, stops_whole, sto
 
 -- Behind an operand.
 
+-- what stops an operand begins no form with a type's name
 pub operand_no_form : (kind : TokenKind) → stops_operand kind ≡ true → form_of kind ≡ forms.Nothing
 operand_no_form (kinds.Punct puncts.CloseParen) h = refl
 operand_no_form (kinds.Punct puncts.CloseBracket) h = refl
@@ -47,6 +48,7 @@ pub operand_no_specs : (s : HeldScopes) (kind : TokenKind) → stops_operand kin
 operand_no_specs s (kinds.Punct p) h = refl
 operand_no_specs s kind h = absurd cc
 
+-- what stops an expression with commas stops an operand
 pub whole_operand : (kind : TokenKind) → stops_whole kind ≡ true → stops_operand kind ≡ true
 whole_operand (kinds.Punct puncts.CloseParen) h = refl
 whole_operand (kinds.Punct puncts.CloseBracket) h = refl
@@ -55,6 +57,7 @@ whole_operand (kinds.Punct puncts.Semicolon) h = refl
 whole_operand (kinds.Punct puncts.Colon) h = refl
 whole_operand kind h = absurd cc
 
+-- what stops an expression of any reach stops an operand
 pub expr_operand : (reach : Reach) (kind : TokenKind) → stops_expr reach kind ≡ true → stops_operand kind ≡ true
 expr_operand Whole kind h = whole_operand kind h
 expr_operand Assigned kind h = h
@@ -185,6 +188,7 @@ abbrev pub opens_tight : Opening → Bool
 opens_tight (openings.Prefix p reach) = is_tight reach
 opens_tight opening = true
 
+-- an operand of each prefix sign is read without commas
 pub opening_tight : (kind : TokenKind) → opens_tight (opening_of kind) ≡ true
 opening_tight (kinds.Punct p) = by_punct p
   where
@@ -213,6 +217,7 @@ opening_tight kinds.Char = refl
 opening_tight kinds.Text = refl
 opening_tight kind = refl
 
+-- what stops an operand stops an expression that does not go on with commas
 pub tight_stops : (reach : Reach) → is_tight reach ≡ true → (kind : TokenKind) → stops_operand kind ≡ true
     → stops_expr reach kind ≡ true
 tight_stops Whole tight kind h = absurd cc
@@ -232,6 +237,7 @@ operand_infix (kinds.Punct puncts.Semicolon) h = inl refl
 operand_infix (kinds.Punct puncts.Colon) h = inl refl
 operand_infix kind h = absurd cc
 
+-- what stops an expression with commas is no infix sign
 pub whole_infix : (kind : TokenKind) → stops_whole kind ≡ true → infix_of kind ≡ infixes.Nothing
 whole_infix (kinds.Punct puncts.CloseParen) h = refl
 whole_infix (kinds.Punct puncts.CloseBracket) h = refl

@@ -40,6 +40,7 @@ use Rattle.expr_places.proofs.Facts.{whole_operand, close_bracket_whole, close_b
 abbrev behind_desigs : TokenKind → Bool
 behind_desigs kind = if is_equal kind then true else is_number kind
 
+-- `=` and a number, which may stand behind designators, begin none
 behind_no_desig : (kind : TokenKind) → behind_desigs kind ≡ true → begins_desig kind ≡ false
 behind_no_desig (kinds.Punct puncts.Equal) h = refl
 behind_no_desig kinds.Number h = refl

@@ -32,6 +32,7 @@ first_false false c is = refl
 
 -- the first of two lists
 
+-- what is found first at a place in a list is so with others behind it
 ahead : (xs ys : List Keyed) (at : Place) (shape : Shape) → first_at xs at ≡ Some shape
     → first_at (xs ++ ys) at ≡ Some shape
 ahead [] ys at shape h = absurd cc
@@ -45,6 +46,7 @@ ahead (x ∷ xs) ys at shape h = by_test (is_place x.at at) h (λ g. ahead xs ys
 
 -- nothing of one unit stands in another
 
+-- at a place of another unit a tape gives nothing: what is found is what is found behind it
 elsewhere : (u : Spelling) (s : Names) (tape : List Op) (st : State) (ys : List Keyed) (at : Place)
     → nat_eq u.unit at.0 ≡ false
     → first_at (shapes_along u s st tape ++ ys) at ≡ first_at ys at
@@ -62,6 +64,7 @@ elsewhere u s (op ∷ tape) st ys at other =
         else first_at (shapes_along u s (step u s st op) tape ++ ys) at)
         (first_false (nat_eq u.unit at.0) (nat_eq token at.1) other) ∙ rest
 
+-- numbers that differ one way round differ the other way round
 symmetric : (a b : ℕ) → nat_eq a b ≡ false → nat_eq b a ≡ false
 symmetric a b h = by_test (nat_eq b a) refl
   where
@@ -70,6 +73,7 @@ symmetric a b h = by_test (nat_eq b a) refl
     by_test true is =
         absurd (let e : nat_eq a b ≡ true = eq-eqb a b (sym (eqb-true b a is)) in let no : true ≡ false = sym e ∙ h in cc)
 
+-- no source is of a unit number that none of the sources has
 other_unit : (n : ℕ) (sources : List Source) (it : Source) → Contains sources it → has_unit n sources ≡ false
     → nat_eq it.spelling.unit n ≡ false
 other_unit n [] it h none = absurd (none_in it h)
@@ -82,6 +86,7 @@ other_unit n (x ∷ sources) it h none =
 
 -- what is found first in the list of one of the units is found first in that of all
 
+-- what is found at a token of one source along its tape is found there among all sources of different units
 among : (s : Names) (sources : List Source) → UnitsDiffer sources → (it : Source) → Contains sources it
     → (token : ℕ) (shape : Shape)
     → first_at (shapes_along it.spelling s nothing (tape_of it.items)) (place it.spelling token) ≡ Some shape
@@ -99,6 +104,7 @@ among s (x ∷ sources) units it h token shape found = elim (cons_cases x source
       ∙ among s sources units.1 it g token shape found
 ]
 
+-- each of sources that are all read is read
 is_read : (sources : List Source) → All IsRead sources → (it : Source) → Contains sources it → IsRead it
 is_read [] reads it h = absurd (none_in it h)
 is_read (x ∷ sources) reads it h = elim (cons_cases x sources it h) [
@@ -106,6 +112,7 @@ is_read (x ∷ sources) reads it h = elim (cons_cases x sources it h) [
   | inr g ↦ is_read sources (All-tail IsRead x sources reads) it g
 ]
 
+-- at the key token of an expression the shape that is found among all units is that of the expression
 pub shapes_are_found : ExpressionsStand → TokensAreOnce → ShapesAreFound
 shapes_are_found stand once sources reads units s it h before called e behind is =
     let u = it.spelling in

@@ -22,6 +22,7 @@ none_in y (k, lt, is) = absurd (omega (arith, lt))
 
 -- the key of an op is the token that it stands at
 
+-- an op counts a number no more often as its key than as its token
 key_is_token : (n : ℕ) (op : Op) → added n (op_key op) ≤ added n (op_token op)
 key_is_token n (ops.Expr op) = omega arith
 key_is_token n (ops.Form op) = omega arith

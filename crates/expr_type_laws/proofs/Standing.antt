@@ -39,6 +39,7 @@ ends : (before : List Op) (last : Op) (key : ℕ) → op_key last ≡ Some key
     → ((st behind : State) → op_shape st behind last ≡ shape_at 0 behind) → EndsAt (before ++ last ∷ []) key
 ends before last key has on = record { before = before; last = last; parts = refl; has_key = has; on_top = on }
 
+-- a tape with an operator at its end ends in the op of this operator, at its token
 operator_ends : (before : List Op) (op : Operator) (token first last : ℕ)
     → EndsAt (before ++ operator_tape op token first last) token
 operator_ends before comma token first last = ends before _ token refl (λ st behind. refl)

@@ -24,6 +24,7 @@ pub or_none : {V : Type 0} (o : Option V) → or_else o None ≡ o
 or_none None = refl
 or_none (Some v) = refl
 
+-- what stands first at a place in two lists is what does in the first, or else in the second
 pub first_append : (xs ys : List Keyed) (at : Place)
     → first_at (xs ++ ys) at ≡ or_else (first_at xs at) (first_at ys at)
 first_append [] ys at = refl

@@ -20,6 +20,7 @@ use Rattle.first_laws.proofs.Words.{AreOf}
 abbrev pub Stands : List Declared → Place → Option Kind → Type 0
 Stands ds p kind = HasSkeletonAt ds p ⊎ (((d : Declared) × (declared_at ds p ≡ Some d)) × (kind ≡ Some Constant))
 
+-- what a name means agrees with its kind in the grammar: it has a skeleton, or the name is a constant there
 abbrev pub Agrees : List Declared → Option Meaning → Option Kind → Type 0
 Agrees ds None kind = Unit {0}
 Agrees ds (Some (means_type t)) kind = Unit {0}

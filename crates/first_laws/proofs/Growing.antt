@@ -39,6 +39,7 @@ pub record Grows (kept : Bool) (h : HeldScopes) (o : Option HeldScopes) : Type 0
 unchanged : {kept : Bool} (scope : HeldScope) → Grown kept scope scope
 unchanged scope = record { kinds = λ m kind e. e; holds = λ want. refl; same = λ want m e. refl }
 
+-- a scope that has grown to a second which has grown to a third has grown to the third
 grown_on : {kept : Bool} {scope now next : HeldScope} → Grown kept scope now → Grown kept now next
     → Grown kept scope next
 grown_on g more = record {
@@ -47,6 +48,7 @@ grown_on g more = record {
   same = λ want m e. more.same want m (g.holds want ∙ e) ∙ g.same want m e;
 }
 
+-- a scope grows by one name that is declared in it
 pub one_name : (scope : HeldScope) (m : ℕ) (kind : Kind) → Grown false scope (with_name scope m kind)
 one_name scope m kind = by (kind_in scope.names m) refl
   where
@@ -72,6 +74,7 @@ same_held (Some known) scope m kind = refl
 pub same_grew : {kept : Bool} (h : HeldScopes) → Grew kept h h
 same_grew h scope outer e = record { now = scope; are = e; grown = unchanged scope }
 
+-- scopes of which the innermost grew twice have grown so at once
 pub grew_on : {kept : Bool} {h t v : HeldScopes} → Grew kept h t → Grew kept t v → Grew kept h v
 grew_on f g scope outer e =
     let first = f scope outer e in let second = g first.now outer first.are in
@@ -188,6 +191,7 @@ abbrev pub Suits : Bool → Option Kind → Type 0
 Suits kept None = Unit {0}
 Suits kept (Some kind) = kept ≡ false
 
+-- a name that is held, or none, grows the scopes; where a held name has to be kept, none is wanted
 at_name_grows : {kept : Bool} (kind : Option Kind) (name : ℕ) → Suits kept kind → (h : HeldScopes) →
     Grows kept h (at_name kind name h)
 at_name_grows None name suits h = still

@@ -44,6 +44,7 @@ use Rattle.first_laws.proofs.Walk.{attrs_past, block_items_fit, decl_fits, declr
 
 -- a declarator that is its name alone
 
+-- a declarator that is no bare name is not bare
 not_bare : (d : Declr) → bare_name d ≡ None → is_bare d ≡ false
 not_bare (declr_name token name) e = absurd cc
 not_bare (declr_paren opening attrs d closing) e = not_bare d e
@@ -57,6 +58,7 @@ not_bare (abs_params d opening ps dots closing) e = refl
 not_bare (identifiers d opening names closing) e = refl
 not_bare (base_name token) e = refl
 
+-- a declarator that is a bare name is bare
 is_bare_name : (d : Declr) (name : ℕ) → bare_name d ≡ Some name → is_bare d ≡ true
 is_bare_name (declr_name token other) name e = refl
 is_bare_name (declr_paren opening attrs d closing) name e = is_bare_name d name e
@@ -70,6 +72,7 @@ is_bare_name (abs_params d opening ps dots closing) name e = absurd cc
 is_bare_name (identifiers d opening names closing) name e = absurd cc
 is_bare_name (base_name token) name e = absurd cc
 
+-- the scopes behind a bare name are those that hold this name as a value
 bare_scopes : (d : Declr) (name : ℕ) (h : HeldScopes) → bare_name d ≡ Some name →
     declr_scopes (Some Value) d h ≡ hold name Value h
 bare_scopes (declr_name token other) name h e =
@@ -85,6 +88,7 @@ bare_scopes (abs_params d opening ps dots closing) name h e = absurd cc
 bare_scopes (identifiers d opening names closing) name h e = absurd cc
 bare_scopes (base_name token) name h e = absurd cc
 
+-- a bare name declares the same with an owner of its parameters or without
 bare_named : (u : Spelling) (d : Declr) (name : ℕ) (owner : Option Place) (s : Names) → bare_name d ≡ Some name →
     declr_named u None d s ≡ declr_named u owner d s
 bare_named u (declr_name token other) name owner s e = refl
@@ -101,6 +105,7 @@ bare_named u (base_name token) name owner s e = absurd cc
 
 -- without a name there are no own parameters
 
+-- a declarator that declares no name is no bare name
 bare_is_named : (d : Declr) → declared_name d ≡ None → bare_name d ≡ None
 bare_is_named (declr_name token name) e = absurd cc
 bare_is_named (declr_paren opening attrs d closing) e = bare_is_named d e
@@ -114,6 +119,7 @@ bare_is_named (abs_params d opening ps dots closing) e = refl
 bare_is_named (identifiers d opening names closing) e = refl
 bare_is_named (base_name token) e = refl
 
+-- a declarator that declares no name has no parameters of its own
 none_own : (d : Declr) → declared_name d ≡ None → own_params d ≡ None
 none_own (declr_name token name) e = refl
 none_own (declr_paren opening attrs d closing) e = none_own d e
@@ -157,6 +163,7 @@ listed_name (abs_params d opening ps dots closing) e = absurd cc
 listed_name (identifiers d opening names closing) e = absurd cc
 listed_name (base_name token) e = absurd cc
 
+-- a well-formed declarator with a list of identifiers declares a name
 listing_name : (all : List Lexeme) (d : Declr) → IsDeclr all d → grammar.lists_identifiers d ≡ true →
     (it : Named) × (declared_name d ≡ Some it)
 listing_name all (identifiers d opening names closing) formed e = listed_name d formed.1
@@ -184,12 +191,14 @@ same_where : (b : Bool) (t v : HeldScopes) → where_true b t ≡ Some v → t �
 same_where true t v e = cc
 same_where false t v e = absurd cc
 
+-- identifiers in a list leave the scopes as they were
 same_identified : (names : List Identifier) (t v : HeldScopes) → identifiers_scopes names t ≡ Some v → t ≡ v
 same_identified [] t v e = cc
 same_identified (it ∷ names) t v e =
     let one = behind_some (where_true (not (held.names_type t it.name)) t) (identifiers_scopes names) v e in
     same_where (not (held.names_type t it.name)) t one.0 one.1 ∙ same_identified names one.0 v one.2
 
+-- behind a name that is held as a value there is an innermost scope, over the same outer ones
 held_cons : (name : ℕ) (h v : HeldScopes) → hold name Value h ≡ Some v
     → (scope : HeldScope) × (v ≡ scope ∷ held.leave h)
 held_cons name h v e = by (may_declare (innermost h) name Value) e
@@ -606,6 +615,7 @@ pub record Known (s : Names) : Type 0 where
   pub things : ThingsAre (HasSkeletonAt s.declared) s.things
   pub firsts : FirstsAre s.declared s.declared
 
+-- where what is known before a unit fits, what is known behind it does, if declarations are at different places
 unit_known : (it : Source) (s : Names) → IsScoped it → (Differ s.declared → Known s) →
     Differ (items_named it.spelling it.items (unit_begun it.spelling.unit s)).declared →
     Known (items_named it.spelling it.items (unit_begun it.spelling.unit s))
@@ -634,6 +644,8 @@ unit_known it s scoped old differ =
     fine =
         items_fit it.spelling N scoped.names scoped.all it.items (file_scope it.spelling.wide) scoped.formed.rules.parts begun
 
+-- where what is known before sources fits, what is known behind all of them does, if declarations are at different
+-- places
 sources_known : (sources : List Source) (s : Names) → All IsScoped sources → (Differ s.declared → Known s) →
     Differ (sources_named sources s).declared → Known (sources_named sources s)
 sources_known [] s scoped old differ = old differ
@@ -641,6 +653,7 @@ sources_known (it ∷ sources) s scoped old differ =
     sources_known sources (items_named it.spelling it.items (unit_begun it.spelling.unit s))
     (All-tail IsScoped it sources scoped) (unit_known it s (All-head IsScoped it sources scoped) old) differ
 
+-- the first declaration at a place, where it has a skeleton, is of what was first declared with one
 first_at : (ds more : List Declared) (p : Place) (d : Declared) → FirstsAre ds more → declared_at more p ≡ Some d →
     has_skeleton d.role ≡ true → HasSkeletonAt ds d.first
 first_at ds [] p d h e is = absurd cc
@@ -653,6 +666,7 @@ first_at ds (x ∷ more) p d h e is = by (is_place x.at p) e (λ e. first_at ds 
         subst (λ (it : Declared). has_skeleton it.role ≡ true → HasSkeletonAt ds it.first) same h.0 is
     by false e next = next e
 
+-- in scoped sources what has a skeleton was first declared as what has one
 pub firsts_have_skeletons : FirstsOfScopedHaveSkeletons
 firsts_have_skeletons sources scoped differ p d e is =
     first_at (names_of sources).declared (names_of sources).declared p d

@@ -11,6 +11,7 @@ use Rattle.typedef_scope.specs.Scopes.{is_same, kind_in}
 use Rattle.c_units.specs.HeldScopes.{HeldScope, admits, may_declare, with_kind, with_name}
 use Rattle.first_laws.specs.Firsts.{is_named, has_name}
 
+-- numbers that differ one way round differ the other way round
 pub other_way : (m n : ℕ) → nat_eq m n ≡ false → nat_eq n m ≡ false
 other_way m n e = by (nat_eq n m) refl
   where

@@ -42,6 +42,7 @@ at_is e = cc
 ends_is : {x y : Ends} → Some x ≡ Some y → x ≡ y
 ends_is e = cc
 
+-- an entry of ends in a list with one more at its end was in the list, or is that one at its length
 before_or_at : (xs : List Ends) (x : Ends) (n : ℕ) (y : Ends) → slice_get (xs ++ x ∷ []) n ≡ Some y
     → (slice_get xs n ≡ Some y) ⊎ ((n ≡ length xs) × (x ≡ y))
 before_or_at [] x zero y is = inr (refl, ends_is is)
@@ -52,6 +53,7 @@ before_or_at (z ∷ xs) x (suc n) y is = elim (before_or_at xs x n y is) [
   | inr last ↦ inr (ap (λ (k : ℕ). suc k) last.0, last.1)
 ]
 
+-- before the first lattice there are no ends
 pub no_ends : (sys : System) (ends : List Ends) → ends ≡ [] → AllEnds sys 0 ends
 no_ends sys ends none = record {
   count = ap (λ (xs : List Ends). length xs) none;
@@ -86,6 +88,7 @@ only_start x y (suc i, within, is) = absurd (omega (arith, within))
 no_start : (x : Constant) → Contains [] x → ⊥
 no_start x (i, within, is) = omega (arith, within)
 
+-- below number 0 no constraint is a constant, and no start is listed
 pub starts_none : (sys : System) (lattice : ℕ) → AreStartsBelow sys lattice 0 []
 starts_none sys lattice = record {
   only = λ start there. absurd (no_start start there);

@@ -114,6 +114,7 @@ walks_at sys other count lattice named var called all walks graph is same there 
 walks_is : {x y : Walks} → Some x ≡ Some y → x ≡ y
 walks_is e = cc
 
+-- an entry of walks in a list with one more at its end was in the list, or is that one at its length
 before_or_at : (xs : List Walks) (x : Walks) (n : ℕ) (y : Walks) → slice_get (xs ++ x ∷ []) n ≡ Some y
     → (slice_get xs n ≡ Some y) ⊎ ((n ≡ length xs) × (x ≡ y))
 before_or_at [] x zero y is = inr (refl, walks_is is)
@@ -156,6 +157,7 @@ pub kept_on : (sys : System) (lattice : ℕ) (old new : List ℕ) (v : ℕ) → 
 kept_on sys lattice old new v on (inl there) = inl (on v there)
 kept_on sys lattice old new v on (inr never) = inr never
 
+-- where no constant leads to a variable, none does to an equal one, in an equal graph and lattice
 pub unreached_as : (one sys : System) (lattice named var called : ℕ) → one ≡ sys → lattice ≡ named → var ≡ called →
     ((number : ℕ) → IsFrom one lattice var number → ⊥) → (number : ℕ) → IsFrom sys named called number → ⊥
 unreached_as one sys lattice named var called graph is same never number from =

@@ -27,6 +27,7 @@ contains_at numbers i n is =
 pub at_place : (numbers : List ℕ) (i n : ℕ) → i < length numbers → n ≡ get_or numbers i n → slice_get numbers i ≡ Some n
 at_place numbers i n within is = slice_get-get_or numbers i n within ∙ ap (λ (k : ℕ). Some k) (sym is)
 
+-- an entry of numbers in a list with one more at its end was in the list, or is that one at its length
 push_cases : (numbers : List ℕ) (x i n : ℕ) → slice_get (numbers ++ x ∷ []) i ≡ Some n
     → (slice_get numbers i ≡ Some n) ⊎ ((i ≡ length numbers) × (x ≡ n))
 push_cases [] x zero n is = inr (refl, some_is is)

@@ -24,6 +24,7 @@ bad_no_text wide bytes place blocks bad text = by (length bytes - place) (omega 
     by zero e = bad.ends_behind (omega (arith, e)) blocks text
     by (suc n) e = bad.ends_in_bytes (omega (arith, e)) (record { more = drop (place + 1) bytes; blocks = blocks; text = subst (λ (bs : List ℕ). IsLatticeText wide blocks bs) (sym (take-append-drop (place + 1) bytes)) text })
 
+-- bytes that begin a text up to one place do so up to and with each byte before it
 shorter : (wide : Bool) (bytes : List ℕ) (p q : ℕ) → p < q → q ≤ length bytes → BeginsText wide (take q bytes)
     → BeginsText wide (take (p + 1) bytes)
 shorter wide bytes p q less within begins = record {

@@ -6,6 +6,7 @@ use Rattle.lattice_file.specs.Faults.{IsBlockFault, IsBuildFault}
 use Rattle.lattice_file.specs.declared.reading.LatticeFileFault.{LatticeFileFault}
 use Rattle.lattice_file.specs.declared.reading.LatticeFileFault.TheVariants.{Block, Grammar, TooManyLattices, SharedName, NoMemory}
 
+-- blocks and lattices with one more of each, which the one makes of the other, are still all built
 pub built_on : (blocks : List BlockView) (lattices : List LatticeView) (block : BlockView) (lattice : LatticeView)
     → AreAllBuilt blocks lattices → IsBuilt block lattice →
     AreAllBuilt (blocks ++ block ∷ []) (lattices ++ lattice ∷ [])
@@ -14,6 +15,7 @@ built_on [] (l ∷ ls) block lattice before here = absurd before
 built_on (b ∷ bs) [] block lattice before here = absurd before
 built_on (b ∷ bs) (l ∷ ls) block lattice before here = (before.0, built_on bs ls block lattice before.1 here)
 
+-- there is a lattice for each block that is built
 pub built_count : (blocks : List BlockView) (lattices : List LatticeView) → AreAllBuilt blocks lattices
     → length blocks ≡ length lattices
 built_count [] [] built = refl
@@ -30,6 +32,7 @@ front_taken : (front rest : List BlockView) → take (length front) (front ++ re
 front_taken [] rest = refl
 front_taken (b ∷ front) rest = ap (λ (bs : List BlockView). b ∷ bs) (front_taken front rest)
 
+-- a block that makes no lattice, behind such as do, is the first that is refused
 pub refused_at : (blocks front : List BlockView) (block : BlockView) (rest : List BlockView) (lattices : List LatticeView) (before : ℕ) (fault : LatticeFileFault) →
     front ++ block ∷ rest ≡ blocks → before ≡ length lattices → AreAllBuilt front lattices → IsBlockFault block before fault → IsBuildFault blocks fault
 refused_at blocks front block rest lattices before NoMemory e count built fault = tt
@@ -54,6 +57,7 @@ pub items_on : (front : List BlockView) (block : BlockView) (left rest blocks : 
     → front ++ left ≡ blocks → (front ++ block ∷ []) ++ rest ≡ blocks
 items_on front block left rest blocks e all = append_assoc front (block ∷ []) rest ∙ ap (λ (bs : List BlockView). front ++ bs) (sym e) ∙ all
 
+-- of at most 16 blocks one that is not yet built has fewer than 16 lattices before it
 pub count_below : (blocks front : List BlockView) (block : BlockView) (rest : List BlockView) (lattices : List LatticeView)
     → front ++ block ∷ rest ≡ blocks → AreAllBuilt front lattices →
     length blocks ≤ 16 → length lattices < 16

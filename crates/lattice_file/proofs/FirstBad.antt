@@ -29,6 +29,7 @@ pub take_join : (bytes : List ℕ) (a b : ℕ) → a ≤ b → b ≤ length byte
     → take a bytes ++ slice_range bytes a b ≡ take b bytes
 take_join bytes a b le within = sym (take-add a (b - a) bytes) ∙ ap (λ (n : ℕ). take n bytes) (omega (arith, le))
 
+-- the bytes between two places and those from the second to a third are those from the first to the third
 pub slice_join : (bytes : List ℕ) (a b c : ℕ) → a ≤ b → b ≤ c → c ≤ length bytes
     → slice_range bytes a b ++ slice_range bytes b c ≡ slice_range bytes a c
 slice_join bytes a b c le more within =
@@ -97,6 +98,7 @@ gap_before a b c (Blank byte bytes _ is gap) on = Blank byte bytes c is (gap_bef
 gap_before a b c (Comment text bytes _ inside gap) on = Comment text bytes c inside (gap_before bytes b c gap on)
 gap_before a b c (Line text bytes _ inside ends gap) on = Line text bytes c inside ends (gap_before bytes b c gap on)
 
+-- a gap in front of a rest that goes on from a standing leaves it going on
 pub goes_before : (standing : Standing) (front rest : List ℕ) (all : List BlockView) → Gap front rest
     → GoesFrom standing rest all → GoesFrom standing front all
 goes_before standing front rest all gap goes = by (sees standing rest all goes)
@@ -118,6 +120,7 @@ pub record Stands (wide : Bool) (bytes : List ℕ) (at : ℕ) (standing : Standi
   pub only : (tail : List ℕ) (all : List BlockView) → Resembles tail (drop at bytes)
       → IsLatticeText wide all (take at bytes ++ tail) → GoesFrom standing tail all
 
+-- a reader outside of blocks that has read none stands at the start of the bytes
 pub stands_first : (wide : Bool) (bytes : List ℕ) (standing : Standing) → standing.stage ≡ stages.Outside
     → standing.given.wide ≡ wide → standing.draft.blocks ≡ [] → Stands wide bytes 0 standing
 stands_first wide bytes standing outside wide_is empty = record {
@@ -134,6 +137,7 @@ stands_first wide bytes standing outside wide_is empty = record {
       subst P (sym outside) (all, subst (λ (w : Bool). IsLatticeText w all tail) (sym wide_is) text, ap (λ (bs : List BlockView). bs ++ all) (sym empty));
 }
 
+-- a reader that stood at a place stands behind a gap and a lexeme that leads to its new standing
 pub stands_next : (wide : Bool) (bytes : List ℕ) (at start end : ℕ) (old new : Standing) → Stands wide bytes at old
     → at ≤ start → start < end → end ≤ length bytes → GapGoes bytes at start → LexemeGoes old new bytes start end
     → Stands wide bytes end new
@@ -194,17 +198,20 @@ bad_at wide bytes at place standing stands le within tail all likes goes fails =
         fails tail all here (stands.only (slice_range bytes at place ++ tail) all (inl (slice_first bytes tail at place le here))
         (subst (λ (text : List ℕ). IsLatticeText wide all text) (sym (take_front bytes tail at place le within)) text))
 
+-- a slash begins a gap
 slash_gap : (b : ℕ) → Some b ≡ Some 47 → kind_of b ≡ InGap
 slash_gap b e = subst (λ (b : ℕ). kind_of b ≡ InGap) (same b e) refl
   where
     same : (b : ℕ) → Some b ≡ Some 47 → 47 ≡ b
     same b e = cc
 
+-- no lexeme begins with a slash
 slash_lexeme : (lexeme : Lexeme) (bytes : List ℕ) → first bytes ≡ Some 47 → Begins lexeme bytes → ⊥
 slash_lexeme lexeme bytes slash begins =
     let here : Some begins.byte ≡ Some 47 = sym (ap first begins.is) ∙ slash in
     not_gap lexeme (sym (slash_gap begins.byte here) ∙ begins.kind)
 
+-- where a gap fails at a place, that place is the first bad one of the text
 pub gap_bad : (wide : Bool) (bytes : List ℕ) (at place : ℕ) (standing : Standing) → Stands wide bytes at standing
     → GapFails bytes at place → IsFirstBad wide bytes place
 gap_bad wide bytes at place standing stands fails =
@@ -249,6 +256,7 @@ gap_bad wide bytes at place standing stands fails =
             gap_one (slice_range bytes at place ++ tail) takes.behind (slice_range bytes fails.at place ++ tail) takes.gap gap (lexeme_stuck lexeme takes.behind b) stuck in
             slash_lexeme lexeme takes.behind (ap first same ∙ slash) b
 
+-- bytes that end inside a block are first bad at their end
 pub end_bad : (wide : Bool) (bytes : List ℕ) (at start : ℕ) (standing : Standing) → Stands wide bytes at standing
     → at ≤ start → start ≡ length bytes → GapGoes bytes at start → (standing.stage ≡ stages.Outside → ⊥)
     → IsFirstBad wide bytes start
@@ -265,6 +273,7 @@ end_bad wide bytes at start standing stands le over gap inside =
     refuse front all end (AtEnd outside _ is) = inside outside
     refuse front all end (Further lexeme new after e takes on) = no_lexeme lexeme front after (proper standing lexeme new e) end takes
 
+-- a byte that is neither a blank nor a slash begins no gap
 kind_free : (b : ℕ) → not (is_blank b || nat_eq b 47) ≡ true → InGap ≡ kind_of b → ⊥
 kind_free b h e = by (is_blank b || nat_eq b 47) (stands_in_words b) (nat_eq b 34) h e
   where
@@ -279,6 +288,7 @@ stuck_first : (bytes : List ℕ) → begins_lexeme bytes ≡ true → IsStuck by
 stuck_first [] h = stuck_end
 stuck_first (b ∷ bytes) h = stuck_at b bytes (kind_of b) refl (kind_free b h)
 
+-- bytes with the same first byte as such with which no gap begins, begin no gap either
 lexeme_first : (a b : List ℕ) → first a ≡ first b → begins_lexeme a ≡ true → begins_lexeme b ≡ true
 lexeme_first [] [] e h = refl
 lexeme_first [] (y ∷ b) e h = absurd cc
@@ -288,6 +298,7 @@ lexeme_first (x ∷ a) (y ∷ b) e h = subst (λ (z : ℕ). not (is_blank z || n
     same : (x y : ℕ) → Some x ≡ Some y → x ≡ y
     same x y e = cc
 
+-- where a lexeme fails at a place, that place is the first bad one of the text
 pub lexeme_bad : (wide : Bool) (bytes : List ℕ) (at start place : ℕ) (standing : Standing)
     → Stands wide bytes at standing → at ≤ start → start < length bytes → GapGoes bytes at start
     → begins_lexeme (drop start bytes) ≡ true →

@@ -19,6 +19,7 @@ use Rattle.lattice_file.specs.Extents.{IsFront, may_come}
 use Rattle.lattice_file.proofs.GapUnique.{and_first, and_second, or_cases}
 use Rattle.lattice_file.proofs.StepLeads.{At, word_is, is_word}
 
+-- the front of a word for one test is that for another with the same results
 pub front_as : (p q : List ℕ → Bool) (word : List ℕ) (count : ℕ) → ((w : List ℕ) → p w ≡ q w) → IsFront p word count
     → IsFront q word count
 front_as p q word count same f = record { within = f.within; begins = by f.begins; ends = λ less more e. f.ends less more (same (take (count + 1) word ++ more) ∙ e) }
@@ -33,6 +34,7 @@ take_longer : (word more : List ℕ) (n k : ℕ) → n ≤ k
 take_longer word more n k le =
     ap (λ (m : ℕ). take m word ++ more) (omega (arith, le)) ∙ ap (λ (w : List ℕ). w ++ more) (take-add (n + 1) (k - n) word) ∙ append_assoc (take (n + 1) word) (take (k - n) (drop (n + 1) word)) more
 
+-- the front of a word for one of two tests is the longer of their fronts
 pub front_or : (p q : List ℕ → Bool) (word : List ℕ) (n m k : ℕ) → n ≤ k → m ≤ k → (k ≡ n) ⊎ (k ≡ m) → IsFront p word n
     → IsFront q word m → IsFront (λ w. p w || q w) word k
 front_or p q word n m k ln lm which f g = record { within = within which; begins = begins which; ends = λ less more e. ends less more (or_cases (p (take (k + 1) word ++ more)) (q (take (k + 1) word ++ more)) e) }
@@ -93,6 +95,7 @@ pub shared_on : (word other : List ℕ) (at : ℕ) → at < length word → at <
     → get_or word at 0 ≡ get_or other at 0 → take (at + 1) word ≡ take (at + 1) other
 shared_on word other at lw lo same e = take_more_same word other at 0 lw lo same e
 
+-- a word whose second byte is no letter is no name with a dollar
 not_letter : (x c : ℕ) (more : List ℕ) → is_letter c ≡ false → begins_with_dollar (x ∷ c ∷ more) ≡ false
 not_letter x c more h = by (nat_eq x 36)
   where
@@ -110,6 +113,7 @@ pub dollar_first : (x c : ℕ) (rest : List ℕ) → nat_eq x 36 ≡ true → is
     → IsFront begins_with_dollar (x ∷ c ∷ rest) 1
 dollar_first x c rest h l = record { within = omega arith; begins = inr (97 ∷ [], rw h refl); ends = λ less more e. clash_of (begins_with_dollar (x ∷ c ∷ more)) (not_letter x c more l) e }
 
+-- `$` and a letter are a front of a name as far as letters, digits and `_` go
 pub dollar_name : (x c : ℕ) (rest : List ℕ) (k : ℕ) → nat_eq x 36 ≡ true → is_letter c ≡ true → k ≤ length rest
     → list_all is_name_byte (take k rest) ≡ true →
     (k < length rest → is_name_byte (get_or rest k 0) ≡ false) → IsFront begins_with_dollar (x ∷ c ∷ rest) (k + 2)
@@ -152,6 +156,7 @@ pub front_only : {A : Type 0} (word other : List ℕ) (to : A) (count : ℕ) →
     → IsFront (λ w. is_some (only_if (bytes_eq w other) to)) word count
 front_only word other to count f = front_as (λ w. bytes_eq w other) (λ w. is_some (only_if (bytes_eq w other) to)) word count (λ w. only_some (bytes_eq w other) to) f
 
+-- the front of a word for the first of two values that is there is the longer of their fronts
 pub front_either : {A : Type 0} (one other : List ℕ → Option A) (word : List ℕ) (n m k : ℕ) → n ≤ k → m ≤ k
     → (k ≡ n) ⊎ (k ≡ m) → IsFront (λ w. is_some (one w)) word n → IsFront (λ w. is_some (other w)) word m →
     IsFront (λ w. is_some (option_or (one w) (other w))) word k
@@ -163,6 +168,7 @@ pub front_allowed : {A : Type 0} (test : List ℕ → Bool) (to : List ℕ → A
     → IsFront test word count → IsFront (λ w. is_some (only_if (test w) (to w))) word count
 front_allowed test to word count f = front_as test (λ w. is_some (only_if (test w) (to w))) word count (λ w. only_some (test w) (to w)) f
 
+-- the front of a word for an attribute's name is that for an attribute that is not given yet
 pub front_free : (given : Given) (attribute : Attribute) (word : List ℕ) (count : ℕ)
     → has_attribute given attribute ≡ false → IsFront (λ w. bytes_eq w (attribute_word attribute)) word count →
     IsFront (λ w. is_some (if_named given w attribute)) word count
@@ -198,6 +204,7 @@ pub front_flow_name : (standing : Standing) (word : List ℕ) (count : ℕ) → 
 front_flow_name standing word count e f =
     front_stage standing stages.FlowName (λ w. is_some (flow_named standing.draft.flows w)) word count e (λ w. map_test (λ attribute. At (stages.FlowEquals attribute) standing.given standing.draft) (flow_named standing.draft.flows w)) f
 
+-- at the value of a block's attribute, the front for its value is that for what may come
 pub front_flow : (standing : Standing) (attribute : BlockAttribute) (word : List ℕ) (count : ℕ)
     → standing.stage ≡ stages.FlowValue attribute
     → IsFront (λ w. is_some (with_flow attribute standing.draft.flows w)) word count

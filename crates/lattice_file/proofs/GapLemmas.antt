@@ -11,6 +11,7 @@ use Rattle.lattice_file.proofs.LexemeLemmas.{slice_one, slice_at, slice_count, h
 pub gap_none : (bytes : List ℕ) (at : ℕ) → GapGoes bytes at at
 gap_none bytes at tail likes = subst (λ (front : List ℕ). Gap (front ++ tail) tail) (sym (slice_none bytes at)) (Nothing tail)
 
+-- a tail that begins as the bytes at one place does so behind the bytes from an earlier place to it
 likes_before : (bytes tail : List ℕ) (a b : ℕ) → a ≤ b → Resembles tail (drop b bytes)
     → Resembles (slice_range bytes a b ++ tail) (drop a bytes)
 likes_before bytes tail a b le likes = subst (λ (rest : List ℕ). Resembles (slice_range bytes a b ++ tail) rest) (sym (drop_split bytes a b le)) (by (slice_range bytes a b) tail (drop b bytes) likes)
@@ -19,6 +20,7 @@ likes_before bytes tail a b le likes = subst (λ (rest : List ℕ). Resembles (s
     by [] tail rest likes = likes
     by (x ∷ part) tail rest likes = inl refl
 
+-- a gap to a place and one from there on are one gap
 pub gap_on : (bytes : List ℕ) (from at end : ℕ) → from ≤ at → at ≤ end → end ≤ length bytes → GapGoes bytes from at
     → GapGoes bytes at end → GapGoes bytes from end
 gap_on bytes from at end le more within before piece tail likes =
@@ -29,6 +31,7 @@ pub blank_gap : (bytes : List ℕ) (at : ℕ) → at < length bytes → is_blank
     → GapGoes bytes at (at + 1)
 blank_gap bytes at within is tail likes = subst (λ (front : List ℕ). Gap (front ++ tail) tail) (sym (slice_one bytes at within)) (Blank (get_or bytes at 0) tail tail is (Nothing tail))
 
+-- the bytes from a place to the one two further are the two that stand there
 slice_two : (bytes : List ℕ) (at : ℕ) (x y : ℕ) → at + 1 < length bytes → get_or bytes at 0 ≡ x
     → get_or bytes (at + 1) 0 ≡ y → slice_range bytes at (at + 2) ≡ x ∷ y ∷ []
 slice_two bytes at x y within p q =
@@ -45,12 +48,14 @@ all_by_index : (p : ℕ → Bool) (xs : List ℕ) → ((k : ℕ) → k < length 
 all_by_index p [] h = refl
 all_by_index p (x ∷ xs) h = let first : p x ≡ true = h 0 (omega arith) in rw first (all_by_index p xs (λ k lt. h (suc k) (omega arith)))
 
+-- a test that each byte between two places passes holds of all that stands between them
 pub all_inside : (p : ℕ → Bool) (bytes : List ℕ) (from at : ℕ) → from ≤ at → at ≤ length bytes
     → ((k : ℕ) → from ≤ k → k < at → p (get_or bytes k 0) ≡ true) → list_all p (slice_range bytes from at) ≡ true
 all_inside p bytes from at le within h = all_by_index p (slice_range bytes from at) (λ k lt.
     let under : from + k < at = omega (arith, slice_count bytes from at le within, lt) in
     rw (slice_at bytes from at k under within) (h (from + k) (omega arith) under))
 
+-- where no star before a slash stands between two places, what stands there holds no end of a comment
 pub stays_inside : (bytes : List ℕ) (from at : ℕ) → from ≤ at → at ≤ length bytes
     → ((k : ℕ) → from ≤ k → k + 1 < at → get_or bytes k 0 ≡ 42 → get_or bytes (k + 1) 0 ≡ 47 → ⊥)
     → StaysOpen (slice_range bytes from at)
@@ -60,6 +65,7 @@ stays_inside bytes from at le within h k lt p q =
     (sym (slice_at bytes from at k (omega (arith, count, lt)) within) ∙ p)
     (sym (slice_at bytes from at (k + 1) (omega (arith, count, lt)) within ∙ ap (λ (n : ℕ). get_or bytes n 0) (omega arith)) ∙ q)
 
+-- the first star before a slash ends a comment's text
 pub comment_found : (bytes : List ℕ) (from at : ℕ) → from ≤ at → at + 1 < length bytes
     → ((k : ℕ) → from ≤ k → k < at → get_or bytes k 0 ≡ 42 → get_or bytes (k + 1) 0 ≡ 47 → ⊥) →
     get_or bytes at 0 ≡ 42 → get_or bytes (at + 1) 0 ≡ 47 → CommentEnds bytes from (at + 2)
@@ -69,6 +75,7 @@ comment_found bytes from at le within h star slash = record {
   is = sym (slice_join bytes from at (at + 2) le (omega arith) (omega (arith, within))) ∙ ap (λ (w : List ℕ). slice_range bytes from at ++ w) (slice_two bytes at 42 47 within star slash);
 }
 
+-- `/*`, a text without `*/`, and `*/` are a gap
 pub block_comment : (bytes : List ℕ) (at end : ℕ) → at + 2 ≤ end → end ≤ length bytes → get_or bytes at 0 ≡ 47
     → get_or bytes (at + 1) 0 ≡ 42 → CommentEnds bytes (at + 2) end → GapGoes bytes at end
 block_comment bytes at end le within slash star ends tail likes =
@@ -79,6 +86,7 @@ block_comment bytes at end le within slash star ends tail likes =
         ap (λ (front : List ℕ). front ++ tail) (slice_begun bytes at end 47 42 le within slash star ∙ ap (λ (w : List ℕ). 47 ∷ 42 ∷ w) ends.is)
         ∙ append_assoc (47 ∷ 42 ∷ ends.text) (42 ∷ 47 ∷ []) tail
 
+-- `//` and the rest of its line are a gap
 pub line_comment : (bytes : List ℕ) (at end : ℕ) → at + 2 ≤ end → end ≤ length bytes → get_or bytes at 0 ≡ 47
     → get_or bytes (at + 1) 0 ≡ 47 → LineEnds bytes (at + 2) end → GapGoes bytes at end
 line_comment bytes at end le within slash again line tail likes =
@@ -100,6 +108,7 @@ slash_stuck tail rest star slash gap = go (gap_view (47 ∷ tail) rest gap)
     go (ViewComment text behind e inside on) = absurd (star (ap first (tail_same 47 47 tail (42 ∷ text ++ 42 ∷ 47 ∷ behind) e)))
     go (ViewLine text behind e inside ends on) = absurd (slash (ap first (tail_same 47 47 tail (47 ∷ text ++ behind) e)))
 
+-- a slash without a star or a slash behind it fails as a comment at the next byte
 pub slash_fails : (bytes : List ℕ) (at : ℕ) → at < length bytes → get_or bytes at 0 ≡ 47
     → (first (drop (at + 1) bytes) ≡ Some 42 → ⊥) → (first (drop (at + 1) bytes) ≡ Some 47 → ⊥)
     → CommentFails bytes at (at + 1)
@@ -117,6 +126,7 @@ slash_fails bytes at within is star slash = record {
     one : slice_range bytes at (at + 1) ≡ 47 ∷ []
     one = slice_one bytes at within ∙ ap (λ (b : ℕ). b ∷ []) is
 
+-- a text that stays open has no `*/` in it
 never_ends : (text front behind : List ℕ) → StaysOpen text → text ≡ front ++ 42 ∷ 47 ∷ behind → ⊥
 never_ends [] [] behind stays e = absurd cc
 never_ends [] (y ∷ front) behind stays e = absurd cc
@@ -125,6 +135,7 @@ never_ends (x ∷ z ∷ text) [] behind stays e =
     stays 0 (omega arith) (head_same x 42 (z ∷ text) (47 ∷ behind) e) (head_same z 47 text behind (tail_same x 42 (z ∷ text) (47 ∷ behind) e))
 never_ends (x ∷ text) (y ∷ front) behind stays e = never_ends text front behind (open_behind x text stays) (tail_same x y text (front ++ 42 ∷ 47 ∷ behind) e)
 
+-- a comment whose text stays open to the end of the bytes fails there
 pub comment_fails : (bytes : List ℕ) (at place : ℕ) → at + 2 ≤ place → place ≡ length bytes → get_or bytes at 0 ≡ 47
     → get_or bytes (at + 1) 0 ≡ 42 → StaysOpen (slice_range bytes (at + 2) place) → CommentFails bytes at place
 comment_fails bytes at place le over slash star stays = record {
@@ -163,6 +174,7 @@ pub line_found : (bytes : List ℕ) (from at : ℕ) → from ≤ at → at ≤ l
     → LineEnds bytes from at
 line_found bytes from at le within h ends = record { inside = all_inside stays_on_line bytes from at le within h; ends = ends }
 
+-- bytes that begin with a line feed end a line
 pub line_stops : (bytes : List ℕ) (at : ℕ) → at < length bytes → get_or bytes at 0 ≡ 10
     → ends_line (drop at bytes) ≡ true
 line_stops bytes at h e =
@@ -179,6 +191,7 @@ stops_at bytes at h blank slash =
     let is : drop at bytes ≡ get_or bytes at 0 ∷ drop (suc at) bytes = drop-cons bytes at 0 h in
     rw (is, blank, slash) refl
 
+-- where a byte stands at a place, bytes from there do not begin with another
 pub not_first : (bytes : List ℕ) (at b : ℕ) → at < length bytes → (get_or bytes at 0 ≡ b → ⊥)
     → first (drop at bytes) ≡ Some b → ⊥
 not_first bytes at b h differs e = differs (same (get_or bytes at 0) b (sym (head_is bytes at h) ∙ e))

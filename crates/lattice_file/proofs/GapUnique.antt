@@ -36,6 +36,7 @@ row_one p Stop clash (x ∷ t) (y ∷ u) a b ht hu sa sb e =
     cons_same : (x y : ℕ) (t u : List ℕ) → x ≡ y → t ≡ u → x ∷ t ≡ y ∷ u
     cons_same x y t u e f = cc
 
+-- a byte that ends a line does not stay on it
 line_stop : (b : ℕ) (bytes : List ℕ) → ends_line (b ∷ bytes) ≡ true → stays_on_line b ≡ true → ⊥
 line_stop b bytes h s = let no : not (nat_eq b 10) ≡ true = s in let yes : nat_eq b 10 ≡ true = h in clash (nat_eq b 10) yes no
   where
@@ -43,6 +44,7 @@ line_stop b bytes h s = let no : not (nat_eq b 10) ≡ true = s in let yes : nat
     clash true h n = cc
     clash false h n = cc
 
+-- a text that stays open does so without its first byte
 pub open_behind : (x : ℕ) (t : List ℕ) → StaysOpen (x ∷ t) → StaysOpen t
 open_behind x t stays k lt p q = stays (k + 1) (omega (arith, lt)) (rw (at_behind x t k) p) (rw (at_behind x t (k + 1)) q)
   where
@@ -55,6 +57,7 @@ star_slash e = omega (arith, e)
 pub slash_blank : (b : ℕ) → b ≡ 47 → is_blank b ≡ true → ⊥
 slash_blank b e h = let there : is_blank 47 ≡ true = subst (λ (b : ℕ). is_blank b ≡ true) e h in absurd cc
 
+-- bytes that begin with `*/` are not a byte or more that stay open and a `*/` behind them
 not_inside : (u a b : List ℕ) (y : ℕ) → StaysOpen (y ∷ u) → 42 ∷ 47 ∷ a ≡ y ∷ (u ++ 42 ∷ 47 ∷ b) → ⊥
 not_inside [] a b y stays e = star_slash (head_same 47 42 a (47 ∷ b) (tail_same 42 y (47 ∷ a) (42 ∷ 47 ∷ b) e))
 not_inside (z ∷ u) a b y stays e =
@@ -77,6 +80,7 @@ pub data GapView (bytes rest : List ℕ) : Type 0 where
   ViewLine : (text behind : List ℕ) → bytes ≡ 47 ∷ 47 ∷ text ++ behind → list_all stays_on_line text ≡ true
       → ends_line behind ≡ true → Gap behind rest → GapView bytes rest
 
+-- a gap is nothing, or a blank, a comment or the rest of a line, and a gap behind it
 pub gap_view : (bytes rest : List ℕ) → Gap bytes rest → GapView bytes rest
 gap_view bytes rest (Nothing _) = ViewNothing refl
 gap_view bytes rest (Blank b behind _ is gap) = ViewBlank b behind refl is gap
@@ -87,6 +91,7 @@ gap_view bytes rest (Line text behind _ inside ends gap) = ViewLine text behind 
 abbrev pub IsStuck : List ℕ → Type 0
 IsStuck bytes = (rest : List ℕ) → Gap bytes rest → rest ≡ bytes
 
+-- two gaps in the same bytes, behind each of which no gap goes on, end at one place
 pub gap_one : (bytes x y : List ℕ) → Gap bytes x → Gap bytes y → IsStuck x → IsStuck y → x ≡ y
 gap_one bytes x y (Nothing _) on sx sy = sym (sx y on)
 gap_one bytes x y (Blank b behind _ is gap) on sx sy = go (λ y on sy. gap_one behind x y gap on sx sy) (gap_view (b ∷ behind) y on)

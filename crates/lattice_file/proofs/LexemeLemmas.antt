@@ -35,6 +35,7 @@ slice_one bytes at h = grind (arith, common_steps)
 pub head_is : (bytes : List ℕ) (at : ℕ) → at < length bytes → first (drop at bytes) ≡ Some (get_or bytes at 0)
 head_is bytes at h = ap first (drop-cons bytes at 0 h)
 
+-- where bytes do not lengthen a word, others with the same first byte do not
 lengthens_first : (a b : List ℕ) → first a ≡ first b → lengthens b ≡ false → lengthens a ≡ false
 lengthens_first [] b e h = refl
 lengthens_first (x ∷ a) [] e h = absurd cc
@@ -43,6 +44,7 @@ lengthens_first (x ∷ a) (y ∷ b) e h = subst (λ (z : ℕ). stands_in_words z
     same : (x y : ℕ) → Some x ≡ Some y → y ≡ x
     same x y e = cc
 
+-- where bytes end a line, others with the same first byte do
 pub line_first : (a b : List ℕ) → first a ≡ first b → ends_line b ≡ true → ends_line a ≡ true
 line_first [] b e h = refl
 line_first (x ∷ a) [] e h = absurd cc
@@ -55,6 +57,7 @@ resembles_stops : (tail rest : List ℕ) → Resembles tail rest → lengthens r
 resembles_stops tail rest (inl e) h = lengthens_first tail rest e h
 resembles_stops tail rest (inr e) h = lengthens_first tail (10 ∷ []) e refl
 
+-- a word that may come leads to some standing
 some_of : (standing : Standing) (word : List ℕ) → may_come standing word ≡ true
     → (new : Standing) × (next standing (WordLexeme word) ≡ Some new)
 some_of standing word h = by (next standing (WordLexeme word)) refl h
@@ -77,6 +80,7 @@ pub record WordRead (lexeme : Lexeme) (front tail rest : List ℕ) : Type 0 wher
   pub whole : front ++ tail ≡ word ++ rest
   pub ends : lengthens rest ≡ false
 
+-- a word that is read where others of its bytes stand goes on at least as far as these
 longer_word : (front tail word rest : List ℕ) → list_all stands_in_words front ≡ true → lengthens rest ≡ false
     → front ++ tail ≡ word ++ rest → (more : List ℕ) × (word ≡ front ++ more)
 longer_word [] tail word rest h stops e = (word, refl)
@@ -88,6 +92,7 @@ longer_word (x ∷ front) tail (y ∷ word) rest h stops e =
     same : (x y : ℕ) (t u : List ℕ) → x ≡ y → t ≡ u → y ∷ t ≡ x ∷ u
     same x y t u e f = cc
 
+-- a lexeme that is read where a byte of words stands is a word, and goes on as far as such bytes do
 word_read : (lexeme : Lexeme) (x : ℕ) (front tail rest : List ℕ) → IsProper lexeme
     → list_all stands_in_words (x ∷ front) ≡ true → Spells lexeme ((x ∷ front) ++ tail) rest
     → WordRead lexeme (x ∷ front) tail rest
@@ -108,6 +113,7 @@ pub first_cons : (tail : List ℕ) (b : ℕ) → first tail ≡ Some b → (more
 first_cons [] b e = absurd cc
 first_cons (x ∷ tail) b e = (tail, cc)
 
+-- the first bytes of a word stand in words where all of it do
 all_taken : (word : List ℕ) (k : ℕ) → list_all stands_in_words word ≡ true
     → list_all stands_in_words (take k word) ≡ true
 all_taken word k h =
@@ -119,6 +125,7 @@ pub word_goes : (old new : Standing) (bytes : List ℕ) (at end : ℕ) → lengt
     → next old (WordLexeme (slice_range bytes at end)) ≡ Some new → LexemeGoes old new bytes at end
 word_goes old new bytes at end stops e = record { lexeme = WordLexeme (slice_range bytes at end); next_is = e; spells = λ tail likes. (refl, resembles_stops tail (drop end bytes) likes stops) }
 
+-- the front of a word for what may come is empty, or begins a lexeme that may come
 word_begins : (old : Standing) (bytes : List ℕ) (at end front : ℕ) → at + front ≤ end → end ≤ length bytes
     → IsFront (may_come old) (slice_range bytes at end) front
     → (at + front ≡ at) ⊎ LexemeBegins old bytes at (at + front)
@@ -238,6 +245,7 @@ slice_last : (bytes : List ℕ) (from end : ℕ) → from ≤ end → end < leng
 slice_last bytes from end le within =
     sym (slice_join bytes from end (end + 1) le (omega arith) (omega (arith, within))) ∙ ap (λ (w : List ℕ). slice_range bytes from end ++ w) (slice_one bytes end within)
 
+-- a quote, bytes that are no quote or line feed, and a quote are a colour text that goes on
 pub text_goes : (old new : Standing) (bytes : List ℕ) (at end : ℕ) → at < end → end < length bytes
     → get_or bytes at 0 ≡ 34 → get_or bytes end 0 ≡ 34
     → list_all stands_in_text (slice_range bytes (at + 1) end) ≡ true →
@@ -259,11 +267,13 @@ IsTextStop bytes = (b : ℕ) (more : List ℕ) → bytes ≡ b ∷ more → stan
 text_clash : (b : ℕ) (bytes : List ℕ) → IsTextStop (b ∷ bytes) → stands_in_text b ≡ true → ⊥
 text_clash b bytes stop h = let clash : false ≡ true = sym (stop b bytes refl) ∙ h in absurd cc
 
+-- bytes that end a line stop a colour text
 line_stops_text : (bytes : List ℕ) → ends_line bytes ≡ true → IsTextStop bytes
 line_stops_text [] h b more e = absurd cc
 line_stops_text (x ∷ bytes) h b more e =
     let ten : 10 ≡ b = sym (eqb-true x 10 h) ∙ head_same x b bytes more e in subst (λ (c : ℕ). stands_in_text c ≡ false) ten refl
 
+-- a colour text that comes to the end of its line fails there
 pub text_fails : (old new : Standing) (bytes : List ℕ) (at end : ℕ) → at < end → end ≤ length bytes
     → get_or bytes at 0 ≡ 34 → ends_line (drop end bytes) ≡ true
     → list_all stands_in_text (slice_range bytes (at + 1) end) ≡ true →
@@ -315,6 +325,7 @@ pub not_taken : {A : Type 0} (o : Option A) (b : Bool) (to : A) → b ≡ false 
 not_taken o true to e h = absurd cc
 not_taken o false to e h = h
 
+-- a word that begins with a byte of words and goes on until none lengthens it is not empty
 pub word_longer : (bytes : List ℕ) (at end : ℕ) → at ≤ end → at < length bytes
     → stands_in_words (get_or bytes at 0) ≡ true → lengthens (drop end bytes) ≡ false → at < end
 word_longer bytes at end le within word stops = by (end - at) (omega (arith, le))
@@ -330,6 +341,7 @@ word_longer bytes at end le within word stops = by (end - at) (omega (arith, le)
     by zero e = absurd (same (omega (arith, e)))
     by (suc n) e = omega (arith, e)
 
+-- a byte that stops a colour text and is no quote ends its line
 pub text_line : (bytes : List ℕ) (end : ℕ) → end < length bytes → (get_or bytes end 0 ≡ 34 → ⊥)
     → stands_in_text (get_or bytes end 0) ≡ false → ends_line (drop end bytes) ≡ true
 text_line bytes end within quote stop =

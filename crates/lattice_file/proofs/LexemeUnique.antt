@@ -16,6 +16,7 @@ pub data Kind : Type 0 where
 abbrev pub kind_of : ℕ → Kind
 kind_of b = if is_blank b || nat_eq b 47 then InGap else if stands_in_words b then InWord else if nat_eq b 34 then AtQuote else AtSign
 
+-- what the first byte of a lexeme begins, by its form
 abbrev pub kind_of_lexeme : Lexeme → Kind
 kind_of_lexeme (WordLexeme word) = InWord
 kind_of_lexeme (SignLexeme sign) = AtSign
@@ -27,6 +28,7 @@ IsProper (WordLexeme word) = (b : ℕ) × (more : List ℕ) × (word ≡ b ∷ m
 IsProper (SignLexeme sign) = kind_of sign ≡ AtSign
 IsProper TextLexeme = Unit {0}
 
+-- a byte with which a gap begins does not stand in words
 gap_byte : (b : ℕ) → (is_blank b || nat_eq b 47) ≡ true → stands_in_words b ≡ true → ⊥
 gap_byte b gap word = by_last (or_cases (is_blank b) (nat_eq b 47) gap)
   where
@@ -46,6 +48,7 @@ gap_byte b gap word = by_last (or_cases (is_blank b) (nat_eq b 47) gap)
     by_last (inl e) = by_first e
     by_last (inr e) = let clash : stands_in_words 47 ≡ true = at 47 e in absurd cc
 
+-- a byte that stands in words begins a word
 pub word_kind : (b : ℕ) → stands_in_words b ≡ true → kind_of b ≡ InWord
 word_kind b word = by (is_blank b || nat_eq b 47) refl
   where
@@ -69,6 +72,7 @@ stuck_at b more kind e other rest gap = go (gap_view (b ∷ more) rest gap)
     go (ViewComment text behind f inside on) = absurd (slash (head_same b 47 more (42 ∷ text ++ 42 ∷ 47 ∷ behind) f))
     go (ViewLine text behind f inside ends on) = absurd (slash (head_same b 47 more (47 ∷ text ++ behind) f))
 
+-- at the end of the bytes no gap goes on
 pub stuck_end : IsStuck []
 stuck_end rest gap = go (gap_view [] rest gap)
   where
@@ -85,6 +89,7 @@ pub record Begins (lexeme : Lexeme) (bytes : List ℕ) : Type 0 where
   pub is : bytes ≡ byte ∷ more
   pub kind : kind_of byte ≡ kind_of_lexeme lexeme
 
+-- the bytes of a proper lexeme begin with a byte of its kind
 pub begins : (lexeme : Lexeme) (bytes rest : List ℕ) → IsProper lexeme → Spells lexeme bytes rest → Begins lexeme bytes
 begins (WordLexeme word) bytes rest (b, more, is, all) spells =
     let inside : list_all stands_in_words (b ∷ more) ≡ true = subst (λ (w : List ℕ). list_all stands_in_words w ≡ true) is all in
@@ -92,6 +97,7 @@ begins (WordLexeme word) bytes rest (b, more, is, all) spells =
 begins (SignLexeme sign) bytes rest proper spells = record { byte = sign; more = rest; is = spells; kind = proper }
 begins TextLexeme bytes rest proper spells = record { byte = 34; more = spells.0 ++ 34 ∷ rest; is = spells.1; kind = refl }
 
+-- no lexeme is of the kind of gaps
 pub not_gap : (lexeme : Lexeme) → InGap ≡ kind_of_lexeme lexeme → ⊥
 not_gap (WordLexeme word) e = absurd cc
 not_gap (SignLexeme sign) e = absurd cc
@@ -109,6 +115,7 @@ word_stop b bytes h s = let clash : false ≡ true = sym h ∙ s in absurd cc
 text_stop : (b : ℕ) (bytes : List ℕ) → ((rest : List ℕ) × (b ∷ bytes ≡ 34 ∷ rest)) → stands_in_text b ≡ true → ⊥
 text_stop b bytes h s = let there : stands_in_text 34 ≡ true = subst (λ (b : ℕ). stands_in_text b ≡ true) (head_same b 34 bytes h.0 h.1) s in absurd cc
 
+-- two proper lexemes of one kind that the same bytes spell are the same, with the same rest
 pub spells_one : (x y : Lexeme) (bytes a b : List ℕ) → IsProper x → IsProper y → kind_of_lexeme x ≡ kind_of_lexeme y
     → Spells x bytes a → Spells y bytes b → (x ≡ y) × (a ≡ b)
 spells_one (WordLexeme w) (WordLexeme v) bytes a b px py k sx sy =
@@ -133,6 +140,7 @@ pub record Takes (lexeme : Lexeme) (bytes rest : List ℕ) : Type 0 where
   pub gap : Gap bytes behind
   pub spells : Spells lexeme behind rest
 
+-- two proper lexemes behind a gap in the same bytes are the same, with the same rest
 pub takes_one : (x y : Lexeme) (bytes a b : List ℕ) → IsProper x → IsProper y → Takes x bytes a → Takes y bytes b
     → (x ≡ y) × (a ≡ b)
 takes_one x y bytes a b px py tx ty =

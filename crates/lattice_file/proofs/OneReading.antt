@@ -13,12 +13,14 @@ use Rattle.lattice_file.proofs.StepSeen.{Seen, AtEnd, Further, sees}
 use Rattle.lattice_file.proofs.StepAble.{proper}
 use Rattle.std.proofs.Common.{length-append}
 
+-- what stands behind a gap is no longer than what it stands in
 gap_shorter : (bytes rest : List ℕ) → Gap bytes rest → length rest ≤ length bytes
 gap_shorter bytes rest (Nothing _) = omega arith
 gap_shorter bytes rest (Blank b behind _ is gap) = omega (arith, gap_shorter behind rest gap)
 gap_shorter bytes rest (Comment text behind _ inside gap) = omega (arith, gap_shorter behind rest gap, length-append text (42 ∷ 47 ∷ behind))
 gap_shorter bytes rest (Line text behind _ inside ends gap) = omega (arith, gap_shorter behind rest gap, length-append text behind)
 
+-- what stands behind a proper lexeme is shorter than what it stands in
 spells_shorter : (lexeme : Lexeme) (bytes rest : List ℕ) → IsProper lexeme → Spells lexeme bytes rest
     → length rest < length bytes
 spells_shorter (WordLexeme word) bytes rest p s = omega (arith, ap length s.0, length-append word rest, ap length p.2)
@@ -44,6 +46,7 @@ step_one old lexeme new bytes rest all e takes goes = by (sees old bytes all goe
         let to : then ≡ new = some_is then new (sym f ∙ ap (λ (x : Lexeme). next old x) same.0 ∙ e) in
         subst (λ (s : Standing). GoesFrom s rest all) to (subst (λ (r : List ℕ). GoesFrom then r all) same.1 on)
 
+-- from one standing the same bytes go on to one list of blocks
 one_from : (n : ℕ) (old : Standing) (bytes : List ℕ) (a b : List BlockView) → length bytes < n → GoesFrom old bytes a
     → GoesFrom old bytes b → a ≡ b
 one_from zero old bytes a b h ga gb = absurd (omega (arith, h))

@@ -5,6 +5,7 @@ use Rattle.std.proofs.lemmas.List.Sums.{sum_by-append}
 use Rattle.std.proofs.lemmas.List.{take_more}
 use Rattle.lattice_file.specs.Places.{lines_in, after_last_line}
 
+-- one more byte adds a line where it is a line feed
 lines_behind : (bytes : List ℕ) (byte : ℕ)
     → lines_in (bytes ++ byte ∷ []) ≡ (if byte == 10 then lines_in bytes + 1 else lines_in bytes)
 lines_behind bytes byte = sum_by-append (λ (b : ℕ). cond (b == 10) 1 0) bytes (byte ∷ []) ∙ counted (byte == 10) (lines_in bytes)
@@ -26,12 +27,14 @@ shifted_column : (b : Bool) (n m : ℕ) → n ≡ m + 1 → (if b then 1 else n 
 shifted_column true n m e = refl
 shifted_column false n m e = omega arith
 
+-- the line at the next place is one further behind a line feed, and else the same
 pub line_on : (bytes : List ℕ) (i line : ℕ) → i < length bytes → line ≡ lines_in (take i bytes) + 1 →
     (if get_or bytes i 0 == 10 then line + 1 else line) ≡ lines_in (take (i + 1) bytes) + 1
 line_on bytes i line h e =
     shifted (get_or bytes i 0 == 10) line (lines_in (take i bytes)) e
     ∙ ap (λ (n : ℕ). n + 1) (sym (lines_behind (take i bytes) (get_or bytes i 0)) ∙ ap lines_in (sym (take_more bytes i 0 h)))
 
+-- the column at the next place is 1 behind a line feed, and else one further
 pub column_on : (bytes : List ℕ) (i column : ℕ) → i < length bytes → column ≡ after_last_line (take i bytes) 0 + 1 →
     (if get_or bytes i 0 == 10 then 1 else column + 1) ≡ after_last_line (take (i + 1) bytes) 0 + 1
 column_on bytes i column h e =

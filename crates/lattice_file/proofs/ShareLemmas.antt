@@ -5,6 +5,7 @@ use Rattle.lattice_core.specs.View.{LatticeView}
 use Rattle.lattice_core.specs.Entries.{name_of, name_at, number_of}
 use Rattle.lattice_file.specs.Sharing.{IsNamedBefore, IsShared, AreApart}
 
+-- a name that neither earlier lattices nor this one have stands in none up to it
 pub named_on : (lattices : List LatticeView) (at : ℕ) (word : List ℕ) (lattice : LatticeView)
     → slice_get lattices at ≡ Some lattice → number_of lattice.entries word ≡ None →
     (IsNamedBefore lattices at word → ⊥) → IsNamedBefore lattices (at + 1) word → ⊥
@@ -18,11 +19,13 @@ named_on lattices at word lattice there none before h = elim (cases_lt h.at at) 
       cc
 ]
 
+-- a place that a mapped list has is within the list
 item_within : {X Y : Type 0} (f : X → Y) (xs : List X) (i : ℕ) (y : Y) → slice_get (map f xs) i ≡ Some y → i < length xs
 item_within f [] i y h = absurd cc
 item_within f (x ∷ xs) zero y h = omega arith
 item_within f (x ∷ xs) (suc i) y h = let under : i < length xs = item_within f xs i y h in omega arith
 
+-- an element whose name is shared is one of its lattice
 pub shared_within : (lattices : List LatticeView) (at elem : ℕ) (name : List ℕ) (lattice : LatticeView)
     → slice_get lattices at ≡ Some lattice → IsShared lattices at elem name → elem < length lattice.entries
 shared_within lattices at elem name lattice there h =
@@ -31,6 +34,7 @@ shared_within lattices at elem name lattice there h =
     let named : name_at lattice.entries elem ≡ Some name = rw (← is) h.named in
     item_within name_of lattice.entries elem name named
 
+-- an element whose name no earlier lattice has joins those before it that share none
 pub shared_on : (lattices : List LatticeView) (at elem : ℕ) (word : List ℕ) (lattice : LatticeView)
     → slice_get lattices at ≡ Some lattice → name_at lattice.entries elem ≡ Some word →
     (IsNamedBefore lattices at word → ⊥)
@@ -55,6 +59,7 @@ pub apart_at : (lattices : List LatticeView) (at : ℕ) (word : List ℕ) (r : B
 apart_at lattices at word true e h named = cc
 apart_at lattices at word false e h named = h named
 
+-- a lattice of which no name is shared joins those before it that are apart
 pub apart_on : (lattices : List LatticeView) (at : ℕ) → AreApart lattices at
     → ((elem : ℕ) (name : List ℕ) → IsShared lattices at elem name → ⊥) → AreApart lattices (at + 1)
 apart_on lattices at before here other elem name h shared = elim (cases_lt other at) [

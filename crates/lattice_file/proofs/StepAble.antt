@@ -45,6 +45,7 @@ not_full : (b : Bool) → not b ≡ true → b ≡ false
 not_full true e = absurd cc
 not_full false e = refl
 
+-- behind a word that may come the reader is ready, and wider C stays as it is
 ready_word : (stage : Stage) (given : Given) (draft : Draft) (word : List ℕ) (new : Standing)
     → next_by_word stage given draft word ≡ Some new → IsReady new × (new.given.wide ≡ given.wide)
 ready_word stages.Outside given draft word new e = let p = only_is (bytes_eq word (codes "partial")) (At stages.Order given draft) new e in ready_as given.wide (At stages.Order given draft) new p.1 tt refl
@@ -69,6 +70,7 @@ ready_word (stages.Value attribute) given draft word new e =
     let p = map_is (λ then. At stages.Attributed then draft) (with_value attribute given word) new e in ready_as given.wide (At stages.Attributed p.0 draft) new p.2 tt (gives_wide attribute given p.0 word (value_is attribute given p.0 word p.1))
 ready_word stages.Attributed given draft word new e = absurd cc
 
+-- behind a sign that may come the reader is ready, and wider C stays as it is
 ready_sign : (stage : Stage) (given : Given) (draft : Draft) (sign : ℕ) (new : Standing)
     → next_by_sign stage given draft sign ≡ Some new → IsReady new × (new.given.wide ≡ given.wide)
 ready_sign stages.Outside given draft sign new e = absurd cc
@@ -120,6 +122,7 @@ ready_text : (stage : Stage) (given : Given) (draft : Draft) (new : Standing)
 ready_text (stages.Value attributes.Color) given draft new e = let to = At stages.Attributed (record given { color = true }) draft in ready_as given.wide to new (some_is to new e) tt refl
 ready_text _ given draft new e = absurd cc
 
+-- behind any lexeme that may come the reader is ready, and wider C stays as it is
 follows : (old : Standing) (lexeme : Lexeme) (new : Standing) → next old lexeme ≡ Some new
     → IsReady new × (new.given.wide ≡ old.given.wide)
 follows old (WordLexeme word) new e = ready_word old.stage old.given old.draft word new e
@@ -137,12 +140,14 @@ wide_stays old lexeme new e = (follows old lexeme new e).1
 as_proper : (word name : List ℕ) → word ≡ name → IsProper (WordLexeme name) → IsProper (WordLexeme word)
 as_proper word name e h = subst (λ (w : List ℕ). IsProper (WordLexeme w)) (sym e) h
 
+-- bytes of names stand in words
 name_bytes : (bytes : List ℕ) → list_all is_name_byte bytes ≡ true → list_all stands_in_words bytes ≡ true
 name_bytes [] h = refl
 name_bytes (b ∷ bytes) h =
     let first : is_name_byte b ≡ true = and_first (is_name_byte b) (list_all is_name_byte bytes) h in
     rw first (name_bytes bytes (and_second (is_name_byte b) (list_all is_name_byte bytes) h))
 
+-- a name that begins with a dollar is a proper word
 dollar_proper : (word : List ℕ) → begins_with_dollar word ≡ true → IsProper (WordLexeme word)
 dollar_proper [] h = absurd cc
 dollar_proper (b ∷ []) h = absurd cc
@@ -158,6 +163,7 @@ dollar_proper (b ∷ c ∷ more) h =
     all_three : (x y z : Bool) → x ≡ true → y ≡ true → z ≡ true → (x && (y && z)) ≡ true
     all_three x y z e f g = rw (e, f, g) refl
 
+-- the name of an element is a proper word
 name_proper : (word : List ℕ) → is_element_name word ≡ true → IsProper (WordLexeme word)
 name_proper word h = by_last (or_cases (begins_with_dollar word || bytes_eq word (codes "const") || bytes_eq word (codes "volatile")) (bytes_eq word (codes "restrict")) h)
   where
@@ -175,6 +181,7 @@ name_proper word h = by_last (or_cases (begins_with_dollar word || bytes_eq word
     by_last (inl e) = by_second (or_cases (begins_with_dollar word || bytes_eq word (codes "const")) (bytes_eq word (codes "volatile")) e)
     by_last (inr e) = as_proper word (codes "restrict") (word_is word (codes "restrict") e) (114, codes "estrict", refl, refl)
 
+-- the name of an entry's attribute is a proper word
 attribute_proper : (attribute : Attribute) → IsProper (WordLexeme (attribute_word attribute))
 attribute_proper attributes.Level = (108, codes "evel", refl, refl)
 attribute_proper attributes.Sign = (115, codes "ign", refl, refl)
@@ -182,6 +189,7 @@ attribute_proper attributes.Color = (99, codes "olor", refl, refl)
 attribute_proper attributes.Write = (119, codes "rite", refl, refl)
 attribute_proper attributes.Deref = (100, codes "eref", refl, refl)
 
+-- a word that is the value of an entry's attribute is proper
 value_proper : (attribute : Attribute) (given then : Given) (word : List ℕ) → Gives attribute word given then
     → IsProper (WordLexeme word)
 value_proper attributes.Level given then word (Ref, e, f) = as_proper word (codes "ref") e (114, codes "ef", refl, refl)
@@ -199,12 +207,14 @@ block_attribute_proper : (attribute : BlockAttribute) → IsProper (WordLexeme (
 block_attribute_proper Ptrflow = (112, codes "trflow", refl, refl)
 block_attribute_proper Fieldflow = (102, codes "ieldflow", refl, refl)
 
+-- a word that is the value of a block's attribute is proper
 flow_proper : (attribute : BlockAttribute) (flows then : Flows) (word : List ℕ) → GivesFlow attribute word flows then
     → IsProper (WordLexeme word)
 flow_proper Ptrflow flows then word (Up, e, f) = as_proper word (codes "up") e (117, codes "p", refl, refl)
 flow_proper Ptrflow flows then word (Down, e, f) = as_proper word (codes "down") e (100, codes "own", refl, refl)
 flow_proper Fieldflow flows then word (e, f) = as_proper word (codes "down") e (100, codes "own", refl, refl)
 
+-- a word that may come at a stage is proper
 proper_word : (stage : Stage) (given : Given) (draft : Draft) (word : List ℕ) (new : Standing)
     → next_by_word stage given draft word ≡ Some new → IsProper (WordLexeme word)
 proper_word stages.Outside given draft word new e =
@@ -235,6 +245,7 @@ proper_word stages.Attributed given draft word new e = absurd cc
 as_sign : (sign other : ℕ) → nat_eq sign other ≡ true → kind_of other ≡ AtSign → kind_of sign ≡ AtSign
 as_sign sign other e h = subst (λ (s : ℕ). kind_of s ≡ AtSign) (sym (eqb-true sign other e)) h
 
+-- a sign that may come at a stage begins nothing but a sign
 proper_sign : (stage : Stage) (given : Given) (draft : Draft) (sign : ℕ) (new : Standing)
     → next_by_sign stage given draft sign ≡ Some new → kind_of sign ≡ AtSign
 proper_sign stages.Outside given draft sign new e = absurd cc
@@ -274,6 +285,7 @@ proper_sign stages.Attributed given draft sign new e = by (first_is (only_if (na
     by (inl e) = as_sign sign 44 (and_first (nat_eq sign 44) (not (is_full given)) (only_is (nat_eq sign 44 && not (is_full given)) (At stages.Attribute given draft) new e).0) refl
     by (inr e) = as_sign sign 93 (only_is (nat_eq sign 93) (At stages.Items given (with_entry given draft)) new e).0 refl
 
+-- a lexeme that may come is proper
 pub proper : (old : Standing) (lexeme : Lexeme) (new : Standing) → next old lexeme ≡ Some new → IsProper lexeme
 proper old (WordLexeme word) new e = proper_word old.stage old.given old.draft word new e
 proper old (SignLexeme sign) new e = proper_sign old.stage old.given old.draft sign new e
@@ -285,6 +297,7 @@ pub record Able (standing : Standing) : Type 0 where
   pub all : List BlockView
   pub goes : GoesFrom standing (10 ∷ more) all
 
+-- a reader can be brought to an end where a lexeme that may come leads to one that can
 pub able_by : (old : Standing) (lexeme : Lexeme) (new : Standing) (text : List ℕ) → next old lexeme ≡ Some new
     → ((more : List ℕ) → Spells lexeme (text ++ 10 ∷ more) (10 ∷ more)) → Able new → Able old
 able_by old lexeme new text e spells a = record {
@@ -307,6 +320,7 @@ able_outside given draft = record { more = []; all = draft.blocks ++ []; goes = 
 able_filled : (given : Given) (draft : Draft) → is_nonempty draft.entries ≡ true → Able (At stages.Items given draft)
 able_filled given draft h = able_sign (At stages.Items given draft) 125 (At stages.Outside given (with_block draft)) (rw h refl) (able_outside given (with_block draft))
 
+-- behind an attribute of an entry the text can be brought to an end
 able_attributed : (given : Given) (draft : Draft) → Able (At stages.Attributed given draft)
 able_attributed given draft = able_sign (At stages.Attributed given draft) 93 (At stages.Items given (with_entry given draft)) refl (able_filled given (with_entry given draft) (long draft.entries (entry_of draft.name given)))
   where
@@ -314,6 +328,7 @@ able_attributed given draft = able_sign (At stages.Attributed given draft) 93 (A
     long [] entry = refl
     long (e ∷ entries) entry = refl
 
+-- at the value of an entry's attribute the text can be brought to an end
 able_value : (attribute : Attribute) (given : Given) (draft : Draft) → Able (At (stages.Value attribute) given draft)
 able_value attributes.Level given draft = let then = record given { level = Some Ref } in able_word (At (stages.Value attributes.Level) given draft) (codes "ref") (At stages.Attributed then draft) refl (able_attributed then draft)
 able_value attributes.Sign given draft = let then = record given { sign = Some Eq } in able_word (At (stages.Value attributes.Sign) given draft) (codes "eq") (At stages.Attributed then draft) refl (able_attributed then draft)
@@ -325,6 +340,7 @@ able_value attributes.Deref given draft = let then = record given { deref = dere
 able_equals : (attribute : Attribute) (given : Given) (draft : Draft) → Able (At (stages.Equals attribute) given draft)
 able_equals attribute given draft = able_sign (At (stages.Equals attribute) given draft) 61 (At (stages.Value attribute) given draft) refl (able_value attribute given draft)
 
+-- at an attribute of an entry, where one is left, the text can be brought to an end
 able_attribute : (given : Given) (draft : Draft) → is_full given ≡ false → Able (At stages.Attribute given draft)
 able_attribute given draft h = by_level (is_some given.level) refl
   where
@@ -361,6 +377,7 @@ able_named given draft = able_sign (At stages.Named given draft) 91 (At stages.A
 able_items : (given : Given) (draft : Draft) → Able (At stages.Items given draft)
 able_items given draft = let then = record draft { name = codes "$a" } in able_word (At stages.Items given draft) (codes "$a") (At stages.Named given then) refl (able_named given then)
 
+-- at the upper name of an order line the text can be brought to an end
 able_high : (given : Given) (draft : Draft) → Able (At stages.High given draft)
 able_high given draft =
     let then = record draft { pairs = draft.pairs ++ record { low = draft.name; high = codes "$a" } ∷ [] } in
@@ -375,6 +392,7 @@ able_braced given draft = let then = record draft { entries = []; pairs = [] } i
 able_flowed : (given : Given) (draft : Draft) → Able (At stages.Flowed given draft)
 able_flowed given draft = able_sign (At stages.Flowed given draft) 93 (At stages.Braced given draft) refl (able_braced given draft)
 
+-- at the value of a block's attribute the text can be brought to an end
 able_flow : (attribute : BlockAttribute) (given : Given) (draft : Draft)
     → Able (At (stages.FlowValue attribute) given draft)
 able_flow Ptrflow given draft =
@@ -386,6 +404,7 @@ able_flow_equals : (attribute : BlockAttribute) (given : Given) (draft : Draft)
     → Able (At (stages.FlowEquals attribute) given draft)
 able_flow_equals attribute given draft = able_sign (At (stages.FlowEquals attribute) given draft) 61 (At (stages.FlowValue attribute) given draft) refl (able_flow attribute given draft)
 
+-- at an attribute of a block, where one is left, the text can be brought to an end
 able_flows : (given : Given) (draft : Draft) → has_all_flows draft.flows ≡ false → Able (At stages.FlowName given draft)
 able_flows given draft h = by_ptr (is_some draft.flows.ptr) refl
   where
@@ -403,6 +422,7 @@ able_flows given draft h = by_ptr (is_some draft.flows.ptr) refl
     by_ptr false j = able_with Ptrflow j
     by_ptr true j = by_field j draft.flows.field refl
 
+-- at any stage where the reader is ready the text can be brought to an end
 able_at : (stage : Stage) (given : Given) (draft : Draft) → IsReadyAt stage given draft → Able (At stage given draft)
 able_at stages.Outside given draft h = able_outside given draft
 able_at stages.Order given draft h = able_word (At stages.Order given draft) (codes "order") (At stages.Open given draft) refl (able_open given draft)

@@ -85,6 +85,7 @@ if_named_is given word attribute new e =
     not_true true e = absurd cc
     not_true false e = refl
 
+-- a word that names an attribute of an entry is its word, and the entry does not have it yet
 pub attribute_is : (given : Given) (word : List ℕ) (new : Attribute) → attribute_named given word ≡ Some new
     → (word ≡ attribute_word new) × (has_attribute given new ≡ false)
 attribute_is given word new e = first (first_is (if_named given word attributes.Level) _ new e)
@@ -109,6 +110,7 @@ attribute_is given word new e = first (first_is (if_named given word attributes.
     first (inl e) = if_named_is given word attributes.Level new e
     first (inr e) = second (first_is (if_named given word attributes.Sign) _ new e)
 
+-- the word of an attribute that an entry does not have yet names it
 pub named_new : (given : Given) (attribute : Attribute) → has_attribute given attribute ≡ false
     → attribute_named given (attribute_word attribute) ≡ Some attribute
 named_new given attributes.Level e = rw e refl
@@ -117,6 +119,7 @@ named_new given attributes.Color e = rw e refl
 named_new given attributes.Write e = rw e refl
 named_new given attributes.Deref e = rw e refl
 
+-- a word that is read as a level is that level's word
 level_is : (word : List ℕ) (level : Level) → level_named word ≡ Some level → IsLevel word level
 level_is word level e = by (first_is (only_if (bytes_eq word (codes "ref")) Ref) _ level e)
   where
@@ -125,6 +128,7 @@ level_is word level e = by (first_is (only_if (bytes_eq word (codes "ref")) Ref)
     by (inl e) = let p = only_is (bytes_eq word (codes "ref")) Ref level e in subst (λ (l : Level). IsLevel word l) p.1 (word_is word (codes "ref") p.0)
     by (inr e) = let p = only_is (bytes_eq word (codes "value")) Value level e in subst (λ (l : Level). IsLevel word l) p.1 (word_is word (codes "value") p.0)
 
+-- a word that is read as a sign is that sign's word
 sign_is : (word : List ℕ) (sign : Sign) → sign_named word ≡ Some sign → IsSign word sign
 sign_is word sign e = by (first_is (only_if (bytes_eq word (codes "pos")) Pos) _ sign e)
   where
@@ -138,6 +142,7 @@ sign_is word sign e = by (first_is (only_if (bytes_eq word (codes "pos")) Pos) _
     by (inl e) = let p = only_is (bytes_eq word (codes "pos")) Pos sign e in subst (λ (s : Sign). IsSign word s) p.1 (word_is word (codes "pos") p.0)
     by (inr e) = by_last (first_is (only_if (bytes_eq word (codes "neg")) Neg) _ sign e)
 
+-- a word that is read as a value of `deref` is its word, `access` in wider C alone
 deref_is : (wide : Bool) (word : List ℕ) (deref : Deref) → deref_named wide word ≡ Some deref → IsDeref wide word deref
 deref_is wide word deref e = by (first_is (only_if (bytes_eq word (codes "yes")) derefs.Yes) _ deref e)
   where
@@ -149,6 +154,7 @@ deref_is wide word deref e = by (first_is (only_if (bytes_eq word (codes "yes"))
         let named : word ≡ codes "access" = word_is word (codes "access") (and_second wide (bytes_eq word (codes "access")) p.0) in
         subst (λ (d : Deref). IsDeref wide word d) p.1 (and_first wide (bytes_eq word (codes "access")) p.0, named)
 
+-- a word that is read as a value of an entry's attribute gives it that value
 pub value_is : (attribute : Attribute) (given then : Given) (word : List ℕ)
     → with_value attribute given word ≡ Some then → Gives attribute word given then
 value_is attributes.Level given then word e =
@@ -160,6 +166,7 @@ value_is attributes.Write given then word e = let p = only_is (bytes_eq word (co
 value_is attributes.Deref given then word e =
     let p = map_is (λ deref. record given { deref = deref }) (deref_named given.wide word) then e in (p.0, deref_is given.wide word p.0 p.1, sym p.2)
 
+-- a word that gives an entry's attribute a value is read as that value
 pub is_value : (attribute : Attribute) (given then : Given) (word : List ℕ) → Gives attribute word given then
     → with_value attribute given word ≡ Some then
 is_value attributes.Level given then word (Ref, e, f) = rw (e, f) refl
@@ -173,6 +180,7 @@ is_value attributes.Deref given then word (derefs.No, e, f) = absurd e
 is_value attributes.Deref given then word (derefs.Yes, e, f) = rw (e, f) refl
 is_value attributes.Deref given then word (derefs.Access, (wide, e), f) = rw (e, f, wide) refl
 
+-- a word that is read as one attribute of a block is its word, and the block does not have it yet
 if_flow_is : (flows : Flows) (word : List ℕ) (attribute new : BlockAttribute) → if_flow flows word attribute ≡ Some new
     → (word ≡ block_attribute_word new) × (has_flow flows new ≡ false)
 if_flow_is flows word attribute new e =
@@ -185,6 +193,7 @@ if_flow_is flows word attribute new e =
     not_true true e = absurd cc
     not_true false e = refl
 
+-- a word that names some attribute of a block is its word, and the block does not have it yet
 pub flow_is : (flows : Flows) (word : List ℕ) (new : BlockAttribute) → flow_named flows word ≡ Some new
     → (word ≡ block_attribute_word new) × (has_flow flows new ≡ false)
 flow_is flows word new e = by (first_is (if_flow flows word Ptrflow) _ new e)
@@ -199,6 +208,7 @@ pub flow_new : (flows : Flows) (attribute : BlockAttribute) → has_flow flows a
 flow_new flows Ptrflow e = rw e refl
 flow_new flows Fieldflow e = rw e refl
 
+-- a word that is read as a direction is that direction's word
 direction_is : (word : List ℕ) (direction : Direction) → direction_named word ≡ Some direction
     → word ≡ direction_word direction
 direction_is word direction e = by (first_is (only_if (bytes_eq word (codes "up")) Up) _ direction e)
@@ -208,12 +218,14 @@ direction_is word direction e = by (first_is (only_if (bytes_eq word (codes "up"
     by (inl e) = let p = only_is (bytes_eq word (codes "up")) Up direction e in subst (λ (d : Direction). word ≡ direction_word d) p.1 (word_is word (codes "up") p.0)
     by (inr e) = let p = only_is (bytes_eq word (codes "down")) Down direction e in subst (λ (d : Direction). word ≡ direction_word d) p.1 (word_is word (codes "down") p.0)
 
+-- a word that is read as a value of a block's attribute gives it that value
 pub gives_flow : (attribute : BlockAttribute) (flows then : Flows) (word : List ℕ)
     → with_flow attribute flows word ≡ Some then → GivesFlow attribute word flows then
 gives_flow Ptrflow flows then word e =
     let p = map_is (λ direction. record flows { ptr = Some direction }) (direction_named word) then e in (p.0, direction_is word p.0 p.1, sym p.2)
 gives_flow Fieldflow flows then word e = let p = only_is (bytes_eq word (codes "down")) (record flows { field = true }) then e in (word_is word (codes "down") p.0, sym p.1)
 
+-- a word that gives a block's attribute a value is read as that value
 pub flow_given : (attribute : BlockAttribute) (flows then : Flows) (word : List ℕ) → GivesFlow attribute word flows then
     → with_flow attribute flows word ≡ Some then
 flow_given Ptrflow flows then word (Up, e, f) = rw (e, f) refl
@@ -239,6 +251,7 @@ moved : (to new : Standing) (after : List ℕ) (all : List BlockView) → to ≡
     → GoesFrom to after all
 moved to new after all e goes = subst (λ (s : Standing). GoesFrom s after all) (sym e) goes
 
+-- a word that may come at a stage leads on: what goes on behind it goes on with it
 leads_word : (stage : Stage) (given : Given) (draft : Draft) (word : List ℕ) → Leads stage given draft (WordLexeme word)
 leads_word stages.Outside given draft word new rest after all e takes goes =
     let p = only_is (bytes_eq word (codes "partial")) (At stages.Order given draft) new e in
@@ -286,6 +299,7 @@ sign_same : (sign other : ℕ) (rest after : List ℕ) → nat_eq sign other ≡
     → TakesSign other rest after
 sign_same sign other rest after e takes = subst (λ (s : ℕ). TakesSign s rest after) (eqb-true sign other e) (takes_sign sign rest after takes)
 
+-- a sign that may come at a stage leads on: what goes on behind it goes on with it
 leads_sign : (stage : Stage) (given : Given) (draft : Draft) (sign : ℕ) → Leads stage given draft (SignLexeme sign)
 leads_sign stages.Outside given draft sign new rest after all e takes goes = absurd cc
 leads_sign stages.Order given draft sign new rest after all e takes goes = absurd cc
@@ -353,11 +367,13 @@ leads_sign stages.Attributed given draft sign new rest after all e takes goes = 
         let p = only_is (nat_eq sign 93) (At stages.Items given (with_entry given draft)) new e in
         EndEntry after (sign_same sign 93 rest after p.0 takes) (moved (At stages.Items given (with_entry given draft)) new after all p.1 goes)
 
+-- a colour text that may come at a stage leads on: what goes on behind it goes on with it
 leads_text : (stage : Stage) (given : Given) (draft : Draft) → Leads stage given draft TextLexeme
 leads_text (stages.Value attributes.Color) given draft new rest after all e takes goes =
     record { then = record given { color = true }; behind = after; value = Color given rest after (takes_text rest after takes); attributes = moved (At stages.Attributed (record given { color = true }) draft) new after all (some_is (At stages.Attributed (record given { color = true }) draft) new e) goes }
 leads_text _ given draft new rest after all e takes goes = absurd cc
 
+-- a lexeme that may come leads on: what goes on behind it goes on from where the reader stood
 pub leads : (old : Standing) (lexeme : Lexeme) (new : Standing) (rest after : List ℕ) (all : List BlockView)
     → next old lexeme ≡ Some new → Takes lexeme rest after → GoesFrom new after all → GoesFrom old rest all
 leads old (WordLexeme word) new rest after all e takes goes = leads_word old.stage old.given old.draft word new rest after all e takes goes

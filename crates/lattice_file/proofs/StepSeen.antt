@@ -25,6 +25,7 @@ pub data Seen (old : Standing) (rest : List ℕ) (all : List BlockView) : Type 0
   Further : (lexeme : Lexeme) (new : Standing) (after : List ℕ) → next old lexeme ≡ Some new → Takes lexeme rest after
       → GoesFrom new after all → Seen old rest all
 
+-- outside of blocks the text ends, or the word `partial` comes
 sees_outside : (given : Given) (draft : Draft) (rest : List ℕ) (all more : List BlockView)
     → IsLatticeText given.wide more rest → all ≡ draft.blocks ++ more → Seen (At stages.Outside given draft) rest all
 sees_outside given draft rest all more (End _ gap) is = AtEnd refl gap (is ∙ append-nil draft.blocks)
@@ -40,6 +41,7 @@ sees_outside given draft rest all more (NextBlock block blocks _ b1 b2 b3 behind
       },
     )
 
+-- at the items of a block a name comes, or the sign that closes it
 sees_items : (given : Given) (draft : Draft) (rest behind : List ℕ) (all more : List BlockView) (more_entries : List Entry) (more_pairs : List Pair)
     → Items given.wide more_entries more_pairs rest behind →
     0 < length (draft.entries ++ more_entries) → IsLatticeText given.wide more behind → all ≡ draft.blocks ++ record { entries = draft.entries ++ more_entries; pairs = draft.pairs ++ more_pairs; flows = draft.flows } ∷ more →
@@ -99,6 +101,7 @@ as_then : (attribute : Attribute) (given then end : Given) (draft : Draft) (b2 b
 as_then attribute given then end draft b2 b3 behind all value items =
     subst (λ (w : Bool). GoesOnItems w draft.flows (draft.entries ++ entry_of draft.name end ∷ []) draft.pairs draft.blocks behind all) (sym (value_wide attribute given then b2 b3 value)) items
 
+-- at the attributes of an entry the name of one that it does not have comes
 sees_attributes : (given end : Given) (draft : Draft) (rest behind : List ℕ) (all : List BlockView)
     → Attributes given end rest behind →
     GoesOnItems given.wide draft.flows (draft.entries ++ entry_of draft.name end ∷ []) draft.pairs draft.blocks behind all → Seen (At stages.Attribute given draft) rest all
@@ -109,6 +112,7 @@ sees_attributes given end draft rest behind all (More attribute _ then _ _ b1 b2
     Further (WordLexeme (attribute_word attribute)) (At (stages.Equals attribute) given draft) b1 (rw (named_new given attribute free) refl) (word_takes (attribute_word attribute) rest b1 word)
     (b2, equals, record { then = then; behind = b3; value = value; attributes = Comma b4 sign (record { end = end; behind = behind; attributes = others; items = as_then attribute given then end draft b2 b3 behind all value items }) })
 
+-- at the value of an entry's attribute a word or a colour text comes that gives it one
 sees_value : (attribute : Attribute) (given then : Given) (draft : Draft) (rest behind : List ℕ) (all : List BlockView)
     → TakesValue attribute given then rest behind →
     GoesBehindAttribute then draft behind all → Seen (At (stages.Value attribute) given draft) rest all
@@ -117,6 +121,7 @@ sees_value attribute given then draft rest behind all (Word _ word _ _ _ _ gives
 sees_value attribute given then draft rest behind all (Color _ _ _ takes) goes =
     Further TextLexeme (At stages.Attributed (record given { color = true }) draft) behind refl (text_takes rest behind takes) goes
 
+-- an entry that lacks an attribute does not have all
 free_full : (given : Given) (attribute : Attribute) → has_attribute given attribute ≡ false → is_full given ≡ false
 free_full given attributes.Level e = rw e refl
 free_full given attributes.Sign e = by (is_some given.level)
@@ -144,6 +149,7 @@ attributes_free : (given end : Given) (rest behind : List ℕ) → Attributes gi
 attributes_free given end rest behind (Last attribute _ _ _ b1 b2 b3 _ free word equals value sign) = free_full given attribute free
 attributes_free given end rest behind (More attribute _ then _ _ b1 b2 b3 b4 _ free word equals value sign others) = free_full given attribute free
 
+-- at the attributes of a block the name of one that it does not have comes
 sees_flows : (given : Given) (draft : Draft) (end : Flows) (rest behind : List ℕ) (all : List BlockView)
     → BlockAttributes draft.flows end rest behind →
     GoesOnBraced given.wide end draft.blocks behind all → Seen (At stages.FlowName given draft) rest all
@@ -166,6 +172,7 @@ sees_flows given draft end rest behind all (MoreFlows _ then _ _ b1 b2 _ takes s
       },
     )
 
+-- behind `order` the sign that opens the items or the attributes of a block comes
 sees_open : (given : Given) (draft : Draft) (flows : Flows) (rest behind : List ℕ) (all : List BlockView)
     → Head flows rest behind → GoesOnItems given.wide flows [] [] draft.blocks behind all
     → Seen (At stages.Open given draft) rest all
@@ -175,6 +182,7 @@ sees_open given draft flows rest behind all (WithFlows _ _ b1 b2 _ sign attribut
     Further (SignLexeme 91) (At stages.FlowName given (record draft { flows = no_flows })) b1 refl (sign_takes 91 rest b1 sign)
     (record { end = flows; behind = b2; attributes = attributes; braced = record { behind = behind; sign = brace; items = items } })
 
+-- a block that lacks an attribute does not have all
 free_flows : (flows : Flows) (attribute : BlockAttribute) → has_flow flows attribute ≡ false
     → has_all_flows flows ≡ false
 free_flows flows Ptrflow e = rw e refl
@@ -189,6 +197,7 @@ flows_free : (flows end : Flows) (rest behind : List ℕ) → BlockAttributes fl
 flows_free flows end rest behind (LastFlow _ _ _ b1 _ takes sign) = free_flows flows takes.attribute takes.free
 flows_free flows end rest behind (MoreFlows _ then _ _ b1 b2 _ takes sign others) = free_flows flows takes.attribute takes.free
 
+-- at any stage the text ends outside of blocks, or a lexeme comes that may come there
 sees_at : (stage : Stage) (given : Given) (draft : Draft) (rest : List ℕ) (all : List BlockView)
     → Goes stage given draft rest all → Seen (At stage given draft) rest all
 sees_at stages.Outside given draft rest all (more, text, is) = sees_outside given draft rest all more text is

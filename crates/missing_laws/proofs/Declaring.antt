@@ -31,6 +31,7 @@ abbrev pub OwnFits : Option Skel → Having → Type 0
 OwnFits None h = Unit {0}
 OwnFits (Some own) h = Has h
 
+-- a parameter's row has the skeleton that it needs, where the function's own name has one
 param_fits : (own : Option Skel) (bare : Bool) (h : Having) (i : ℕ) → OwnFits own h →
     RowFits (param_kind own bare i) (having_where bare h)
 param_fits None bare h i fits = tt

@@ -28,6 +28,7 @@ IndicesAre all (more_desigs (range_desig opening e dots e2 closing) ds) =
     IsExpr all e × (IsExpr all e2 × IndicesAre all ds)
 IndicesAre all (more_desigs (old_desig name colon) ds) = IndicesAre all ds
 
+-- the indices of well-formed steps of an offset are well-formed expressions
 pub steps_are : (all : List Lexeme) (ds : Desigs) → AreSteps all ds → IndicesAre all ds
 steps_are all no_desigs h = tt
 steps_are all (more_desigs (member_desig token name) ds) h = steps_are all ds h.1
@@ -35,6 +36,7 @@ steps_are all (more_desigs (index_desig opening e closing) ds) h = (h.0, steps_a
 steps_are all (more_desigs (range_desig opening e dots e2 closing) ds) h = absurd h.0
 steps_are all (more_desigs (old_desig name colon) ds) h = absurd h.0
 
+-- the indices of well-formed designators are well-formed expressions
 pub desigs_are : (all : List Lexeme) (ds : Desigs) → AreDesigs all ds → IndicesAre all ds
 desigs_are all no_desigs h = tt
 desigs_are all (more_desigs (member_desig token name) ds) h = desigs_are all ds h.1
@@ -44,6 +46,7 @@ desigs_are all (more_desigs (old_desig name colon) ds) h = desigs_are all ds h.1
 
 -- a function with a list of identifiers has a name
 
+-- a bare name declares a name
 bare_named : (d : Declr) → is_bare_name d ≡ true → (it : Named) × (declared_name d ≡ Some it)
 bare_named (declr_name token name) e = (record { token = token; name = name }, refl)
 bare_named (declr_paren opening attrs d closing) e = bare_named d e
@@ -57,6 +60,7 @@ bare_named (abs_params d opening ps dots closing) e = absurd cc
 bare_named (identifiers d opening names closing) e = absurd cc
 bare_named (base_name token) e = absurd cc
 
+-- a well-formed declarator with a list of identifiers declares a name
 pub old_named : (all : List Lexeme) (d : Declr) → IsDeclr all d → lists_identifiers d ≡ true →
     (it : Named) × (declared_name d ≡ Some it)
 old_named all (identifiers d opening names closing) h e = bare_named d h.1

@@ -26,6 +26,7 @@ back w (x ∷ xs) ys h = back w xs ys h.1
 
 -- a skeleton of a type is none that is missing
 
+-- the missing skeleton is that of no type, whatever its number
 never : (t : CType) (n : ℕ) → no_skeleton ≡ numbered t n → ⊥
 never (base ws) n h = absurd cc
 never (void ws) n h = absurd cc
@@ -37,6 +38,7 @@ kept_where : (b : Bool) (x y z u : Skel) → (y ≡ u → z ≡ u) → (if b the
 kept_where true x y z u g h = h
 kept_where false x y z u g h = g h
 
+-- a skeleton of a type that is found among some is the one found with others behind them
 pub kept : (xs ys : List Numbered) (p : Place) (t : CType) (n : ℕ) → skeleton_among xs p ≡ numbered t n →
     skeleton_among (xs ++ ys) p ≡ numbered t n
 kept [] ys p t n h = absurd (never t n h)

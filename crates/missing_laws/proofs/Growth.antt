@@ -32,6 +32,7 @@ pub record Grows (s t : Names) : Type 0 where
   pub types : Behind s.type_names t.type_names
   pub faults : Behind s.faults t.faults
 
+-- what is known of names grows by nothing
 pub stays : (s : Names) → Grows s s
 stays s = record {
   declared = same s.declared;
@@ -40,6 +41,7 @@ stays s = record {
   faults = same s.faults;
 }
 
+-- what grows to a second and this to a third grows to the third
 pub joins : {a b c : Names} → Grows a b → Grows b c → Grows a c
 joins {a} {b} {c} g h = record {
   declared = further a.declared b.declared c.declared g.declared h.declared;
@@ -68,6 +70,7 @@ pub keep_grows : (own : Option Place) (s : Names) → Grows s (keep own s)
 keep_grows None s = alike s (keep None s) refl refl refl refl
 keep_grows (Some f) s = alike s (keep (Some f) s) refl refl refl refl
 
+-- what is known of names grows by a use
 pub used_grows : (u : Spelling) (c : Bool) (token name : ℕ) (s : Names) → Grows s (used u c token name s)
 used_grows u c token name s = record {
   declared = same s.declared;
@@ -76,6 +79,7 @@ used_grows u c token name s = record {
   faults = more s.faults _;
 }
 
+-- what is known of names grows by the fault of a type that is too large, if it is
 pub sized_grows : (at : Place) (t : CType) (s : Names) → Grows s (sized at t s)
 sized_grows at t s = record {
   declared = same s.declared;
@@ -84,6 +88,7 @@ sized_grows at t s = record {
   faults = more s.faults _;
 }
 
+-- what is known of names grows by a type that is named
 pub type_grows : (at : Place) (t : CType) (s : Names) → Grows s (type_named at t s)
 type_grows at t s = record {
   declared = same s.declared;
@@ -101,6 +106,7 @@ pub tag_grows : (u : Spelling) (alone : Bool) (kind : TagKind) (token tag : ℕ)
     Grows s (tag_used u alone kind token tag s).names
 tag_grows u alone kind token tag s = found_grows _ u kind token tag s
 
+-- what is known of names grows by a tag that is known, which adds nothing to these lists
 tag_known_grows : (tag : Option ℕ) (n : ℕ) (s : Names) → Grows s (tag_known tag n s)
 tag_known_grows None n s = stays s
 tag_known_grows (Some tag) n s = by (is_at_file s)
@@ -109,6 +115,7 @@ tag_known_grows (Some tag) n s = by (is_at_file s)
     by true = alike s (with_key n false tag s) refl refl refl refl
     by false = stays s
 
+-- what is known of names grows by the begin of a body, be it the first of its tag or a second one
 pub begun_grows : (b : Bool) (at : Place) (kind : TagKind) (tag : Option ℕ) (it : Numbered) →
     Grows it.names (begun_in b at kind tag it).names
 begun_grows true at kind tag it = record {
@@ -124,6 +131,7 @@ pub body_grows : (at : Place) (kind : TagKind) (tag : Option ℕ) (it : Numbered
     Grows it.names (begun_body at kind tag it).names
 body_grows at kind tag it = begun_grows (has_body (body_of it.names.aggregates it.number)) at kind tag it
 
+-- what is known of names grows by a declaration here
 pub here_grows : (at : Place) (name : ℕ) (role : Role) (t : CType) (own : Option Place) (s : Names) →
     Grows s (declared_here at name role t own s)
 here_grows at name role t own s = record {
@@ -141,6 +149,7 @@ static_grows : (is_static : Bool) (unit name : ℕ) (s : Names) → Grows s (sta
 static_grows true unit name s = alike s (static_where true unit name s) refl refl refl refl
 static_grows false unit name s = stays s
 
+-- what is known of names grows by the declaration of an object or function
 pub thing_grows : (words : List Keyword) (at : Place) (name : ℕ) (t : CType) (s : Names) →
     Grows s (declared_thing words at name t s)
 thing_grows words at name t s =
@@ -160,6 +169,7 @@ thing_grows words at name t s =
     old : Names
     old = static_where is_static at.0 name (thing_where is_new name at s)
 
+-- what is known of names grows by the declaration of a typedef
 pub typedef_grows : (at : Place) (name : ℕ) (t : CType) (s : Names) → Grows s (declared_typedef at name t s)
 typedef_grows at name t s = record {
   declared = more s.declared _;
@@ -168,6 +178,7 @@ typedef_grows at name t s = record {
   faults = same s.faults;
 }
 
+-- what is known of names grows by a declaration, be it of a typedef, a linked thing or a local object
 pub by_grows : (words : List Keyword) (at : Place) (name : ℕ) (t : CType) (s : Names) →
     Grows s (declared_by words at name t s)
 by_grows words at name t s =
@@ -180,6 +191,7 @@ by_grows words at name t s =
     by false true = thing_grows words at name t s
     by false false = here_grows at name object_role t _ s
 
+-- what is known of names grows by a typedef that is known to name a struct without a tag
 pub known_grows : (words : List Keyword) (name : ℕ) (untagged : Option ℕ) (s : Names) →
     Grows s (typedef_known words name untagged s)
 known_grows words name None s = stays s
@@ -189,6 +201,7 @@ known_grows words name (Some n) s = by (has_word keywords.Typedef words && is_at
     by true = alike s (with_key n true name s) refl refl refl refl
     by false = stays s
 
+-- what is known of names grows by a declarator, be it with a name or without
 pub some_grows : (u : Spelling) (untagged : Option ℕ) (it : Option Named) (words : List Keyword) (t : CType) (s : Names) →
     Grows s (declared_some u untagged it words t s)
 some_grows u untagged None words t s = stays s
@@ -196,12 +209,14 @@ some_grows u untagged (Some it) words t s =
     joins (sized_grows (place u it.token) t s) (joins (by_grows words (place u it.token) (u.key it.name) t _)
     (known_grows words (u.key it.name) untagged _))
 
+-- what is known of names grows by a parameter, be it with a name or without
 pub param_grows : (u : Spelling) (it : Option Named) (i : ℕ) (own : Option Place) (t : CType) (s : Names) →
     Grows s (declared_param u it i own t s)
 param_grows u None i own t s = stays s
 param_grows u (Some it) i own t s =
     joins (sized_grows (place u it.token) t s) (here_grows (place u it.token) (u.key it.name) _ t own _)
 
+-- what is known of names grows by a member, be it with a name or without
 pub member_grows : (u : Spelling) (it : Option Named) (n : ℕ) (t : CType) (s : Names) →
     Grows s (declared_member u it n t s)
 member_grows u None n t s = stays s
@@ -212,6 +227,7 @@ member_grows u (Some it) n t s = record {
   faults = more s.faults _;
 }
 
+-- what is known of names grows by a member without a name
 pub unnamed_grows : (at : Place) (n : ℕ) (t : CType) (s : Names) → Grows s (unnamed_member at n t s)
 unnamed_grows at n t s = record {
   declared = more s.declared _;
@@ -220,6 +236,7 @@ unnamed_grows at n t s = record {
   faults = same s.faults;
 }
 
+-- what is known of names grows by the entry into the body of a function
 pub entered_grows : (at first : Place) (is_plain is_counted : Bool) (s : Names) →
     Grows s (body_entered at first is_plain is_counted s)
 entered_grows at first is_plain true s = record {
@@ -230,6 +247,7 @@ entered_grows at first is_plain true s = record {
 }
 entered_grows at first is_plain false s = alike s (body_entered at first is_plain false s) refl refl refl refl
 
+-- what is known of names grows by faults
 pub faults_grow : (faults : List Fault) (s : Names) → Grows s (with_faults faults s)
 faults_grow faults s = record {
   declared = same s.declared;

@@ -19,6 +19,7 @@ use Rattle.missing_laws.proofs.Found.{front, back}
 use Rattle.missing_laws.proofs.Values.{agrees}
 use Rattle.missing_laws.proofs.Items.{more_none}
 
+-- an expression of a type has the skeleton of this type, where the names in it are settled and what begins is found
 pub has_its : (w : World) (U V W : ℕ → Type 0) (f : Option Place) (e : Expr) (t : CType) → MembersBegin w →
     ExprHas (IsSettled w) U V W e → AreFound w (expr_starts (loud w f) e) →
     (shape_of w.spelling w.names e).type ≡ Some t → HasItsSkeleton w e t

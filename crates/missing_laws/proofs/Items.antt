@@ -99,6 +99,7 @@ pub more_none : (w : World) → more w [] [] ≡ w
 more_none w = ap2 (λ (xs : List Numbered) (ps : List Place). record w { skeletons = xs; sites = ps }) _ _ _ _
     (append-nil w.skeletons) (append-nil w.sites)
 
+-- the constraints of items stay whatever further skeletons and sites there are, where each expression has its type
 pub missing_nothing : (w : World) (items : List Item) → MembersBegin w → LinksAreMet w →
     ItemsHave (IsSettled w) (TokenBegins w) (FirstIsMet w) (RoleHasSkeleton w) items → ItemsHave (HasType w) (TokenBegins w) (FirstIsMet w) (RoleHasSkeleton w) items →
     AreFound w (items_starts (has_access w.lattices) w.spelling w.names items) → (skeletons : List Numbered) (sites : List Place) →

@@ -16,6 +16,7 @@ ap2 f x y u v p q = ap (λ a. f a u) p ∙ ap (f y) q
 pub joined : (xs ys us vs : List Constraint) → xs ≡ ys → us ≡ vs → xs ++ us ≡ ys ++ vs
 joined xs ys us vs p q = ap2 (λ (a b : List Constraint). a ++ b) xs ys us vs p q
 
+-- two choices by equal tests between equal values are equal
 if_same : {A : Type 0} (b c : Bool) (x y u v : A) → b ≡ c → x ≡ y → u ≡ v →
     (if b then x else u) ≡ (if c then y else v)
 if_same true true x y u v e p q = p

@@ -38,6 +38,7 @@ clash : (ds : List Declared) (p q : Place) (d : Declared) → p ≡ q → declar
 clash ds p q d e none there =
     let here : declared_at ds q ≡ None = subst (λ (r : Place). declared_at ds r ≡ None) e none in absurd cc
 
+-- among declarations at different places, each is the one found at its place
 placed : (xs ys : List Declared) (d : Declared) → Differ (xs ++ d ∷ ys) → declared_at (xs ++ d ∷ ys) d.at ≡ Some d
 placed [] ys d h = ap (λ (b : Bool). if b then Some d else declared_at ys d.at) (place_itself d.at)
 placed (x ∷ xs) ys d h = placed_where (is_place x.at d.at) x d _

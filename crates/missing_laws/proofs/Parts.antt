@@ -46,6 +46,7 @@ number_where : (b : Bool) (n x y : ℕ) (h : Bool) → (if b then true else h) �
 number_where true n x y h e g = refl
 number_where false n x y h e g = g e
 
+-- a place among the call sites has the same number with further sites behind them
 site_same : (places more : List Place) (p : Place) (n : ℕ) → has_place places p ≡ true →
     number_among n (places ++ more) p ≡ number_among n places p
 site_same [] more p n h = absurd cc

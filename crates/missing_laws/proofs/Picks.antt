@@ -121,6 +121,7 @@ flagged_all : (t : CType) (all : List Association) → flagged false t all ≡ a
 flagged_all t [] = refl
 flagged_all t (it ∷ others) = ap (λ cs. it.candidate ∷ cs) (flagged_all t others)
 
+-- with some candidate of the type, the flagged associations are those of the type
 flagged_some : (t : CType) (all : List Association) → flagged true t all ≡ candidates_of t all
 flagged_some t [] = refl
 flagged_some t (it ∷ others) = by (is_candidate t it.type) (flagged_some t others)
@@ -131,6 +132,7 @@ flagged_some t (it ∷ others) = by (is_candidate t it.type) (flagged_some t oth
     by true e = ap (λ cs. it.candidate ∷ cs) e
     by false e = e
 
+-- where no association is of a type, there are no candidates of it
 none_of_type : (t : CType) (all : List Association) → has_of_type (Some t) all ≡ false → candidates_of t all ≡ []
 none_of_type t [] e = refl
 none_of_type t (it ∷ others) e = by (is_candidate t it.type) e (λ h. none_of_type t others h)
@@ -141,6 +143,7 @@ none_of_type t (it ∷ others) e = by (is_candidate t it.type) e (λ h. none_of_
     by true e rest = absurd cc
     by false e rest = rest e
 
+-- where some association is of a type, its candidates are not replaced by others
 some_of_type : (t : CType) (all : List Association) (xs : List Candidate) → has_of_type (Some t) all ≡ true →
     or_all (candidates_of t all) xs ≡ candidates_of t all
 some_of_type t [] xs e = absurd cc
@@ -153,6 +156,7 @@ some_of_type t (it ∷ others) xs e = by (is_candidate t it.type) e (λ h. some_
     by true e rest = refl
     by false e rest = rest e
 
+-- the selected candidates are those that are flagged, by whether some association is of the type
 pub selected_is : (t : CType) (all : List Association) → selected t all ≡ flagged (has_of_type (Some t) all) t all
 selected_is t all = by (has_of_type (Some t) all) refl
   where

@@ -17,6 +17,7 @@ use Rattle.missing_laws.proofs.Uses.{NoUse, UsesDiffer}
 
 -- declarations and uses
 
+-- at a place that no declaration has, nothing is declared
 none_declared : (ds : List Declared) (p : Place) → has_place (declared_places ds) p ≡ false → declared_at ds p ≡ None
 none_declared [] p e = refl
 none_declared (d ∷ ds) p e = by (is_place d.at p) e (none_declared ds p)
@@ -31,6 +32,7 @@ pub declared_differ : (ds : List Declared) → AreDifferent (declared_places ds)
 declared_differ [] h = tt
 declared_differ (d ∷ ds) h = (none_declared ds d.at h.0, declared_differ ds h.1)
 
+-- at a place that no use has, there is no use
 no_use : (uses : List NameUse) (p : Place) → has_place (use_places uses) p ≡ false → NoUse uses p
 no_use [] p e = tt
 no_use (it ∷ uses) p e = by (is_place it.at p) e (no_use uses p)
@@ -46,6 +48,7 @@ uses_differ (it ∷ uses) h = (no_use uses it.at h.0, uses_differ uses h.1)
 
 -- skeletons
 
+-- a place that none of some skeletons has is not that of one among them
 other : (xs ys : List Start) (x : Start) (p : Place) → has_place (start_places (xs ++ x ∷ ys)) p ≡ false →
     is_place p x.at ≡ true → ⊥
 other xs ys x p e is = clash xs (subst (λ (q : Place). is_place x.at q ≡ true) (sym (place_is p x.at is))
@@ -68,6 +71,7 @@ found_where : (b : Bool) (x y z : Skel) → (b ≡ true → ⊥) → y ≡ z →
 found_where true x y z g h = absurd (g refl)
 found_where false x y z g h = h
 
+-- where skeletons begin at different places, at the place of one the skeleton found is of its type
 begun : (xs ys : List Start) (x : Start) (n : ℕ) → AreDifferent (start_places (xs ++ x ∷ ys)) →
     (m : ℕ) × (skeleton_among (numbered_from n (xs ++ x ∷ ys)) x.at ≡ numbered x.type m)
 begun [] ys x n h = (
@@ -81,6 +85,7 @@ begun (z ∷ xs) ys x n h = let one = begun xs ys x (n + size z.type) h.1 in (
       (λ e. other xs ys x z.at h.0 e) one.1,
 )
 
+-- a place of the second of two lists is in both together
 has_right : (ps qs : List Place) (p : Place) → has_place qs p ≡ true → has_place (ps ++ qs) p ≡ true
 has_right [] qs p h = h
 has_right (r ∷ ps) qs p h = by (is_place r p) (has_right ps qs p h)
@@ -89,6 +94,7 @@ has_right (r ∷ ps) qs p h = by (is_place r p) (has_right ps qs p h)
     by true h = refl
     by false h = h
 
+-- the place of a skeleton that calls a function is among the call sites
 site_there : (xs ys : List Start) (x : Start) (f : Place) → x.calls ≡ Some f →
     has_place (site_places (xs ++ x ∷ ys)) x.at ≡ true
 site_there [] ys x f e = subst (λ (o : Option Place). has_place (place_of x o ++ site_places ys) x.at ≡ true) (sym e)
@@ -121,6 +127,7 @@ module _ (w : World) (starts : List Start) (skeletons_are : w.skeletons ≡ numb
 
 -- selections
 
+-- a place that none of some selections has is not that of one among them
 other_selection : (xs ys : List Selection) (x : Selection) (p : Place) →
     has_place (selection_places (xs ++ x ∷ ys)) p ≡ false → is_place p x.at ≡ true → ⊥
 other_selection xs ys x p e is = clash xs (subst (λ (q : Place). is_place x.at q ≡ true) (sym (place_is p x.at is))
@@ -143,6 +150,7 @@ flag_where : (b x y z : Bool) → (b ≡ true → ⊥) → y ≡ z → (if b the
 flag_where true x y z g h = absurd (g refl)
 flag_where false x y z g h = h
 
+-- where selections are at different places, the flags at the place of one are its own
 flag_there : (xs ys : List Selection) (x : Selection) (n : ℕ) → AreDifferent (selection_places (xs ++ x ∷ ys)) →
     flag_among (xs ++ x ∷ ys) x.at n ≡ unwrap_or (slice_get x.flags n) false
 flag_there [] ys x n h =

@@ -290,6 +290,7 @@ module _ (p : Program) (formed : AreFormed p.sources) (no_fault : HasNoFault p.s
 pub programs_are_settled : (p : Program) → IsAccepted p → EachSettled p p.sources
 programs_are_settled p h = whole p h.0 h.1 h.2 h.3 p.sources refl
 
+-- where each source of a program is settled, each expression of them has its skeleton
 each_has : (p : Program) (sources : List Source) → EachSettled p sources → EachHasSkeletons p sources
 each_has p [] h = tt
 each_has p (it ∷ sources) h =
@@ -302,6 +303,7 @@ each_has p (it ∷ sources) h =
 pub programs_have_skeletons : (p : Program) → IsAccepted p → EachHasSkeletons p p.sources
 programs_have_skeletons p h = each_has p p.sources (programs_are_settled p h)
 
+-- where each source of a program is settled, no constraint of them stands on what is missing
 each_misses : (p : Program) (sources : List Source) → EachSettled p sources → EachMissesNothing p sources
 each_misses p [] h = tt
 each_misses p (it ∷ sources) h =

@@ -12,6 +12,7 @@ use Rattle.row_rules.specs.Vals.{index_of, Val, a_value, a_place, contents, resu
 
 -- whether an operand is a pointer
 
+-- the skeleton of a type is a reference exactly where the type is a pointer
 pub ref_where : (t : CType) (n : ℕ) → is_ref (numbered t n) ≡ is_pointer t
 ref_where (base ws) n = refl
 ref_where (void ws) n = refl
@@ -29,6 +30,7 @@ not_true : (b : Bool) → not b ≡ true → b ≡ false
 not_true true h = absurd cc
 not_true false h = refl
 
+-- where one of two skeletons is a reference, they are not both none
 one_is_ref : (x y : Skel) → is_ref (if is_ref x then x else y) ≡ true → (not (is_ref x) && not (is_ref y)) ≡ false
 one_is_ref x y h = by (is_ref x) h
   where
@@ -40,6 +42,7 @@ no_vector_where : (wide c : Bool) → c ≡ false → (wide && c) ≡ false
 no_vector_where true c e = e
 no_vector_where false c e = refl
 
+-- where wider C has an index into a vector, neither operand of it is a reference
 vector_where : (wide numbers last r r2 : Bool) → (wide && (numbers && last)) ≡ true → (numbers ≡ true → r ≡ false) →
     (last ≡ true → r2 ≡ false) → (wide && (not r && not r2)) ≡ true
 vector_where true true true r r2 e g l = rw (g refl) rw (l refl) refl

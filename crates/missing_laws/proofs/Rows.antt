@@ -26,6 +26,7 @@ use Rattle.missing_laws.specs.Finding.{AreFound, Begins, FirstIsMet, LinksAreMet
 use Rattle.missing_laws.proofs.Found.{Further, world, begins}
 use Rattle.missing_laws.proofs.Marks.{ap2, joined, annotating_is, indexing_is}
 
+-- what is declared at a place has this place
 pub declared_there : (ds : List Declared) (p : Place) (d : Declared) → declared_at ds p ≡ Some d → d.at ≡ p
 declared_there [] p d e = absurd cc
 declared_there (other ∷ ds) p d e = there (is_place other.at p) refl (λ h. declared_there ds p d h) e

@@ -40,6 +40,7 @@ not_false false h = absurd cc
 abbrev pub Is : Option CType → Type 0
 Is o = (t : CType) × (o ≡ Some t)
 
+-- a place with a type has a value with a type
 pub valued : (s : Shape) → Is s.type → Is (value s)
 valued s h = by s.is_place s.type h
   where
@@ -48,6 +49,7 @@ valued s h = by s.is_place s.type h
     by true (Some t) h = (_, refl)
     by false o h = h
 
+-- a type that is a pointer points at a type
 pointed : (o : Option CType) → Is o → is_no_pointer o ≡ false → Is (some_target o)
 pointed None h p = absurd cc
 pointed (Some (pointer ws t)) h p = (t, refl)
@@ -56,6 +58,7 @@ pointed (Some (void ws)) h p = absurd cc
 pointed (Some (struct ws n)) h p = absurd cc
 pointed (Some (function ws ps r e)) h p = absurd cc
 
+-- where both branches of a condition have a type, their common one is there
 branched : (a b : Option CType) → Is a → Is b → Is (branches_type a b)
 branched None b h l = absurd cc
 branched (Some a) b h l = by (points_to_some a) b l
@@ -65,17 +68,20 @@ branched (Some a) b h l = by (points_to_some a) b l
     by false None l = absurd cc
     by false (Some b) l = (_, refl)
 
+-- a condition whose two values have types has a type
 chosen : (first last : Bool) (a b : Option CType) → Is a → Is b → Is (cond_type first last a b)
 chosen true true a b h l = h
 chosen false true a b h l = h
 chosen true false a b h l = l
 chosen false false a b h l = branched a b h l
 
+-- a sum or difference of two typed operands has a type
 summed : (a b : Option CType) → Is a → Is b → Is (sum_type a b)
 summed None b h l = absurd cc
 summed (Some a) None h l = absurd cc
 summed (Some a) (Some b) h l = (_, refl)
 
+-- a binary operation of two typed operands has a type, whatever its operator
 computed : (p : Punct) (a b : Option CType) → Is a → Is b → Is (binary_type p a b)
 computed p a b h l = by (is_additive p)
   where
@@ -83,6 +89,7 @@ computed p a b h l = by (is_additive p)
     by true = summed a b h l
     by false = (base [], refl)
 
+-- an assignment to a typed place without a fault has a type
 assigned : (s : Shape) (at : Place) → Is s.type → fault_where (not s.is_place) at not_place ≡ [] →
     Is (assigned_shape s).type
 assigned s at h none = by s.is_place (holds_where (not s.is_place) at not_place none)
@@ -91,6 +98,7 @@ assigned s at h none = by s.is_place (holds_where (not s.is_place) at not_place 
     by true e = h
     by false e = absurd cc
 
+-- the address of a typed place has a type
 addressed : (s : Shape) → Is s.type → s.is_place ≡ true → Is (address s)
 addressed s h e = by s.is_place s.type e h
   where
@@ -99,6 +107,7 @@ addressed s h e = by s.is_place s.type e h
     by true None e h = absurd cc
     by true (Some t) e h = (_, refl)
 
+-- an index of two typed operands of which one is a pointer has a type
 indexed : (a b : Option CType) → Is a → Is b → (is_no_pointer a && is_no_pointer b) ≡ false → Is (index_type a b)
 indexed None b h l p = absurd cc
 indexed (Some (pointer ws t)) b h l p = (t, refl)
@@ -122,6 +131,7 @@ indexed_where : (b : Bool) (e : Shape) (o : Option CType) → Is e.type → (b �
 indexed_where true e o h l = h
 indexed_where false e o h l = l refl
 
+-- an index without a fault has a type, be it of a pointer or of a vector in wider C
 indexed_any : (wide : Bool) (e e2 : Shape) → Is e.type → Is (value e) → Is (value e2) →
     (is_no_pointer (value e) && is_no_pointer (value e2) && not (wide && is_base_value (value e))) ≡ false →
     Is (index_shape wide e e2).type
@@ -139,26 +149,31 @@ abbrev pub AssociationsTyped : List Association → Type 0
 AssociationsTyped [] = Unit {0}
 AssociationsTyped (it ∷ others) = Is it.candidate.shape.type × AssociationsTyped others
 
+-- the higher of two types is there where the first is
 higher_typed : (a b : Option CType) → Is a → Is (higher_of a b)
 higher_typed a None h = h
 higher_typed None (Some u) h = absurd cc
 higher_typed (Some t) (Some u) h = (_, refl)
 
+-- the higher of two types is there where the second is
 higher_some : (a b : Option CType) → Is b → Is (higher_of a b)
 higher_some a None h = absurd cc
 higher_some None (Some u) h = (u, refl)
 higher_some (Some t) (Some u) h = (_, refl)
 
+-- the best type by rank is there where the first one is
 ranked_typed : (best : Option CType) (all : List Candidate) → Is best → Is (ranked best all)
 ranked_typed best [] h = h
 ranked_typed best (it ∷ others) h =
     ranked_typed (higher_of best (value it.shape)) others (higher_typed best (value it.shape) h)
 
+-- the first by rank of typed candidates has a type, where there is a candidate
 first_typed : (all : List Candidate) → AllTyped all → (all ≡ [] → ⊥) → Is (first_ranked all)
 first_typed [] h some = absurd (some refl)
 first_typed (it ∷ others) h some =
     ranked_typed (higher_of None (value it.shape)) others (higher_some None (value it.shape) (valued it.shape h.0))
 
+-- typed candidates without the zeros among them are typed
 no_zeros_typed : (all : List Candidate) → AllTyped all → AllTyped (no_zeros all)
 no_zeros_typed [] h = tt
 no_zeros_typed (it ∷ others) h = by it.is_zero (no_zeros_typed others h.1)
@@ -183,6 +198,7 @@ both : (a b : Bool) → a ≡ true → b ≡ true → (a && b) ≡ true
 both true b h k = k
 both false b h k = absurd cc
 
+-- typed candidates all have types, as the test of them says
 have_all : (all : List Candidate) → AllTyped all → have_types all ≡ true
 have_all [] h = refl
 have_all (it ∷ others) h = both (is_some (value it.shape)) (have_types others)
@@ -192,6 +208,7 @@ typed_where : (b : Bool) (o : Option CType) → b ≡ true → Is o → Is (if b
 typed_where true o e h = h
 typed_where false o e h = absurd cc
 
+-- what is picked of typed candidates has a type, where there is a candidate
 picked_typed : (all : List Candidate) → AllTyped all → (all ≡ [] → ⊥) → Is (pick_shape all).type
 picked_typed [] h some = absurd (some refl)
 picked_typed (it ∷ []) h some = h.0
@@ -200,6 +217,7 @@ picked_typed (it ∷ (other ∷ others)) h some =
     typed_where (have_types all) (first_ranked (left_of all)) (have_all all h)
     (first_typed (left_of all) (or_all_typed (no_zeros all) all (no_zeros_typed all h) h) (or_all_some (no_zeros all) all some))
 
+-- the candidates of a type are typed, where the associations are
 of_type_typed : (t : CType) (all : List Association) → AssociationsTyped all → AllTyped (candidates_of t all)
 of_type_typed t [] h = tt
 of_type_typed t (it ∷ others) h = by (is_candidate t it.type) (of_type_typed t others h.1)
@@ -217,6 +235,7 @@ all_some : (all : List Association) → (all ≡ [] → ⊥) → all_candidates 
 all_some [] g = λ e. g refl
 all_some (it ∷ others) g = λ e. cc
 
+-- a selection by a known type among typed associations has a type, where there is one
 selected_typed : (o : Option CType) (all : List Association) → Is o → AssociationsTyped all → (all ≡ [] → ⊥) →
     Is (selected_shape o all).type
 selected_typed None all h k some = absurd cc
@@ -224,6 +243,7 @@ selected_typed (Some t) all h k some = picked_typed (selected t all)
     (or_all_typed (candidates_of t all) (all_candidates all) (of_type_typed t all k) (all_typed all k))
     (or_all_some (candidates_of t all) (all_candidates all) (all_some all some))
 
+-- a call without a fault of what has a type has a type
 called : (o : Option CType) (at : Place) (n : ℕ) → Is o → call_faults at o n ≡ [] → Is (some_result_type o)
 called None at n h none = absurd cc
 called (Some t) at n h none = by t (not_false (points_to_function t)
@@ -240,6 +260,7 @@ called (Some t) at n h none = by t (not_false (points_to_function t)
     by (struct ws n) p = absurd cc
     by (function ws ps r e) p = absurd cc
 
+-- a member that is not lacking, of what has a type, has a type
 membered : (all : List Aggregate) (o : Option CType) (name : ℕ) → Is o → lacks_member all o name ≡ false →
     Is (member_type all o name)
 membered all None name h p = absurd cc

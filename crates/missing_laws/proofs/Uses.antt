@@ -44,6 +44,7 @@ use_where : (b : Bool) (x y z : Use) → (b ≡ true → ⊥) → y ≡ z → (i
 use_where true x y z g h = absurd (g refl)
 use_where false x y z g h = h
 
+-- among uses at different places, each is the one found at its place
 pub use_there : (xs ys : List NameUse) (it : NameUse) → UsesDiffer (xs ++ it ∷ ys)
     → use_at (xs ++ it ∷ ys) it.at ≡ it.use_of
 use_there [] ys it h = ap (λ (b : Bool). if b then it.use_of else use_at ys it.at) (place_itself it.at)
@@ -86,6 +87,7 @@ mutual
 
 -- a function's declarator has a name
 
+-- the declarator of a function with a body declares a name
 pub named_round : (d : Declr) (above : Bool) → is_round_name d above ≡ true → (it : Named) × (declared_name d ≡ Some it)
 named_round (declr_name token name) above e = (record { token = token; name = name }, refl)
 named_round (declr_paren opening attrs d closing) above e = named_round d above e
@@ -121,12 +123,15 @@ pub keeps : (o : Option Place) → (o ≡ None) ⊎ (is_own o ≡ true)
 keeps None = inl refl
 keeps (Some p) = inr refl
 
+-- where own parameters need a skeleton of their function and have it, those of a bare name have it, and others need
+-- none
 pub where_ok : (bare : Bool) (o : Option Place) (h : Having) → OwnOk o h
     → OwnOk (own_where bare o) (having_where bare h)
 where_ok true o h ok = ok
 where_ok false None h ok = tt
 where_ok false (Some p) h ok = tt
 
+-- a binary operator has a level of at most 16
 binary_low : (p : Punct) → ltb 16 (binary_level p + 2) ≡ false
 binary_low signs.BarBar = refl
 binary_low signs.AmpersandAmpersand = refl
@@ -148,6 +153,7 @@ binary_low signs.Slash = refl
 binary_low signs.Percent = refl
 binary_low p = refl
 
+-- an expression has a level of at most 16
 expr_low : (e : Expr) → ltb 16 (expr_level e) ≡ false
 expr_low (operation e comma token e2) = refl
 expr_low (operation e (assign p) token e2) = refl
@@ -183,6 +189,7 @@ expr_low (generic keyword opening e xs closing) = refl
 low : (n m : ℕ) → n ≤ m → ltb 16 m ≡ false → ltb 16 n ≡ false
 low n m h k = let top : m ≤ 16 = ltb-false 16 m k in le-ltb 16 n (omega arith)
 
+-- a sign whose level as a prefix is at most that of its operand is a prefix operator
 pub prefix_is : (p : Punct) (e : Expr) → prefix_level p ≤ expr_level e → IsPrefix p
 prefix_is p e h = by p (low (prefix_level p) (expr_level e) h (expr_low e))
   where

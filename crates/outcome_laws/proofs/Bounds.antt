@@ -13,6 +13,7 @@ pub record AreFew (lattices : List LatticeView) : Type 0 where
   pub lattices_are : length (orders_of lattices) ≤ 16
   pub elements : (n : ℕ) (order : Order) → slice_get (orders_of lattices) n ≡ Some order → size order ≤ 64
 
+-- blocks that are all built give as many lattices as there are blocks
 as_many : (blocks : List BlockView) (lattices : List LatticeView) → AreAllBuilt blocks lattices
     → length lattices ≡ length blocks
 as_many [] [] h = refl
@@ -20,6 +21,7 @@ as_many [] (l ∷ ls) h = absurd h
 as_many (b ∷ bs) [] h = absurd h
 as_many (b ∷ bs) (l ∷ ls) h = ap suc (as_many bs ls h.1)
 
+-- each order of lattices that are built has at most 64 elements
 small : (blocks : List BlockView) (lattices : List LatticeView) → AreAllBuilt blocks lattices → (n : ℕ) (order : Order)
     → slice_get (orders_of lattices) n ≡ Some order → size order ≤ 64
 small [] [] h n order there = absurd cc
@@ -32,6 +34,7 @@ small (b ∷ bs) (l ∷ ls) h zero order there =
     subst (λ (o : Order). size o ≤ 64) same (omega (arith, few, elements))
 small (b ∷ bs) (l ∷ ls) h (suc n) order there = small bs ls h.1 n order there
 
+-- a lattice file reads as at most 16 lattices, each of at most 64 elements
 pub read_few : (wide : Bool) (bytes : List ℕ) (lattices : List LatticeView) → LatticesRead wide bytes lattices
     → AreFew lattices
 read_few wide bytes lattices h = record {

@@ -18,6 +18,7 @@ is_low_line c = eqb c 95
 no_low_line : (digits : List ℕ) → IsNumeral digits → All (λ c. is_low_line c ≡ false) digits
 no_low_line digits h = All-weaker IsDigit (λ c. is_low_line c ≡ false) (λ c is. ne_eqb c 95 (λ same. omega arith)) digits h.decimal
 
+-- digits and groups behind them, each with a low line before it, are cut at the low lines into these parts
 cut : (digits : List ℕ) (groups : List (List ℕ)) → IsNumeral digits → All IsNumeral groups →
     slice_split is_low_line (digits ++ flat_map group groups) ≡ digits ∷ groups
 cut digits [] h all = rw append-nil (slice_split_none is_low_line digits (no_low_line digits h))
@@ -26,6 +27,7 @@ cut digits (more ∷ groups) h all =
     ∙ ap (λ (parts : List (List ℕ)). digits ∷ parts)
     (cut more groups (All-head IsNumeral more groups all) (All-tail IsNumeral more groups all))
 
+-- groups of numerals that are spelled by the same bytes are the same groups
 groups_once : (one other : List (List ℕ)) → All IsNumeral one → All IsNumeral other
     → flat_map group one ≡ flat_map group other → one ≡ other
 groups_once [] [] all each same = refl
@@ -36,6 +38,7 @@ groups_once (x ∷ xs) (y ∷ ys) all each same =
     sym (cut x xs (All-head IsNumeral x xs all) (All-tail IsNumeral x xs all)) ∙ ap (λ (bytes : List ℕ). slice_split is_low_line bytes) rest
     ∙ cut y ys (All-head IsNumeral y ys each) (All-tail IsNumeral y ys each)
 
+-- two readings of the bytes of an index word give the same list of numbers
 words_once : (bytes one other : List ℕ) → IsIndexWord bytes one → IsIndexWord bytes other → one ≡ other
 words_once bytes one other h k =
     let both : 36 ∷ flat_map group h.groups ≡ 36 ∷ flat_map group k.groups = sym h.spelled ∙ k.spelled in
@@ -45,6 +48,7 @@ words_once bytes one other h k =
 
 -- ascending lists with the same members
 
+-- in an ascending list each number behind the first is above it
 above : (n : ℕ) (ns : List ℕ) → AreAscending (n ∷ ns) → (m k : ℕ) → k < length ns → slice_index_or ns k m ≡ m → n < m
 above n [] up m k less is = absurd (omega (arith, less))
 above n (x ∷ xs) up m zero less is = omega (arith, up.0, is)
@@ -67,6 +71,7 @@ further n ns m (suc k) over less is = (k, omega (arith, less), is)
 none_there : (m : ℕ) → Contains [] m → ⊥
 none_there m has = omega (arith, has.1)
 
+-- two ascending lists with the same members are one list
 ascending_once : (one other : List ℕ) → AreAscending one → AreAscending other
     → ((n : ℕ) → Contains one n ↔ Contains other n) → one ≡ other
 ascending_once [] [] up rising same = refl
@@ -90,6 +95,7 @@ ascending_once (x ∷ xs) (y ∷ ys) up rising same =
     )) in
     λ i. head i ∷ tail i
 
+-- the bytes of an index word say one ascending list of numbers
 pub one_set_of_indices : OneSetOfIndices
 one_set_of_indices bytes set other h k =
     let words = words_once bytes h.written k.written h.spelled k.spelled in

@@ -104,6 +104,7 @@ module _ (scene : Scene) (sys : System) (unit : Option ℕ) where
   text_once are _ _ a b e f (RejectedWith _ is) (AcceptedWith _ words so written) = absurd cc
   text_once are _ _ a b e f (RejectedWith _ is) (RejectedWith _ so) = absurd cc
 
+-- a program over lattices is accepted or rejected and not both, and what is accepted has one text
 pub one_judgement : OneJudgement
 one_judgement scene sys unit are accepted text h = record {
   only = λ other words k. judged_once scene sys unit accepted other text words h k;

@@ -65,6 +65,7 @@ module _ (entries : List Entry) (pairs : List Pair) where
       by (inr lacks) = lacks (h.bounded.meets refused.a refused.b below_a below_b).0 (h.bounded.meets refused.a refused.b below_a below_b).1
   built_not_refused lattice NoMemory h reason refused = reason refl
 
+-- a block builds one lattice
 built_one : (block : BlockView) (a b : LatticeView) → IsBuilt block a → IsBuilt block b → a ≡ b
 built_one block a b h k = λ i. record {
   entries = (h.built.same ∙ sym k.built.same) i;
@@ -72,6 +73,7 @@ built_one block a b h k = λ i. record {
   flows = (h.flows ∙ sym k.flows) i;
 }
 
+-- blocks build one list of lattices
 all_built_one : (blocks : List BlockView) (a b : List LatticeView) → AreAllBuilt blocks a → AreAllBuilt blocks b → a ≡ b
 all_built_one [] [] [] h k = refl
 all_built_one [] [] (y ∷ b) h k = absurd k
@@ -80,6 +82,7 @@ all_built_one (block ∷ blocks) [] b h k = absurd h
 all_built_one (block ∷ blocks) (x ∷ a) [] h k = absurd k
 all_built_one (block ∷ blocks) (x ∷ a) (y ∷ b) h k = λ i. built_one block x y h.0 k.0 i ∷ all_built_one blocks a b h.1 k.1 i
 
+-- each block of a file whose blocks are all built has a lattice of its own
 built_at : (blocks : List BlockView) (lattices : List LatticeView) (at : ℕ) (block : BlockView)
     → AreAllBuilt blocks lattices →
     slice_get blocks at ≡ Some block → (lattice : LatticeView) × IsBuilt block lattice
@@ -89,17 +92,20 @@ built_at (b ∷ blocks) (l ∷ lattices) zero block h there =
     let e : b ≡ block = cc in (l, subst (λ (x : BlockView). IsBuilt x l) e h.0)
 built_at (b ∷ blocks) (l ∷ lattices) (suc at) block h there = built_at blocks lattices at block h.1 there
 
+-- an index at which there is a lattice is below their count
 get_within : (lattices : List LatticeView) (at : ℕ) (l : LatticeView) → slice_get lattices at ≡ Some l
     → at < length lattices
 get_within [] at l e = absurd cc
 get_within (x ∷ xs) zero l e = omega arith
 get_within (x ∷ xs) (suc at) l e = let under : at < length xs = get_within xs at l e in omega arith
 
+-- the bytes of a lattice file read as one list of lattices
 reads_once : (wide : Bool) (bytes : List ℕ) (a b : List LatticeView) → Reads wide bytes a → Reads wide bytes b → a ≡ b
 reads_once wide bytes a b h k =
     all_built_one h.blocks a b h.built
     (subst (λ (blocks : List BlockView). AreAllBuilt blocks b) (one_reading wide k.blocks h.blocks bytes k.text h.text) k.built)
 
+-- where all blocks are built, none is the first that is refused
 no_refused_block : (blocks : List BlockView) (lattices : List LatticeView) (number : ℕ) (reason : LatticeFault)
     → AreAllBuilt blocks lattices →
     IsFirstRefused blocks number reason → ⊥
@@ -107,6 +113,7 @@ no_refused_block blocks lattices number reason h refused =
     let built = built_at blocks lattices refused.at refused.block h refused.there in
     built_not_refused refused.block.entries refused.block.pairs built.0 reason built.1.built refused.reason refused.refused
 
+-- bytes that read as lattices have no fault but want of memory
 no_fault : (wide : Bool) (bytes : List ℕ) (lattices : List LatticeView) → Reads wide bytes lattices
     → (fault : LatticeFileFault) → fault ≢ OutOfMemory →
     IsFileFault wide bytes fault → ⊥

@@ -94,6 +94,7 @@ answered_once it name _ _ _ _ (Unnamed h) (Unnamed k) = (refl, λ text. refl)
 
 -- the signatures, or why there are none
 
+-- of two numbers one is below the other, or they are equal
 in_order : (n m : ℕ) → (n < m) ⊎ ((n ≡ m) ⊎ (m < n))
 in_order zero zero = inr (inl refl)
 in_order zero (suc m) = inl (omega arith)
@@ -178,6 +179,7 @@ module _ (one_text : OneText) (it : Judging) (are : AreLattices it.scene.lattice
 
 -- a saved report, and a saved certificate
 
+-- a report that is checked comes to one status and one text
 check_once : (it : Judging) (bytes : List ℕ) (s t : Status) (x y : List ℕ) → IsChecked it bytes s x
     → IsChecked it bytes t y → Same s t x y
 check_once it bytes _ _ _ _ (Holding h never) (Holding k no_more) = (refl, λ text. refl)
@@ -192,12 +194,14 @@ check_once it bytes _ _ _ _ (Failing line code h) (Failing other tag k) =
 abbrev verdict_said : Verdict → Status → List ℕ → Type 0
 verdict_said found s x = (s ≡ verdict_status found) × (x ≡ verdict_text found)
 
+-- what is verified is the status and the text of a verdict that the certificate comes to
 verdict_of : (it : Judging) (bytes : List ℕ) (s : Status) (x : List ℕ) → IsVerified it bytes s x
     → (found : Verdict) × CertificateComesTo it.system (orders_of it.scene.lattices) bytes found × verdict_said found s x
 verdict_of it bytes _ _ (Proving h accepted) = (Holds, h, (refl, refl))
 verdict_of it bytes _ _ (Breaking lattice rule h) = (Fails lattice rule, h, (refl, refl))
 verdict_of it bytes _ _ (NoProof line code h) = (Unread line code, h, (refl, refl))
 
+-- a certificate over bounded constraints and lattices comes to one status and one text, where its verdict is one
 verified_once : OneVerdict → (it : Judging) → IsBounded it.system (orders_of it.scene.lattices)
     → (bytes : List ℕ) (s t : Status) (x y : List ℕ)
     → IsVerified it bytes s x → IsVerified it bytes t y → Same s t x y
@@ -332,6 +336,7 @@ module _ (one_unit : OneUnitAtMost) (one_certificate : OneCertificate) (one_verd
 
 -- the lattices
 
+-- the lattices that blocks build are lattices
 built_lattices : (blocks : List BlockView) (lattices : List LatticeView) → AreAllBuilt blocks lattices
     → AreLattices lattices
 built_lattices [] [] h n view there = absurd cc
@@ -409,6 +414,7 @@ module _ (one_unit : OneUnitAtMost) (one_certificate : OneCertificate) (one_verd
       let same : number ≡ other = cc in
       made_one number s t x y h (subst (λ (n : ℕ). OfMade n t y) (sym same) k)
 
+-- words and the bytes of the files have one status, and one text where that status has one
 pub one_outcome : OneUnitAtMost → OneCertificate → OneVerdict → OneText → OneOutcome
 one_outcome one_unit one_certificate one_verdict one_text words inputs _ _ _ _ (WithoutMeaning none) (WithoutMeaning none_too) = (refl, λ text. refl)
 one_outcome one_unit one_certificate one_verdict one_text words inputs _ _ _ _ (WithoutMeaning none) (WithMeaning task t y means k) = absurd cc

@@ -19,6 +19,7 @@ use Rattle.outcome_laws.proofs.Tokens.{one_list_of_tokens}
 use Rattle.outcome_laws.proofs.Indices.{one_set_of_indices}
 use Rattle.outcome_laws.proofs.Units.{unit_once, unit_not_refused, no_first_fault}
 
+-- tokens by words that mean the same as other words are tokens by the other words, of unit 0
 lexes_by : (wide : Bool) (words meanings : Meanings) → MeansTheSame words meanings → (bytes : List ℕ) (lexed : Lexed)
     → preludes.Lexes wide words bytes lexed →
     Lexes 0 wide meanings bytes lexed
@@ -84,6 +85,7 @@ module _ (one_unit : OneUnitAtMost) (wide : Bool) (meanings : Meanings) (bytes :
       (subst (λ (it : UnitRead). HasNoFault (sources_in (it ∷ []))) one h.shaped) refused.4
   prelude_sound words others unit marks mean same h NoMemory reason refused = reason refl
 
+-- bytes that are a prelude are one unit with one list of index numbers, and have no fault
 pub one_prelude : OneUnitAtMost → OnePrelude
 one_prelude one_unit wide words meanings bytes unit marks mean h = record {
   only = λ others other said same k. parses_once one_unit wide meanings bytes words others unit other mean same h.parses k.parses;

@@ -95,6 +95,7 @@ module _ (unit : ℕ) (wide : Bool) (meanings : Meanings) (bytes : List ℕ) whe
       reason (refused-once unit wide words bytes fault refused lexed.tokens one.0 lexed.marks
       (spelled_by unit wide meanings words (λ word. sym (mean word)) bytes lexed.tokens one.0 lexed.marks one.1))
 
+-- the bytes of a unit that spell tokens spell one list of them, and are refused nowhere
 pub one_list_of_tokens : OneListOfTokens
 one_list_of_tokens unit wide meanings bytes lexed h = record {
   only = λ other k. lexes_once unit wide meanings bytes lexed other h k;

@@ -37,6 +37,7 @@ module _ (one_unit : OneUnitAtMost) (number : ℕ) (wide : Bool) (meanings : Mea
 none_first : (fault : Fault) (all : List Fault) → all ≡ [] → IsFirst fault all → ⊥
 none_first fault all is h = let has = subst (λ (faults : List Fault). Contains faults fault) is h.there in omega (arith, has.1)
 
+-- where there are no faults, no fault but want of memory is the first
 pub no_first_fault : (fault : ShapeFault) (all : List Fault) → fault ≢ shapes.NoMemory → all ≡ []
     → IsFirstUnlessMemory fault all → ⊥
 no_first_fault (shapes.Undeclared unit token) all reason none h = none_first _ all none h

@@ -4,11 +4,13 @@ use Rattle.std.proofs.lemmas.List.Elements.{All-nil, All-cons}
 use Rattle.outside.specs.Readings.{Reading, End, Going, Whole, Broken, Agrees, MayGive, at_last, content_of, ended, given, goes_on}
 use Rattle.outside.specs.Memory.{AreRead, IsLeft, shown}
 
+-- a reading that leaves a rest of a file may have been given by it
 may_give : (end : End) (content bytes rest : List ℕ) → IsLeft end content bytes rest → MayGive end content bytes
 may_give Going content bytes rest is = (rest, is)
 may_give Whole content bytes rest is = is.0
 may_give Broken content bytes rest is = is
 
+-- the bytes of a reading are the first ones of its file, however it stands
 broken : (end : End) (content bytes rest : List ℕ) → IsLeft end content bytes rest
     → (more : List ℕ) × (content ≡ bytes ++ more)
 broken Going content bytes rest is = (rest, is)

@@ -47,16 +47,19 @@ NamedAt s p g (x ∷ []) =
     (x.at ≡ p) × (d : Declared) × (declared_at s.declared p ≡ Some d) × (x.owner ≡ owner_there s g d)
 NamedAt s p g (x ∷ (y ∷ xs)) = ⊥
 
+-- what begins fresh at a place is at most one skeleton, at that place
 fresh_one : (p : Place) (e : Option Place) (xs : List Start) → FreshAt p e xs → OneAt p xs
 fresh_one p e [] h = tt
 fresh_one p e (x ∷ []) h = h.0
 fresh_one p e (x ∷ (y ∷ xs)) h = h
 
+-- what begins at a place for a declared name is at most one skeleton, at that place
 named_one : (s : Names) (p : Place) (g : Option Place) (xs : List Start) → NamedAt s p g xs → OneAt p xs
 named_one s p g [] h = tt
 named_one s p g (x ∷ []) h = h.0
 named_one s p g (x ∷ (y ∷ xs)) h = h
 
+-- a fresh skeleton at any place is of the function where its owner is that function or nobody
 pub fresh_begins : (p : Place) (e f : Option Place) (xs : List Start) → IsOwn f e → FreshAt p e xs → BeginsIn xs f p
 fresh_begins p e f [] own h it is = absurd cc
 fresh_begins p e f (x ∷ []) own h it is = by (is_place x.at p) is
@@ -85,6 +88,8 @@ pub placed_joined : (s : Names) (f : Option Place) (xs ys : List Start) → AllP
 placed_joined s f [] ys h k = k
 placed_joined s f (x ∷ xs) ys h k = (h.0, placed_joined s f xs ys h.1 k)
 
+-- fresh skeletons are placed in the function where no name is declared at their place and the function or nobody owns
+-- them
 fresh_placed : (s : Names) (p : Place) (e f : Option Place) (xs : List Start) → declared_at s.declared p ≡ None →
     IsOwn f e → FreshAt p e xs → AllPlaced s f xs
 fresh_placed s p e f [] none own h = tt
@@ -98,6 +103,7 @@ fresh_placed s p e f (x ∷ []) none own h = (
 )
 fresh_placed s p e f (x ∷ (y ∷ xs)) none own h = absurd h
 
+-- skeletons of declared names are placed in the function where it, or nothing, is around their declaration
 named_placed : (s : Names) (p : Place) (g f : Option Place) (xs : List Start) → IsOwn f g → NamedAt s p g xs →
     AllPlaced s f xs
 named_placed s p g f [] own h = tt
@@ -117,6 +123,7 @@ named_placed s p g f (x ∷ []) own h = (
     found c d e = cc
 named_placed s p g f (x ∷ (y ∷ xs)) own h = absurd h
 
+-- the first of placed skeletons that begins at a place is placed
 pub placed_at : (s : Names) (f : Option Place) (xs : List Start) (p : Place) (it : Start) → AllPlaced s f xs →
     start_at xs p ≡ Some it → IsPlaced s f it
 placed_at s f [] p it h is = absurd cc

@@ -26,12 +26,14 @@ pub record Laws : Type 0 where
   pub parts : AllPartsInside
   pub found : SkeletonsAtAreOwned
 
+-- variables that an owner has are within another one where the first is this one or nobody
 owned_in : (own : ℕ → Owner) (o owner : Owner) (vs : List ℕ) → (o ≡ owner) ⊎ (o ≡ Nobody) → AllOwned own o vs →
     AllIn own owner vs
 owned_in own o owner [] is h = tt
 owned_in own o owner (v ∷ vs) (inl e) h = (inl (h.0 ∙ e), owned_in own o owner vs (inl e) h.1)
 owned_in own o owner (v ∷ vs) (inr e) h = (inr (h.0 ∙ e), owned_in own o owner vs (inr e) h.1)
 
+-- where no skeleton begins at a place, the skeleton found there is none
 none_at : (starts : List Start) (n : ℕ) (p : Place) → start_at starts p ≡ None →
     skeleton_among (numbered_from n starts) p ≡ no_skeleton
 none_at [] n p e = refl
@@ -43,6 +45,7 @@ none_at (head ∷ starts) n p e = by (is_place head.at p) e (none_at starts (n +
     by true e more = absurd cc
     by false e more = more e
 
+-- what begins for nobody at a place begins there for any function
 pub nobodys : (starts : List Start) (f : Option Place) (p : Place) → BeginsIn starts None p → BeginsIn starts f p
 nobodys starts f p h it e = by (h it e)
   where

@@ -56,6 +56,7 @@ use Rattle.owned_laws.proofs.TapeLaws.Turns.{declares_its, Declaring, quiet_was,
 abbrev Has : List Start → Place → Type 0
 Has xs p = start_at xs p ≡ None → ⊥
 
+-- what begins in the first of two lists of skeletons begins in both together
 has_left : (xs ys : List Start) (p : Place) → Has xs p → Has (xs ++ ys) p
 has_left xs ys p h none = h (left xs ys p none)
   where
@@ -68,6 +69,7 @@ has_left xs ys p h none = h (left xs ys p none)
         by true e next = absurd cc
         by false e next = next e
 
+-- what begins in the second of two lists of skeletons begins in both together
 has_right : (xs ys : List Start) (p : Place) → Has ys p → Has (xs ++ ys) p
 has_right [] ys p h none = h none
 has_right (x ∷ xs) ys p h none = by (is_place x.at p) none (has_right xs ys p h)

@@ -27,6 +27,7 @@ use Rattle.row_rules.specs.RowSteps.Rounds.{Rounds}
 use Rattle.row_rules.specs.RowSteps.Rounds as rounds
 use Rattle.row_rules.specs.RowSteps.Steps.{carrying, step}
 
+-- the open declarations behind an op, by those before it
 abbrev pub opens : Op → List OpenDeclaration → List OpenDeclaration
 opens (ops.Spec specs.SpecsEnd) ds = record { name = None; declared = None } ∷ ds
 opens (ops.Declr (declrs.DeclName token name)) ds = changed (with_name token) ds
@@ -44,6 +45,7 @@ carrying_opens : (aims : Bool) (pointer : Skel) (st : State) → (carrying aims 
 carrying_opens true pointer st = refl
 carrying_opens false pointer st = refl
 
+-- a step of skeletons opens and ends the declarations that the op does
 pub row_opens : (w : World) (st : State) (op : Op) → (step w st op).declarations ≡ opens op st.declarations
 row_opens w st (ops.Expr (exprs.Comma token)) = refl
 row_opens w st (ops.Expr (exprs.Prefix sign token last aims)) = carrying_opens (aims && is_star sign) (value_at 0 st) st
@@ -63,6 +65,7 @@ row_opens w st (ops.Declr op) = refl
 row_opens w st (ops.Stmt stmts.Quiet) = refl
 row_opens w st (ops.Stmt op) = refl
 
+-- a step of shapes opens and ends the declarations that the op does
 pub shape_opens : (u : Spelling) (s : Names) (st : shapes.State) (op : Op) →
     (shape_steps.step u s st op).declarations ≡ opens op st.declarations
 shape_opens u s st (ops.Expr (exprs.Comma token)) = refl
@@ -127,6 +130,7 @@ stmt_access : (access : Bool) (ds : List OpenDeclaration) (r : Rounds) (op : Stm
 stmt_access access ds r stmts.Quiet = refl
 stmt_access access ds r op = refl
 
+-- whether accesses are bounded plays no part in a step of rounds, and stays as it is
 pub step_access : (access : Bool) (ds : List OpenDeclaration) (r : Rounds) (op : Op) →
     rounds.round_step ds (with_access access r) op ≡ with_access access (rounds.round_step ds r op)
 step_access access ds r (ops.Expr op) = refl

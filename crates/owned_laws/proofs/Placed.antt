@@ -16,6 +16,7 @@ use Rattle.owned_laws.specs.Contexts.{ContextsAlong}
 use Rattle.owned_laws.proofs.Opening.{Alike, alike, with_access, step_access}
 use Rattle.owned_laws.proofs.Begin.{AllPlaced, placed_joined, op_placed}
 
+-- along the tape of an item each skeleton is placed in the function of the item
 pub tape_placed : (access : Bool) (w : World) (t : Option ℕ) (tape : List Op) (sst : shapes.State) (st : State) →
     Alike w sst st → ContextsAlong w t st tape → KeysAreApart w.spelling w.names tape →
     AllPlaced w.names (function_at w.spelling w.names t)

@@ -10,6 +10,7 @@ use Rattle.owned_laws.proofs.ScopeLaws.Places.{has_not, has_not_left, has_not_ri
 
 -- joined lists
 
+-- where nothing begins at a place in a first list, joined lists begin there what the second does
 pub none_before : (xs ys : List Start) (p : Place) → start_at xs p ≡ None → start_at (xs ++ ys) p ≡ start_at ys p
 none_before [] ys p e = refl
 none_before (x ∷ xs) ys p e = by (is_place x.at p) e (none_before xs ys p)
@@ -20,11 +21,13 @@ none_before (x ∷ xs) ys p e = by (is_place x.at p) e (none_before xs ys p)
     by true e more = absurd cc
     by false e more = more e
 
+-- where nothing begins at a place in a second list, joined lists begin there what the first does
 pub none_behind : (xs ys : List Start) (p : Place) → start_at ys p ≡ None → start_at (xs ++ ys) p ≡ start_at xs p
 none_behind [] ys p e = e
 none_behind (x ∷ xs) ys p e =
     ap (λ (o : Option Start). if is_place x.at p then Some x else o) (none_behind xs ys p e)
 
+-- the sites of two lists of skeletons in a row are those of the first, then those of the second
 sites_joined : (xs ys : List Start) → site_places (xs ++ ys) ≡ site_places xs ++ site_places ys
 sites_joined [] ys = refl
 sites_joined (x ∷ xs) ys =
@@ -40,6 +43,7 @@ pub record Kept (places : List Place) (starts : List Start) : Type 0 where
 pub none_kept : Kept [] []
 none_kept = record { begins = λ p e. refl; sites = λ p e. refl; differ = λ h. tt }
 
+-- skeletons that begin at given places, and others that do so at others, together begin at both
 pub joined_kept : (ps qs : List Place) (xs ys : List Start) → Kept ps xs → Kept qs ys → Kept (ps ++ qs) (xs ++ ys)
 joined_kept ps qs xs ys h k = record {
   begins = λ p e. none_before xs ys p (h.begins p (has_not_left ps qs p e)) ∙ k.begins p (has_not_right ps qs p e);
@@ -72,6 +76,7 @@ single_differ : (x : Start) (calls : Option Place) → AreDifferent (place_of x 
 single_differ x None = tt
 single_differ x (Some f) = (refl, tt)
 
+-- at most one skeleton, at a place, begins at no place but that
 pub one_kept : (p : Place) (xs : List Start) → OneAt p xs → Kept (p ∷ []) xs
 one_kept p [] h = record { begins = λ q e. refl; sites = λ q e. refl; differ = λ d. tt }
 one_kept p (x ∷ []) h = record {

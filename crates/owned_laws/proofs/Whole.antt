@@ -73,6 +73,7 @@ apart_right : (u : Spelling) (s : Names) (xs ys : List Op) → KeysAreApart u s 
 apart_right u s [] ys h = h
 apart_right u s (op ∷ xs) ys h = apart_right u s xs ys h.1
 
+-- sources that are read are sound
 sound_of : (sources : List Source) → All IsRead sources → All IsSound sources
 sound_of [] h = All-nil IsSound
 sound_of (it ∷ sources) h =
@@ -100,6 +101,7 @@ first_is bodies d first role =
     (subst (λ (x : Place). is_place d.at x ≡ true) first (place_itself d.at))
     ∙ ap (λ (r : Role). if is_function_role r then true else has_place bodies d.at) role
 
+-- a function that is numbered among declarations is so with one declaration more in front
 one_more : (f : Place → Place) (bodies : List Place) (x : Declared) (ds : List Declared) (q : Place) →
     has_place (map f (functions_among bodies ds)) (f q) ≡ true → has_place (map f (functions_among bodies (x ∷ ds))) (f q) ≡ true
 one_more f bodies x ds q has = on (is_first_function bodies x)
@@ -109,6 +111,7 @@ one_more f bodies x ds q has = on (is_first_function bodies x)
     on true = has_right (f x.at ∷ []) (map f (functions_among bodies ds)) (f q) has
     on false = has
 
+-- what is first declared at a place as a function is among the functions that are numbered, by its link
 function_numbered : (f : Place → Place) (bodies : List Place) (ds : List Declared) (q : Place) (d : Declared)
     → declared_at ds q ≡ Some d →
     is_first_function bodies d ≡ true → has_place (map f (functions_among bodies ds)) (f q) ≡ true
@@ -141,6 +144,7 @@ some_joined : (s : Names) (xs ys : List Start) → AllSome s xs → AllSome s ys
 some_joined s [] ys h k = k
 some_joined s (x ∷ xs) ys h k = (h.0, some_joined s xs ys h.1 k)
 
+-- the first skeleton that begins at a place is placed in some function, where each is
 some_at : (s : Names) (xs : List Start) (p : Place) (it : Start) → AllSome s xs → start_at xs p ≡ Some it →
     (g : Option Place) × IsPlaced s g it
 some_at s [] p it h is = absurd cc
@@ -160,12 +164,14 @@ one_low h k low = omega (arith, low)
 others_low : (h k : ℕ) → max h k ≤ 500 → k ≤ 500
 others_low h k low = omega (arith, low)
 
+-- the first item of a unit is a unit by itself
 one_unit : (all : List Lexeme) (item : Item) (items : List Item) → IsUnit all (item ∷ items) → IsUnit all (item ∷ [])
 one_unit all item items h = record {
   parts = All-cons (IsItem all) item [] (All-head (IsItem all) item items h.parts) (All-nil (IsItem all));
   low = one_low (item_height item + 1) (unit_height items) h.low;
 }
 
+-- the items of a unit behind the first are a unit by themselves
 other_units : (all : List Lexeme) (item : Item) (items : List Item) → IsUnit all (item ∷ items) → IsUnit all items
 other_units all item items h = record {
   parts = All-tail (IsItem all) item items h.parts;

@@ -15,6 +15,7 @@ order_there : (lattices : List LatticeView) (n : ℕ) (order : Order) → slice_
     (view : LatticeView) × (slice_get lattices n ≡ Some view) × (view.order ≡ order)
 order_there lattices n order there = view_of (slice_get lattices n) order (sym (slice_get-map (λ (view : LatticeView). view.order) lattices n) ∙ there)
 
+-- the orders of lattices that are lattices are orders
 pub all_ordered : (lattices : List LatticeView) → AreLattices lattices → AreOrders (orders_of lattices)
 all_ordered lattices are lattice order there =
     let it = order_there lattices lattice order there in

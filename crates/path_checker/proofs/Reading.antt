@@ -22,6 +22,7 @@ Turns section line held n lines (Some to) = (goes_on to (keep_line n line held) 
 past : (n m : ℕ) → n + 1 + m ≡ n + suc m
 past n m = omega arith
 
+-- a line that may stand in a section leaves the proofs as they will be, in each section
 turns : (section : Section) (line : Line) (p : List Steps) (ss : List (List PathStep)) (st : List PathStep) (n : ℕ) (lines : List Line) →
     let held : Held = record { section = section; proofs = p; subs = ss; steps = st } in IsClear section held → Turns section line held n lines (next section line)
 turns Start Rejected p ss st n lines clear = (refl, clear)
@@ -72,6 +73,7 @@ cleared InError held clear = clear
 cleared (InSub k) held clear = tt
 cleared InPath held clear = tt
 
+-- the proofs that will be given do not depend on the section that is held
 moved : (to : Section) (held : Held) (n : ℕ) (lines : List Line)
     → goes_on to (record held { section = to }) n lines ≡ goes_on to held n lines
 moved Start held n lines = refl
@@ -115,6 +117,7 @@ pub lines_of-whole : (text : List ℕ) → slice_split (λ b. b == 10) text ≡ 
 lines_of-whole [] whole = refl
 lines_of-whole (b ∷ text) whole = ap lines_in whole
 
+-- no line but those of a report may stand in any section
 pub no_other : (section : Section) → next section Other ≡ None
 no_other Start = refl
 no_other Opened = refl

@@ -34,6 +34,7 @@ same_path sys lattices path lattice elem see before (s ∷ steps) =
     ap (fault_or (rule_at sys (order_at lattices lattice) (place sys path lattice elem before (see s) (map see steps))) (line_of s))
     (same_path sys lattices path lattice elem see (see s ∷ before) steps)
 
+-- over lattices the fault of sub-paths that is looked for is that of the definition in the lattice's order
 pub same_subs : (sys : System) (lattices : List LatticeView) (lattice elem : ℕ) (earlier subs : List (List PathStep)) →
     subs_faults_for sys (Some lattices) lattice elem earlier subs ≡ subs_fault sys (order_at lattices lattice) lattice elem earlier subs
 same_subs sys lattices lattice elem earlier [] = refl
@@ -71,6 +72,7 @@ stray_rule : (sys : System) (p : Place) → fails_b1 p ≡ true → Some B1 ≡ 
 unfolding rule_at
 stray_rule sys p is = rw is refl
 
+-- at a place of a sub-path the rules of a walk are those of a path in no order
 sub_rule : (sys : System) (home : Owner) (p : Place) → p.path ≡ Sub home → walk_rule_at sys p ≡ rule_at sys no_order p
 sub_rule sys home p is = by_bound (is_bound p.step) refl
   where
@@ -79,6 +81,7 @@ sub_rule sys home p is = by_bound (is_bound p.step) refl
     by_bound false e = refl
     by_bound true e = stray_rule sys p (fails p home is e)
 
+-- the fault of a walk's sub-paths that is looked for is that of the definition in no order
 pub same_walk_subs : (sys : System) (lattice : ℕ) (earlier subs : List (List PathStep)) →
     subs_faults_for sys None lattice 0 earlier subs ≡ subs_fault sys no_order lattice 0 earlier subs
 same_walk_subs sys lattice earlier [] = refl

@@ -16,6 +16,7 @@ unfolding and_then
 run_fails turn shrinks a s ts whole same (errors.Fault fault token) is = sym same ∙ run_is turn shrinks a s ts ∙ rw is refl
 run_fails turn shrinks a s ts whole same errors.NoMemory is = tt
 
+-- a turn that always takes a token is the turn of a loop
 pub is_loop : {S : Type 0} (turn : Turn S) → TurnShrinks turn → IsLoop turn
 is_loop turn shrinks = record {
   takes = λ a next s t ts rest is. shrinks a s ts (record { tree = next; scopes = t; rest = rest }) is;

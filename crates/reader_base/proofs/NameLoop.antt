@@ -17,6 +17,7 @@ name_shrinks : (any : Bool) → Shrinks (if any then name_at else identifier_at)
 name_shrinks true s ts x e = omega (arith, name_falls s ts x e)
 name_shrinks false s ts x e = identifier_shrinks s ts x e
 
+-- the next name behind a comma, of any kind or no typedef, leaves no more tokens than it was given
 next_falls : (any : Bool) (comma : ℕ) → Falls (next_name (if any then name_at else identifier_at) comma)
 next_falls any comma s ts x e =
     let a = bind_ok e in

@@ -31,6 +31,7 @@ module _ (ren : Renaming) (sys other : System) (is : IsRenamed ren sys other) wh
     printed_comes : (v r : ℕ) → Printed other lattice order (ren.vars.to v) r → Printed sys lattice order v r
     printed_comes v r h = record { can = stays_pulled ren sys other is lattice order v r h.can; least = λ q k. h.least q (stays_pushed v q k) }
 
+-- systems that differ by their numbers are accepted alike, and the same is printed of them
 pub renamed_is_alike : RenamedIsAlike
 renamed_is_alike ren sys other is =
     let turn = renamed_turns ren sys other is in

@@ -51,6 +51,7 @@ module _ (f : ℕ → ℕ) (a b : ℕ) (h : IsInto f (suc a) (suc b)) where
     apart = λ i j low high same. apart_by i j low high same (two_ways f a b i) (two_ways f a b j);
   }
 
+-- where numbers below one map apart to numbers below another, the other is no lower
 no_lower : (f : ℕ → ℕ) (a b : ℕ) → IsInto f a b → a ≤ b
 no_lower f zero b h = omega arith
 no_lower f (suc a) zero h = let low : f a < 0 = h.inside a (omega arith) in absurd (omega arith)
@@ -67,6 +68,7 @@ found : {A : Type 0} (same : A → A → Type 0) (x : A) (ys : List A) (m : ℕ)
 found same x ys m None is h = absurd h
 found same x ys m (Some y) is h = slice_get_within ys m y is
 
+-- a list whose items all agree with items of another under a numbering is no longer than that
 pub no_shorter : {A : Type 0} (same : A → A → Type 0) (xs ys : List A) (it : Numbering) →
     ((n : ℕ) → Agree same (slice_get xs n) (slice_get ys (it.to n))) → length xs ≤ length ys
 no_shorter same xs ys it h = no_lower it.to (length xs) (length ys) (record {
@@ -78,6 +80,7 @@ no_shorter same xs ys it h = no_lower it.to (length xs) (length ys) (record {
 both_ways : (x y : ℕ) → x ≤ y → y ≤ x → y ≡ x
 both_ways x y h k = omega arith
 
+-- systems that differ by their numbers have as many constraints and as many sites
 pub renamed_has_as_many : RenamedHasAsMany
 renamed_has_as_many ren sys other is =
     let turn = renamed_turns ren sys other is in (

@@ -25,6 +25,7 @@ found_in : {A : Type 0} (same : A → A → Type 0) (x : A) (found : Option A) �
 found_in same x None h = absurd h
 found_in same x (Some y) h = record { it = y; is = refl; alike = h }
 
+-- a link that is in a lattice is so under new numbers
 carried : (ren : Renaming) (lattice : ℕ) (link : Link) (old new : ℕ) → new ≡ old → IsInLattice lattice link old
     → IsInLattice lattice (renamed_link ren link) new
 carried ren lattice (Le u v) old new is h = ap (λ m. bit_at m lattice) is ∙ h

@@ -10,6 +10,7 @@ use Rattle.flow_graph.specs.System.{owner_of}
 use Rattle.renaming_laws.specs.Renamings.{Renaming, turned, renamed_owner, renamed_link, IsSameConstraint, IsSameSite, Agree}
 use Rattle.renaming_laws.specs.Laws.{RenamedTurns}
 
+-- two that agree do so the other way round, where being the same turns round
 agree_turns : {A : Type 0} (same other : A → A → Type 0) (o p : Option A) → ((x y : A) → same x y → other y x)
     → Agree same o p → Agree other p o
 agree_turns same other None None turn h = tt
@@ -21,6 +22,7 @@ owner_back : (ren : Renaming) (o : Owner) → renamed_owner (turned ren) (rename
 owner_back ren Nobody = refl
 owner_back ren (Function f) = ap (λ g. Function g) (ren.functions.from_to f)
 
+-- a link that is renamed and renamed back is the link
 link_back : (ren : Renaming) (l : Link) → renamed_link (turned ren) (renamed_link ren l) ≡ l
 link_back ren (Le u v) = ap (λ x. Le x (ren.vars.from (ren.vars.to v))) (ren.vars.from_to u) ∙ ap (λ y. Le u y) (ren.vars.from_to v)
 link_back ren (Const l e v) = ap (λ x. Const l e x) (ren.vars.from_to v)
@@ -30,6 +32,7 @@ link_back ren (Enter s u v) = ap (λ x. Enter x (ren.vars.from (ren.vars.to u)) 
 link_back ren (Leave s u v) = ap (λ x. Leave x (ren.vars.from (ren.vars.to u)) (ren.vars.from (ren.vars.to v))) (ren.sites.from_to s)
     ∙ (ap (λ x. Leave s x (ren.vars.from (ren.vars.to v))) (ren.vars.from_to u) ∙ ap (λ x. Leave s u x) (ren.vars.from_to v))
 
+-- a constraint that is another under new numbers is that under which the other is renamed back
 constraint_turns : (ren : Renaming) (old new : Constraint) → IsSameConstraint ren old new
     → IsSameConstraint (turned ren) new old
 constraint_turns ren old new h = record {
@@ -37,12 +40,14 @@ constraint_turns ren old new h = record {
   lattices_are = sym h.lattices_are;
 }
 
+-- a site that is another under new numbers is that under which the other is renamed back
 site_turns : (ren : Renaming) (old new : Site) → IsSameSite ren old new → IsSameSite (turned ren) new old
 site_turns ren old new h = record {
   target_is = sym (ren.functions.from_to old.target) ∙ ap (λ f. ren.functions.from f) (sym h.target_is);
   owner_is = sym (owner_back ren old.owner) ∙ ap (λ o. renamed_owner (turned ren) o) (sym h.owner_is);
 }
 
+-- where one system is another under new numbers, that one is the first under the old numbers
 pub renamed_turns : RenamedTurns
 renamed_turns ren sys other is = record {
   constraints = λ m. agree_turns (IsSameConstraint ren) (IsSameConstraint (turned ren)) (slice_get sys.constraints (ren.constraints.from m)) (slice_get other.constraints m)

@@ -20,6 +20,7 @@ two_parts : (x part : List ℕ) (parts : List (List ℕ))
 two_parts [] part parts = refl
 two_parts (b ∷ bs) part parts = refl
 
+-- the first line of a text that begins with a line is this line, where it has no line feed of its own
 pub line_first : (x rest : List ℕ) → has 10 x ≡ false → lines_of (line x ++ rest) ≡ line_kind x ∷ lines_of rest
 line_first x rest free =
     let test : ℕ → Bool = λ b. b == 10 in

@@ -37,6 +37,7 @@ no_rule : (why : Option Why) (line : ℕ) (rest : Option BadStep) → fault_or w
 no_rule (Some why) line rest is = absurd cc
 no_rule None line rest is = (refl, is)
 
+-- an index at which a list has an element is below its length
 pub within_of : {A : Type 0} → (xs : List A) (k : ℕ) (x : A) → slice_get xs k ≡ Some x → k < length xs
 within_of [] k x is = absurd cc
 within_of (y ∷ ys) zero x is = omega arith

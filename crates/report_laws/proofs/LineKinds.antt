@@ -40,6 +40,7 @@ two_words : (n : ℕ) (word : List ℕ) (pieces : List (List ℕ)) (more : (part
     first_word (word ∷ pieces) ≡ first_word (word ∷ more.0 ∷ more.1)
 two_words n word pieces more = ap (λ (ps : List (List ℕ)). first_word (word ∷ ps)) more.2
 
+-- a number below the limit with a space behind it is read as the step that takes this constraint
 numbered : (n : ℕ) (x : List ℕ) → n < 2 ^ 32 - 1
     → first_word (slice_split (λ b. b == 32) (decimal n ++ 32 ∷ x)) ≡ Take n
 numbered n x small =
@@ -50,6 +51,7 @@ numbered n x small =
     ∙ ap take_line (decimal_is_read n (omega (arith, small)))
     ∙ ap Take (capped_same n small)
 
+-- a text that begins with a number is no line of a sub-path
 begins_so : (n : ℕ) (x : List ℕ) → n < 2 ^ 32 - 1 → behind (codes "sub ") (decimal n ++ 32 ∷ x) ≡ None
 begins_so n x small =
     let w = decimal_writes n (omega (arith, small)) in

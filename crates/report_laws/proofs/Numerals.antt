@@ -18,6 +18,7 @@ pub record Writes (n : ℕ) (ds : List ℕ) : Type 0 where
 digit_is : (k : ℕ) → k < 10 → is_ascii_digit (48 + k) ≡ true
 digit_is k small = grind arith
 
+-- a digit behind digits that say a number makes ten times this and the digit
 append_behind : (v w : ℕ) (ds : List ℕ) (e : ℕ) → number_behind v ds ≡ Some w → is_ascii_digit e ≡ true
     → number_behind v (ds ++ e ∷ []) ≡ Some (10 * w + (e - 48))
 append_behind v w [] e is digit = let same : v ≡ w = cc in rw (digit, same) refl
@@ -26,6 +27,7 @@ append_behind v w (d ∷ ds) e is digit =
     (λ b. cond b (number_behind (10 * v + (d - 48)) ds) None ≡ Some w → cond b (number_behind (10 * v + (d - 48)) (ds ++ e ∷ [])) None ≡ Some (10 * w + (e - 48)))
     [ true ↦ λ h. append_behind (10 * v + (d - 48)) w ds e h digit | false ↦ λ h. absurd cc ]) is
 
+-- a number below 10 is written by its one digit
 one_digit : (n : ℕ) → n < 10 → Writes n ((48 + n) ∷ [])
 one_digit n small = record {
   value = let same : 10 * 0 + (48 + n - 48) ≡ n = omega arith in rw (digit_is n small, same) refl;
@@ -38,6 +40,7 @@ one_digit n small = record {
   leads = λ positive. omega (arith, positive);
 }
 
+-- a number from 10 on is written by the digits of its tenth and its last digit
 more_digits : (n : ℕ) (ds : List ℕ) → 10 ≤ n → Writes (n / 10) ds → Writes n (ds ++ ((48 + n % 10) ∷ []))
 more_digits n ds large w =
     let last : n % 10 < 10 = omega arith in
@@ -58,11 +61,13 @@ more_digits n ds large w =
 pub decimal_writes : (n : ℕ) → n < 2 ^ 64 → Writes n (decimal n)
 decimal_writes n fits = decimal_by_steps Writes one_digit more_digits n fits
 
+-- a numeral that is 0 alone or does not begin with 0 is read as the number of its digits
 is_read : (d : ℕ) (rest : List ℕ) → (rest ≡ []) ⊎ (48 < d) → number_of (d ∷ rest) ≡ number_behind 0 (d ∷ rest)
 is_read d [] alone = refl
 is_read d (e ∷ es) (inl is) = absurd cc
 is_read d (e ∷ es) (inr above) = let other : (d == 48) ≡ false = ne_eqb d 48 (λ same. omega (arith, above, same)) in rw other refl
 
+-- a number below two to the 64 that is written in decimals is read as itself
 pub decimal_is_read : (n : ℕ) → n < 2 ^ 64 → number_of (decimal n) ≡ Some n
 decimal_is_read n fits =
     let w = decimal_writes n fits in

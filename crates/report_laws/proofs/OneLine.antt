@@ -22,6 +22,7 @@ then_free xs ys p q = lacks_append 10 xs ys p q
 pub number_free : (n : ℕ) → Free (decimal n)
 number_free n = decimal_lacks 10 n (omega arith)
 
+-- the unit that is found by its number is one of the units
 unit_found : (units : List UnitText) (number : ℕ) (unit : UnitText) → unit_in units number ≡ Some unit
     → (k : ℕ) × (slice_get units k ≡ Some unit)
 unit_found [] number unit is = absurd cc
@@ -29,6 +30,7 @@ unit_found (u ∷ units) number unit is =
     (elim (nat_eq u.lexed.unit number) as (λ b. cond b (Some u) (unit_in units number) ≡ Some unit → (k : ℕ) × (slice_get (u ∷ units) k ≡ Some unit))
     [ true ↦ λ h. (0, h) | false ↦ λ h. (let deeper = unit_found units number unit h in (suc deeper.0, deeper.1)) ]) is
 
+-- the marks of steps to a variable have no line feed in them
 marks_free : (steps : List Step) → Free (marks_text steps)
 marks_free [] = refl
 marks_free (Inside ∷ steps) = then_free (codes ".in") (marks_text steps) refl (marks_free steps)

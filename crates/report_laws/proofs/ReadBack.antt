@@ -10,6 +10,7 @@ use Rattle.report_laws.specs.Laws.{written, written_proof, ErrorsReadBack}
 abbrev NoStep : List Line → Type 0
 NoStep lines = (n : ℕ) → steps_at n lines ≡ []
 
+-- the lines of steps, before what is none, are read as these steps
 steps_read : (steps : List Written) (behind : List Line) → NoStep behind → (n : ℕ)
     → map written (steps_at n (step_lines steps behind)) ≡ steps
 steps_read [] behind none n = ap (map written) (none n)
@@ -29,6 +30,7 @@ no_step : (k : ℕ) (subs : List (List Written)) (main : List Line) → NoStep (
 no_step k [] main n = refl
 no_step k (steps ∷ subs) main n = refl
 
+-- the lines of sub-paths, before the line `path`, are read as these sub-paths
 subs_read : (k : ℕ) (subs : List (List Written)) (main : List Line) (n : ℕ)
     → map (map written) (subs_at n (sub_lines k subs (Path ∷ main))) ≡ subs
 subs_read k [] main n = refl
@@ -38,6 +40,7 @@ subs_read k (steps ∷ subs) main n =
     (steps_read steps rest (no_step (k + 1) subs main) (n + 1))
     (behind_steps rest (λ n lines. map (map written) (subs_at n lines)) subs (λ n m lines. refl) (λ n m lines. refl) (subs_read (k + 1) subs main) steps (n + 1))
 
+-- the lines of the main path, behind those of sub-paths, are read as its steps
 main_read : (k : ℕ) (subs : List (List Written)) (main : List Written) (behind : List Line) → NoStep behind → (n : ℕ) →
     map written (main_at n (sub_lines k subs (Path ∷ step_lines main behind))) ≡ main
 main_read k [] main behind none n = steps_read main behind none (n + 1)
@@ -45,6 +48,7 @@ main_read k (steps ∷ subs) main behind none n =
     behind_steps (sub_lines (k + 1) subs (Path ∷ step_lines main behind)) (λ n lines. map written (main_at n lines)) main (λ n m lines. refl) (λ n m lines. refl)
     (main_read (k + 1) subs main behind none) steps (n + 1)
 
+-- the errors behind the lines of a path proof are read as they are without it before them
 proofs_read : (k : ℕ) (subs : List (List Written)) (main : List Written) (behind : List Line) (want : List WrittenError)
     → ((n : ℕ) → map written_proof (proofs_at n behind) ≡ want) → (n : ℕ) →
     map written_proof (proofs_at n (sub_lines k subs (Path ∷ step_lines main behind))) ≡ want
@@ -58,6 +62,7 @@ errors_end : (errors : List WrittenError) → NoStep (error_lines errors)
 errors_end [] n = refl
 errors_end (e ∷ errors) n = refl
 
+-- the lines of errors are read as these errors
 errors_read : (errors : List WrittenError) (n : ℕ) → map written_proof (proofs_at n (error_lines errors)) ≡ errors
 errors_read [] n = refl
 errors_read (e ∷ errors) n =

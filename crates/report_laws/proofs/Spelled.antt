@@ -10,6 +10,7 @@ use Rattle.report_laws.specs.Scenes.{TokensHaveNoFeed}
 use Rattle.report_laws.proofs.Bytes.{has, none_of}
 use Rattle.report_laws.proofs.Tokens.{token_free}
 
+-- an element of a list with one more at its end is in the list or is that one
 pushed : {A : Type 0} (xs : List A) (y x : A) (k : ℕ) → slice_get (xs ++ y ∷ []) k ≡ Some x
     → (slice_get xs k ≡ Some x) ⊎ (y ≡ x)
 pushed [] y x zero e = inr cc
@@ -28,6 +29,7 @@ token_more bytes tokens token free here k t there =
 taken_range : (bytes : List ℕ) (at n : ℕ) → slice_range bytes at (at + n) ≡ take n (drop at bytes)
 taken_range bytes at n = ap (λ k. take k (drop at bytes)) (let same : at + n - at ≡ n = omega arith in same)
 
+-- no token that was read so far has a line feed in it
 reached_free : (unit : ℕ) (wide : Bool) (words : Meanings) (bytes : List ℕ) (front : Front)
     → Reaches unit wide words bytes front → TokensFree bytes front.tokens
 reached_free unit wide words bytes front begins = λ k t there. absurd cc
@@ -37,6 +39,7 @@ reached_free unit wide words bytes front (takes old new reached t) =
     subst (λ (ts : List Token). TokensFree bytes ts) (sym t.tokens)
     (token_more bytes old.tokens (record { kind = t.kind; start = old.at; end = old.at + t.n }) (reached_free unit wide words bytes old reached) here)
 
+-- no token that the bytes of a unit spell has a line feed in it
 spelled_free : (words : Meanings) (lexed : Lexed) → IsSpelled words lexed → TokensFree lexed.bytes lexed.tokens
 spelled_free words lexed spelled =
     let s = spelled.1 in
@@ -45,6 +48,7 @@ spelled_free words lexed spelled =
     subst (λ (ts : List Token). TokensFree bytes ts) (sym s.tokens_are)
     (token_more bytes s.front.tokens (record { kind = End; start = length bytes; end = length bytes }) (reached_free lexed.unit lexed.wide words bytes s.front s.reached) last)
 
+-- the text of a token by its number has no line feed in it, be it there or not
 text_free : (lexed : Lexed) (n : ℕ) → TokensFree lexed.bytes lexed.tokens → has 10 (text_of lexed n) ≡ false
 text_free lexed n free = by_token (slice_get lexed.tokens n) refl
   where

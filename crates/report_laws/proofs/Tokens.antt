@@ -29,31 +29,37 @@ not_true false is = refl
 no_feed : (test : ℕ → Bool) (c : ℕ) → test 10 ≡ false → test c ≡ true → (c == 10) ≡ false
 no_feed test c fails passes = ne_eqb c 10 (λ same. let is : test 10 ≡ true = subst (λ (x : ℕ). test x ≡ true) same passes in absurd (let clash : true ≡ false = sym is ∙ fails in cc))
 
+-- bytes that all pass a test which a line feed fails have no line feed
 all_free : (test : ℕ → Bool) → test 10 ≡ false → (bytes : List ℕ) → list_all test bytes ≡ true → has 10 bytes ≡ false
 all_free test fails [] is = refl
 all_free test fails (c ∷ cs) is =
     let parts = both_hold (test c) (list_all test cs) is in neither (c == 10) (has 10 cs) (no_feed test c fails parts.0) (all_free test fails cs parts.1)
 
+-- the bytes of a word have no line feed in them
 word_free : (bytes : List ℕ) → is_word bytes ≡ true → has 10 bytes ≡ false
 word_free [] is = refl
 word_free (c ∷ cs) is =
     let parts = both_hold (is_letter c) (list_all is_word_byte cs) is in neither (c == 10) (has 10 cs) (no_feed is_letter c refl parts.0) (all_free is_word_byte refl cs parts.1)
 
+-- the bytes of a word with a dollar have no line feed in them
 dollar_free : (bytes : List ℕ) → is_dollar bytes ≡ true → has 10 bytes ≡ false
 dollar_free [] is = refl
 dollar_free (c ∷ cs) is =
     let parts = both_hold (c == 36) (list_all is_word_byte cs) is in neither (c == 10) (has 10 cs) (no_feed (λ c. c == 36) c refl parts.0) (all_free is_word_byte refl cs parts.1)
 
+-- the bytes that go on with a number have no line feed in them
 tail_free : (before : ℕ) (bytes : List ℕ) → is_number_tail before bytes ≡ true → has 10 bytes ≡ false
 tail_free before [] is = refl
 tail_free before (c ∷ cs) is =
     let parts = both_hold (goes_on before c) (is_number_tail c cs) is in neither (c == 10) (has 10 cs) (no_feed (goes_on before) c refl parts.0) (tail_free c cs parts.1)
 
+-- the bytes of a number that begins with a digit have no line feed in them
 digits_free : (bytes : List ℕ) → is_digits bytes ≡ true → has 10 bytes ≡ false
 digits_free [] is = refl
 digits_free (c ∷ cs) is =
     let parts = both_hold (is_digit c) (is_number_tail c cs) is in neither (c == 10) (has 10 cs) (no_feed is_digit c refl parts.0) (tail_free c cs parts.1)
 
+-- the bytes of a number, be it one that begins with a dot, have no line feed in them
 number_free : (bytes : List ℕ) → is_number bytes ≡ true → has 10 bytes ≡ false
 number_free [] is = refl
 number_free (c ∷ cs) is = elim (one_holds (is_digits (c ∷ cs)) (c == 46 && is_digits cs) is) [
@@ -101,12 +107,14 @@ module _ (quote : ℕ) (other : (10 == quote) ≡ false) where
         | inr more ↦ prefixed_free prefixes bytes frees.1 more
       ]
 
+-- the bytes of a character, with a prefix or without, have no line feed in them
 char_free : (bytes : List ℕ) → is_char bytes ≡ true → has 10 bytes ≡ false
 char_free bytes is = elim (one_holds (is_quoted 39 bytes) (is_prefixed (codes "L" ∷ codes "u" ∷ codes "U" ∷ []) 39 bytes) is) [
   | inl plain ↦ quoted_free 39 refl bytes plain
   | inr wide ↦ prefixed_free 39 refl (codes "L" ∷ codes "u" ∷ codes "U" ∷ []) bytes refl wide
 ]
 
+-- the bytes of a string, with a prefix or without, have no line feed in them
 text_free : (bytes : List ℕ) → is_text bytes ≡ true → has 10 bytes ≡ false
 text_free bytes is = elim (one_holds (is_quoted 34 bytes) (is_prefixed (codes "L" ∷ codes "u" ∷ codes "U" ∷ codes "u8" ∷ []) 34 bytes) is) [
   | inl plain ↦ quoted_free 34 refl bytes plain
@@ -125,6 +133,7 @@ sign_free bytes is = by_test (has 10 bytes) refl
     by_test true feed = absurd (some_sign (sign_kind bytes) is (no_sign (has 10) bytes refl feed))
     by_test false none = none
 
+-- the bytes of any token have no line feed in them
 pub token_free : (bytes : List ℕ) → is_token bytes ≡ true → has 10 bytes ≡ false
 token_free bytes is =
     let w = is_word bytes in

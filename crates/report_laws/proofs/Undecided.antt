@@ -42,11 +42,13 @@ decided_not P h = (false, ((λ e. absurd cc), (λ p. absurd (h p))))
 stays_decided : (P : Type 0) → Stays (Decided P)
 stays_decided P h = h (decided_not P (λ p. h (true, ((λ e. p), (λ p. refl)))))
 
+-- it cannot be that a property of numbers below a bound is not decided for all of them
 all_decided : (P : ℕ → Type 0) (b : ℕ) → ((n : ℕ) → P n → n < b) → Stays ((n : ℕ) → Decided (P n))
 all_decided P b inside h =
     each_below (λ n. Decided (P n)) (λ n. stays_decided (P n)) b
     (λ below. h (λ n. elim (either_side n b) [ inl under ↦ below n under | inr over ↦ decided_not (P n) (λ p. let low = inside n p in omega (arith, low, over)) ]))
 
+-- it cannot be that a property of pairs of numbers below bounds is not decided for all of them
 pairs_decided : (P : ℕ → ℕ → Type 0) (a b : ℕ) → ((e v : ℕ) → P e v → (e < a) × (v < b))
     → Stays ((e v : ℕ) → Decided (P e v))
 pairs_decided P a b inside h =
@@ -58,6 +60,7 @@ pairs_decided P a b inside h =
         each_below (λ v. (e : ℕ) → Decided (P e v)) (λ v. all_decided (λ e. P e v) a (λ e p. (inside e v p).0)) b
         (λ below. h (λ v e. elim (either_side v b) [ inl under ↦ below v under e | inr over ↦ decided_not (P e v) (λ p. let low = (inside e v p).1 in omega (arith, low, over)) ]))
 
+-- the variables of a constraint of a list are at most the highest of the list
 highest_above : (constraints : List Constraint) (n : ℕ) (c : Constraint) → slice_get constraints n ≡ Some c
     → vars_of_link c.link ≤ highest constraints
 highest_above [] n c is = absurd cc

@@ -27,6 +27,7 @@ plain s = bare (written s)
 abbrev all_plain : List PathStep → List PathStep
 all_plain steps = map plain steps
 
+-- an element of a mapped list is that of the list, mapped
 map_get : {A B : Type 0} → (f : A → B) (xs : List A) (k : ℕ) → slice_get (map f xs) k ≡ option_map f (slice_get xs k)
 map_get f [] k = refl
 map_get f (x ∷ xs) zero = refl
@@ -52,6 +53,7 @@ fails_alike : (why : Option Why) (l m : ℕ) (rest more : Option BadStep) → is
 fails_alike (Some why) l m rest more same = refl
 fails_alike None l m rest more same = same
 
+-- of the first of two faults there is one exactly where there is one of two faults alike
 either_alike : (a b c d : Option BadStep) → is_some a ≡ is_some b → is_some c ≡ is_some d
     → is_some (or_else a c) ≡ is_some (or_else b d)
 either_alike (Some x) (Some y) c d one two = refl

@@ -165,6 +165,7 @@ in_each P [] all n order there = absurd cc
 in_each P (view ∷ lattices) all zero order there = let same : view.order ≡ order = cc in subst (λ (o : Order). P zero o) same (all zero view refl)
 in_each P (view ∷ lattices) all (suc n) order there = in_each (λ k. P (suc k)) lattices (λ k. all (suc k)) n order there
 
+-- the text of a rejected report reads back as its errors, where no line feed is in what its lines name
 pub rejected_reads_back : RejectedReadsBack
 rejected_reads_back scene sys text one lats names owned few short report =
     reads_back scene sys one few text owned (in_each (λ lattice order. IsLattice order) scene.lattices lats) (in_each (λ lattice order. NamesElementsIn sys lattice order) scene.lattices names)

@@ -32,6 +32,7 @@ wider_at flag room wide d kind h = by_test (flag && (is_some d.closed || (is_ope
     by_test true = omega (arith, h)
     by_test false = h
 
+-- the room inside a declarator is below a number where the declarator's number is
 pub room_below : (flag : Bool) (room n : ℕ) (d : Declared) (kind : TokenKind) → number_of flag room < suc n
     → room_at flag room d kind < suc n
 room_below false room n d kind h = h

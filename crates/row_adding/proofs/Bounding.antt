@@ -11,11 +11,13 @@ use Rattle.row_adding.specs.Adding.{StopsEarly}
 use Rattle.row_adding.specs.Parts.{bound_by}
 use Rattle.row_adding.proofs.Lists.{with_append, with_none, stop_front, stop_back}
 
+-- from the index of an element on a list is this element and those from the next index on
 pub drop_there : {A : Type 0} (xs : List A) (n : ℕ) (x : A) → slice_get xs n ≡ Some x → drop n xs ≡ x ∷ drop (n + 1) xs
 drop_there [] n x is = absurd cc
 drop_there (y ∷ ys) zero x is = let e : y ≡ x = cc in ap (λ z. z ∷ ys) e
 drop_there (y ∷ ys) (suc n) x is = let e : suc n + 1 ≡ suc (n + 1) = omega arith in rw e (drop_there ys n x is)
 
+-- past its end nothing of a list is left
 pub drop_past : {A : Type 0} (xs : List A) (n : ℕ) → length xs ≤ n → drop n xs ≡ []
 drop_past [] zero le = refl
 drop_past [] (suc n) le = refl

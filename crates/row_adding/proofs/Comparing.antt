@@ -13,11 +13,13 @@ use Rattle.row_adding.specs.Indexing.{all_below_in, below_in, below_one, indexed
 
 -- numbers from a place on
 
+-- from the index of a number on a list is this number and those from the next index on
 there : (m : ℕ) (xs : List ℕ) (i : ℕ) → m ≡ slice_index_or xs i m → i < length xs → drop i xs ≡ m ∷ drop (i + 1) xs
 there m [] i is lt = absurd (omega arith)
 there m (y ∷ ys) zero is lt = ap (λ z. z ∷ ys) (sym is)
 there m (y ∷ ys) (suc i) is lt = let e : suc i + 1 ≡ suc (i + 1) = omega arith in rw e (there m ys i is (omega arith))
 
+-- past its end no numbers of a list are left
 past : (xs : List ℕ) (i : ℕ) → length xs ≤ i → drop i xs ≡ []
 past [] zero le = refl
 past [] (suc i) le = refl
@@ -56,11 +58,13 @@ module _ (ms : List ℕ) where
 
 -- the lattices of values
 
+-- from the index of a lattice on a list is this lattice and those from the next index on
 drop_there : {A : Type 0} (xs : List A) (n : ℕ) (x : A) → slice_get xs n ≡ Some x → drop n xs ≡ x ∷ drop (n + 1) xs
 drop_there [] n x is = absurd cc
 drop_there (y ∷ ys) zero x is = let e : y ≡ x = cc in ap (λ z. z ∷ ys) e
 drop_there (y ∷ ys) (suc n) x is = let e : suc n + 1 ≡ suc (n + 1) = omega arith in rw e (drop_there ys n x is)
 
+-- past the last lattice none is left
 no_views : (ls : List LatticeView) (i : ℕ) → length ls ≤ i → drop i ls ≡ []
 no_views [] zero le = refl
 no_views [] (suc i) le = refl

@@ -22,6 +22,7 @@ append_nil (x ∷ xs) = ap (λ (l : List Constraint). x ∷ l) (append_nil xs)
 pub with_none : (sys : System) → sys ≡ with sys []
 with_none sys = ap (λ (l : List Constraint). record sys { constraints = l }) (sym (append_nil sys.constraints))
 
+-- the front of two lists in a row, no longer than the first, is that of the first
 take_front : (n : ℕ) (xs ys : List Constraint) → n ≤ length xs → take n (xs ++ ys) ≡ take n xs
 take_front zero [] ys le = refl
 take_front (suc n) [] ys le = absurd (omega (arith, le))
@@ -42,6 +43,7 @@ stop_front a b f xs ys h = record {
   full = λ is. let l = h.full is in let m = length-append xs ys in let le = l.0 in (omega (arith, le, m), l.1);
 }
 
+-- where a first list was added and the second stops early, both in a row stop early
 pub stop_back : (a b c : System) (f : GraphFault) (xs ys : List Constraint) → b ≡ with a xs → StopsEarly b c f ys
     → StopsEarly a c f (xs ++ ys)
 stop_back a b c f xs ys e h = record {
@@ -64,6 +66,7 @@ stop_first a xs = record {
     none [] = refl
     none (x ∷ xs) = refl
 
+-- an adding that stops with some constraints left stops early in their list
 pub stop_is : (a b : System) (f : GraphFault) (xs : List Constraint) → Stops a b f xs → StopsEarly a b f xs
 stop_is a b f xs h = record {
   added = h.added;

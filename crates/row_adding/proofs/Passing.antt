@@ -97,6 +97,7 @@ module _ (ways : Ways) (skeletons : List Numbered) (all : List Aggregate) (s : S
     none_in_params no_skels = refl
     none_in_params (more_skels t ts) = ap (λ (rows : List Constraint). rows ++ all_formed_in ways skeletons all s ts) (none_inside t) ∙ none_in_params ts
 
+-- where no lattice lets anything pass up, down or into fields, nothing passes inside a skeleton
 none_by : (ways : Ways) (skeletons : List Numbered) (all : List Aggregate) (s : Span) (t : Skel) (a b d : Bool)
     → nat_eq ways.up 0 ≡ a → nat_eq ways.down 0 ≡ b → nat_eq ways.field 0 ≡ d → (a && b && d) ≡ true
     → formed_in ways skeletons all s t ≡ []

@@ -34,6 +34,7 @@ pub run_append : (w : World) (xs ys : List Op) (st : State) → run w st (xs ++ 
 run_append w [] ys st = refl
 run_append w (op ∷ xs) ys st = run_append w xs ys (step w st op)
 
+-- rows found along two tapes in a row are those of the first, then those of the second from the state behind it
 pub rows_append : (w : World) (xs ys : List Op) (st : State) →
     rows_found w st (xs ++ ys) ≡ rows_found w st xs ++ rows_found w (run w st xs) ys
 rows_append w [] ys st = refl
@@ -49,6 +50,7 @@ pub record Stacks : Type 0 where
   pub braces : List Braces
   pub declarations : List OpenDeclaration
 
+-- the stacks of a state, without its rounds, its registers and what is left of items
 abbrev pub stacks_of : State → Stacks
 stacks_of st =
     record {

@@ -88,6 +88,7 @@ module _ (k : Over) (r : Rounds) where
 
 -- tokens
 
+-- the token of a word or element as a qualifier is the same by tapes and by rules
 same_qual : (q : Qual) → tape_tokens.qual_token q ≡ rule_tokens.qual_token q
 same_qual (quals.Word word) = refl
 same_qual (quals.Element token) = refl
@@ -96,6 +97,7 @@ same_qual (quals.Index token) = refl
 same_enum : (e : EnumType) → tape_tokens.enum_token e ≡ rule_tokens.enum_token e
 same_enum (enum_of keyword attrs tag body) = refl
 
+-- the token of a word of specifiers is the same by tapes and by rules
 same_word : (word : SpecWord) → tape_tokens.word_token word ≡ rule_tokens.word_token word
 same_word (storage word) = refl
 same_word (thread token) = refl

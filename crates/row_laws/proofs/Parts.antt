@@ -79,6 +79,7 @@ abbrev pub own_skel_of : World → Bool → Option Named → Option Skel
 own_skel_of w true it = own_skeleton w it
 own_skel_of w false it = None
 
+-- a parameter of the n-th naming has the row of its number where it is own and bare, and else none
 pub param_rows : (w : World) (own bare : Bool) (it : Option Named) (i : ℕ) →
     (token : ℕ)
     → naming_row w (nth_naming (own && bare) (token_of it) i) token ≡ param_kind (own_skel_of w own it) bare i
@@ -103,6 +104,7 @@ operator_rows w e (binary p) token e2 =
     computed w p (zero_at w e) (zero_at w e2) (value (val w e)) (value (val w e2)) (own w token)
     (where_is w (operation e (binary p) token e2))
 
+-- the constraints of the middle of a condition, and none of other operators
 abbrev pub middle_demand : World → Operator → List Constraint
 middle_demand w comma = []
 middle_demand w (assign p) = []
@@ -113,6 +115,7 @@ two_parts : (xs ys zs : List Constraint) → ((xs ++ []) ++ ys) ++ zs ≡ xs ++ 
 two_parts xs ys zs =
     ap (λ (rows : List Constraint). (rows ++ ys) ++ zs) (append-nil xs) ∙ group_two xs ys zs
 
+-- the rows of both operands, of the middle between them and of the operator are the constraints of the operation
 pub operation_rows : (w : World) (aims : Bool) (e : Expr) (op : Operator) (token : ℕ) (e2 : Expr) →
     ((demand w e ++ middle_demand w op) ++ demand w e2) ++ operator_rows w e op token e2 ≡
     demand_in w aims (operation e op token e2)

@@ -28,6 +28,7 @@ pub record Ruled : Type 0 where
 abbrev pub ruling : Rounds → Braces → (List Operand → List Operand) → Ruled → Registers → State
 ruling r it q a s = record (state r a.core a.registers) { braces = it ∷ a.core.braces; leaves = q a.rest }
 
+-- what runs in an initialiser in braces runs from any state that stands for its stacks and what is left
 pub ruled_from : {k : Over} {quiet : Bool} {B : Type 0} {tape : List Op} {r : Rounds} {it it2 : Braces}
     {rows : List Constraint} (q q2 : List Operand → List Operand) (m : B → Registers → Ruled) →
     Runs k quiet Ruled tape (ruling r it q) (ruling r it2 q2) rows

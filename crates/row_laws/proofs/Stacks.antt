@@ -22,6 +22,7 @@ use Rattle.row_laws.proofs.Goes.{Over, Stacks}
 
 -- lists
 
+-- dropping one element more than before an element leaves those behind that
 pub drop_one_more : {A : Type 0} (n : ℕ) (xs : List A) (y : A) (ys : List A) → drop n xs ≡ y ∷ ys → drop (suc n) xs ≡ ys
 drop_one_more zero [] y ys e = absurd cc
 drop_one_more zero (x ∷ xs) y ys e = cc

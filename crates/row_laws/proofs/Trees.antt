@@ -50,6 +50,7 @@ va_arg_rows xs ys zs us =
 
 -- what is given by the expressions of an offset, where it is not quiet
 
+-- the constraints of an index among the steps of an offset, and none of a member
 abbrev step_rows : World → Desig → List Constraint
 step_rows w (member_desig before name) = []
 step_rows w (index_desig opening e closing) = demand w e
@@ -60,6 +61,7 @@ abbrev steps_rows : World → Desigs → List Constraint
 steps_rows w no_desigs = []
 steps_rows w (more_desigs d ds) = step_rows w d ++ steps_rows w ds
 
+-- where a declaration is of the type of its initialiser, its declarators are one with an initialiser
 auto_is : (ws : SpecWords) (ds : InitDeclrs) → are_auto ws ds ≡ true → IsAutoWhere (has_auto ws) ws ds
     → IsAutoDeclr ws ds
 auto_is ws ds is where_auto =
@@ -72,16 +74,19 @@ auto_is ws ds is where_auto =
 
 -- declarators of a declaration, where the row of a name is one by the name
 
+-- the constraints of declarators, where the row of each is one by its name
 abbrev declrs_rows : World → (Option Named → RowKind) → InitDeclrs → List Constraint
 declrs_rows w row no_init_declrs = []
 declrs_rows w row (more_init_declrs attrs d asm_label attrs2 init ds) =
     declr_demand w (row (declared_name d)) None d ++ (some_init_demand w (declared_name d) init ++ declrs_rows w row ds)
 
+-- where each name has its own row, the constraints of declarators are those of the rules
 plain_rows : (w : World) (ds : InitDeclrs) → declrs_rows w (λ it. row_of_name) ds ≡ init_declrs_demand w ds
 plain_rows w no_init_declrs = refl
 plain_rows w (more_init_declrs attrs d asm_label attrs2 init ds) =
     ap (λ (rows : List Constraint). declr_demand w row_of_name None d ++ (some_init_demand w (declared_name d) init ++ rows)) (plain_rows w ds)
 
+-- where each name has the row of an identifier, the constraints are those of declarations behind a list of these
 old_rows : (w : World) (f : Option Skel) (ds : InitDeclrs)
     → declrs_rows w (identified_kind w f) ds ≡ old_declrs_demand w f ds
 old_rows w f no_init_declrs = refl

@@ -51,6 +51,7 @@ body_own : (w : World) (it : Option Named) →
 body_own w None = refl
 body_own w (Some it) = refl
 
+-- the groups of constraints of a function's item, in the grouping of the rules
 function_rows : (xs ys zs : List Constraint) → (((((xs ++ ys) ++ []) ++ zs) ++ []) ++ []) ≡ xs ++ (ys ++ zs)
 function_rows xs ys zs =
     append-nil ((((xs ++ ys) ++ []) ++ zs) ++ [])
@@ -125,6 +126,7 @@ rows_are_found w all items unit outside =
 abbrev registered : Registers → State → State
 registered s st = record st { literal = s.literal; carried = s.carried }
 
+-- the tape of a unit leaves nothing on the stacks
 pub units_leave_nothing : UnitsLeaveNothing
 units_leave_nothing w all items unit =
     left ∙ ap (λ (it : State). with_registers it nothing) (sym left)
@@ -137,6 +139,7 @@ units_leave_nothing w all items unit =
 
 -- programs
 
+-- the constraints on the tapes of sources are those that the definitions on their trees say
 found_among : (p : Program) (sources : List Source) → All IsSound sources
     → rows_among p sources ≡ demands_among p sources
 found_among p [] h = refl
@@ -149,11 +152,13 @@ found_among p (it ∷ sources) h =
 pub constraints_are_found : ConstraintsAreFound
 constraints_are_found p h = found_among p p.sources h
 
+-- a state without items left and arguments passed is that of its rounds, stacks and registers
 settled : (st : State) → st.leaves ≡ [] → st.passed ≡ 0 → state st.rounds (stacks_of st) (registers_of st) ≡ st
 settled st taken passed =
     ap (λ (operands : List Operand). record st { leaves = operands; passed = 0 }) (sym taken)
     ∙ ap (λ (n : ℕ). record st { passed = n }) (sym passed)
 
+-- the tape of a well-formed expression leaves one operand more: its skeleton, and whether it is a zero
 pub values_are_left : ValuesAreLeft
 values_are_left w all e called st is taken passed =
     left ∙ ap (λ (it : State). with_registers it (operand_put 0 (operand_of (over w false) e) st)) (sym left)

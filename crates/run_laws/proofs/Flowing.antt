@@ -140,6 +140,7 @@ pub record IsParam (order : Order) (el : ℕ → ℕ) (ps : Skels) (k : ℕ) (t 
   pub there : param_at ps k ≡ Some skel
   pub below : Subs order true t (read el skel)
 
+-- where parameters of one function are below those of another, the k-th of the other is below the k-th of it
 pub params_sub : (order : Order) (ea eb : ℕ → ℕ) (ps qs : Skels) (k : ℕ) (s : Skel)
     → AllSubs order false (reads ea ps) (reads eb qs) → param_at qs k ≡ Some s →
     IsParam order ea ps k (read eb s)

@@ -35,27 +35,32 @@ both_true : (a b : Bool) → (a && b) ≡ true → (a ≡ true) × (b ≡ true)
 both_true true b h = (refl, h)
 both_true false b h = absurd (false_not h)
 
+-- what holds of a table of values and of a new one holds of the table with the new one written in
 put_keeps : (P : ℕ → ℕ → Value → Type 0) (held : ℕ → ℕ → Value) (i k : ℕ) (x : Value) → ((j l : ℕ) → P j l (held j l))
     → P i k x → (j l : ℕ) → P j l (put held i k x j l)
 put_keeps P held i k x all new j l = chosen (P j l) (nat_eq i j && nat_eq k l) x (held j l)
     (λ h. let two = both_true (nat_eq i j) (nat_eq k l) h in
     subst (λ m. P j m x) (eqb-true k l two.1) (subst (λ m. P m k x) (eqb-true i j two.0) new)) (all j l)
 
+-- a raw value is a number, and no pointer and no code
 abbrev IsNum : Raw → Type 0
 IsNum (num n) = Unit {0}
 IsNum (ptr o k) = ⊥
 IsNum (code g sites) = ⊥
 
+-- what a reference refers to, and any other skeleton itself
 abbrev inner_skel : Skel → Skel
 inner_skel (flat v k) = flat v k
 inner_skel (ref v s) = s
 inner_skel (fun v ps r e) = fun v ps r e
 
+-- the top of what a register holds by a skeleton is the element of its root
 pub top_read : (el : ℕ → ℕ) (s : Skel) → top (read el s) ≡ el (root s)
 top_read el (flat v k) = refl
 top_read el (ref v s) = refl
 top_read el (fun v ps r e) = refl
 
+-- the top of what a cell holds by a skeleton is the element of its root
 pub top_kept : (el : ℕ → ℕ) (s : Skel) → top (kept el s) ≡ el (root s)
 top_kept el (flat v k) = refl
 top_kept el (ref v s) = top_join (el v) (kept el s)
@@ -73,6 +78,7 @@ root_pair is (fun u ps r e) (flat v l) h = h.0
 root_pair is (fun u ps r e) (ref v b) h = h.0
 root_pair is (fun u ps r e) (fun v qs s f) h = h.0
 
+-- where a skeleton belongs to an owner, its root does
 pub belongs_root : (own : ℕ → Owner) (owner : Owner) (s : Skel) → Belongs own owner s → IsIn own owner (root s)
 belongs_root own owner (flat v k) h = h
 belongs_root own owner (ref v s) h = h.0

@@ -49,6 +49,7 @@ module _ (sys : System) (lattice : ℕ) (order : Order) (depth : ℕ) (map : Ass
       (subst (λ q. AllBelow order (st.cells v.object v.offset).labels q) (ap (λ y. top y) part.same ∙ top_kept (els v.frame) v.part) (good.cells v.object v.offset).0)
       (bound_holds v.frame v.n v.e v.part deep part.belongs v.bound) v.over
 
+-- no run of an accepted program comes to a state with a violation in the lattice
 pub runs_are_safe : RunsAreSafe
 runs_are_safe sys lattice order p w st ordered accepted of world run violated =
     let i = frame_of sys lattice order p w st violated in

@@ -33,6 +33,7 @@ below (suc (suc a)) b = false
 no_bit : (n b : ℕ) → bit_at n b ≡ 0 → nat_eq (bit_at n b) 1 ≡ false
 no_bit n b h = ap (λ x. nat_eq x 1) h
 
+-- the order of the example is its table
 is_table : (a b : ℕ) → leq order a b ≡ below a b
 is_table zero zero = refl
 is_table zero (suc zero) = refl
@@ -42,6 +43,7 @@ is_table (suc zero) (suc zero) = refl
 is_table (suc zero) (suc (suc b)) = no_bit 2 (suc (suc b)) (bit_at_above 2 2 (suc (suc b)) (omega arith) (omega arith))
 is_table (suc (suc a)) b = no_bit 0 b (bit_at-zero b)
 
+-- only 0 and 1 are related in the table
 below_inside : (a b : ℕ) → below a b ≡ true → (a < 2) × (b < 2)
 below_inside zero zero h = (omega arith, omega arith)
 below_inside zero (suc zero) h = (omega arith, omega arith)
@@ -51,11 +53,13 @@ below_inside (suc zero) (suc zero) h = (omega arith, omega arith)
 below_inside (suc zero) (suc (suc b)) h = absurd (false_not h)
 below_inside (suc (suc a)) b h = absurd (false_not h)
 
+-- each of 0 and 1 is below itself in the table
 below_same : (a : ℕ) → a < 2 → below a a ≡ true
 below_same zero h = refl
 below_same (suc zero) h = refl
 below_same (suc (suc a)) h = absurd (omega arith)
 
+-- what is below a second that is below a third is below the third in the table
 below_through : (a b c : ℕ) → below a b ≡ true → below b c ≡ true → below a c ≡ true
 below_through zero zero c h k = k
 below_through zero (suc zero) zero h k = refl
@@ -67,6 +71,7 @@ below_through (suc zero) (suc zero) c h k = k
 below_through (suc zero) (suc (suc b)) c h k = absurd (false_not h)
 below_through (suc (suc a)) b c h k = absurd (false_not h)
 
+-- two that are below each other in the table are one
 below_apart : (a b : ℕ) → below a b ≡ true → below b a ≡ true → a ≡ b
 below_apart zero zero h k = refl
 below_apart zero (suc zero) h k = absurd (false_not k)
@@ -79,6 +84,7 @@ below_apart (suc (suc a)) b h k = absurd (false_not h)
 told : (a b : ℕ) → leq order a b ≡ true → below a b ≡ true
 told a b h = sym (is_table a b) ∙ h
 
+-- the order of the example is an order
 is_order : IsOrder order
 is_order = record {
   inside = λ a b h. below_inside a b (told a b h);
@@ -87,6 +93,7 @@ is_order = record {
   apart = λ a b h k. below_apart a b (told a b h) (told b a k);
 }
 
+-- the one function of the example is declared without parameters, and gives nothing
 declared : (g : ℕ) → IsDeclared program g
 declared g = record {
   at = record { var = 4; node = 5; params = no_skels; result = flat 6 Void; ellipsis = None; is = refl };
@@ -155,6 +162,7 @@ module _ (limit : ℕ) where
       (1, 0, record { var = 2; inside = flat 3 Base; is = refl }, refl, refl) in
       steps placed stored 0 (store 2 3) five (inr (inr (inr (inr (inl refl))))) (1, 0, refl, refl)
 
+-- the program of the example has a run that comes to a state with a violation
 pub some_run_is_violated : SomeRunIsViolated
 some_run_is_violated = (
   is_order,
@@ -190,6 +198,7 @@ abbrev level_at : Option Constraint → ℕ
 level_at None = 1
 level_at (Some c) = level c.link
 
+-- each constant and bound of the example with the higher limit is of element 1
 levels : (n : ℕ) → level_at (slice_get (sys 1).constraints n) ≡ 1
 levels zero = refl
 levels (suc zero) = refl

@@ -16,6 +16,7 @@ mutual
     no_trees : Trees
     more_trees : Tree → Trees → Trees
 
+-- the element at the top of a tree
 abbrev pub top : Tree → ℕ
 top (leaf q) = q
 top (cell q t) = q
@@ -27,6 +28,7 @@ join q (leaf r) = if nat_eq q r then leaf q else cell q (leaf r)
 join q (cell r t) = cell q (cell r t)
 join q (arrow r ps t) = cell q (arrow r ps t)
 
+-- what the cell of a tree holds, and any other tree itself
 abbrev pub into : Tree → Tree
 into (leaf q) = leaf q
 into (cell q t) = t
@@ -52,6 +54,7 @@ top_chosen : (b : Bool) (q : ℕ) (t : Tree) → top (if b then leaf q else cell
 top_chosen true q t = refl
 top_chosen false q t = refl
 
+-- the top of a tree joined under an element is this element
 pub top_join : (q : ℕ) (t : Tree) → top (join q t) ≡ q
 top_join q (leaf r) = top_chosen (nat_eq q r) q (leaf r)
 top_join q (cell r t) = refl
@@ -61,6 +64,7 @@ into_chosen : (b : Bool) (q r : ℕ) → (b ≡ true → q ≡ r) → into (if b
 into_chosen true q r h = ap (λ x. leaf x) (h refl)
 into_chosen false q r h = refl
 
+-- what stands in a tree joined under an element is this tree
 pub into_join : (q : ℕ) (t : Tree) → into (join q t) ≡ t
 into_join q (leaf r) = into_chosen (nat_eq q r) q r (eqb-true q r)
 into_join q (cell r t) = refl
@@ -108,11 +112,13 @@ pub below_both : (order : Order) (ls ms : List ℕ) (q : ℕ) → AllBelow order
 below_both order [] ms q h k = k
 below_both order (l ∷ ls) ms q h k = (h.0, below_both order ls ms q h.1 k)
 
+-- each of some labels that are all at or below an element is at or below it
 pub below_one : (order : Order) (ls : List ℕ) (q l : ℕ) → AllBelow order ls q → IsOneOf l ls → leq order l q ≡ true
 below_one order [] q l h among = absurd among
 below_one order (m ∷ ls) q l h (inl same) = subst (λ x. leq order x q ≡ true) (sym same) h.0
 below_one order (m ∷ ls) q l h (inr later) = below_one order ls q l h.1 later
 
+-- where one tree is below another, its top is at or below the top of the other
 pub subs_top : (order : Order) (s t : Tree) → Subs order true s t → leq order (top s) (top t) ≡ true
 subs_top order (leaf q) (leaf r) h = h
 subs_top order (leaf q) (cell r t) h = absurd h

@@ -43,6 +43,7 @@ any_same f g (x ∷ xs) same =
 abbrev Agree : (ℕ → List (List ℕ)) → (ℕ → List (List ℕ)) → List ℕ → Type 0
 Agree words other vars = (v : ℕ) → Contains vars v → words v ≡ other v
 
+-- a node of later parameters or of the ellipsis is one where a parameter stands before them
 in_later : (p : Skel) (ps : Skels) (e : Option ℕ) (u : ℕ) → Contains (all_nodes ps ++ of_some e) u →
     Contains (all_nodes (more_skels p ps) ++ of_some e) u
 in_later p ps e u h = both_in (all_nodes ps) (of_some e) (nodes p ++ all_nodes ps ++ of_some e)
@@ -98,6 +99,7 @@ mutual
       ∙ ap (λ (t : List ℕ). codes ", " ++ type_text other p [] ++ t)
       (more_same words other ps e (λ u h. same u (in_later p ps e u h)))
 
+-- words that agree at the nodes of a skeleton give the same text of the declared name
 pub declared_same : (words other : ℕ → List (List ℕ)) (s : Skel) (name : List ℕ) → Agree words other (nodes s) →
     declared_text words s name ≡ declared_text other s name
 declared_same words other (flat v kind) name same = refl
@@ -130,6 +132,7 @@ mutual
       (λ x k. Contains-append_left (nodes p) (all_nodes ps) x (unplaced_in p x k))
       (λ x k. Contains-append_right (nodes p) (all_nodes ps) x (all_unplaced_in ps x k)) u h
 
+-- the root of a skeleton is one of its nodes
 root_in : (s : Skel) → Contains (nodes s) (root s)
 root_in (flat v kind) = first_in v []
 root_in (ref v s) = first_in v (nodes s)

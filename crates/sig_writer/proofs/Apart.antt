@@ -36,6 +36,7 @@ and_right : (a b : Bool) → (a && b) ≡ true → b ≡ true
 and_right true b is = is
 and_right false b is = absurd cc
 
+-- an element of a reversed list is one of the list
 of_reverse : {X : Type 0} (xs : List X) (x : X) → Contains (reverse xs) x → Contains xs x
 of_reverse [] x h = h
 of_reverse {X} (y ∷ xs) x h = elim (Contains-append_cases (reverse xs) (y ∷ []) x (subst (λ (ys : List X). Contains ys x) (reverse-append (y ∷ []) xs) h)) [
@@ -48,6 +49,7 @@ of_reverse {X} (y ∷ xs) x h = elim (Contains-append_cases (reverse xs) (y ∷ 
 
 -- ---- numbers of functions
 
+-- the number of a place among others, counted from n on, is not below n
 not_before : (n : ℕ) (places : List Place) (p : Place) → n ≤ number_among n places p
 not_before n [] p = omega arith
 not_before n (q ∷ places) p = by (is_place q p) (not_before (suc n) places p)
@@ -77,6 +79,7 @@ one_number n (x ∷ places) p q has_p has_q same =
 
 -- ---- external functions
 
+-- a role of a function is the role of functions, and no other
 is_function : (role : Role) → is_function_role role ≡ true → role ≡ function_role
 is_function typedef_role is = absurd cc
 is_function object_role is = absurd cc
@@ -90,6 +93,7 @@ some_declared : (found : Option Declared) → is_some_function found ≡ true
 some_declared None is = absurd cc
 some_declared (Some d) is = (d, refl, is_function d.role is)
 
+-- each of the variables that all have one owner has this owner
 owned_at : (own : ℕ → Owner) (owner : Owner) (vars : List ℕ) (v : ℕ) → AllOwned own owner vars → Contains vars v
     → own v ≡ owner
 owned_at own owner [] v all in_vars = absurd (none v in_vars)

@@ -24,6 +24,7 @@ ascending_rest : (x : ℕ) (xs : List ℕ) → AreAscending (x ∷ xs) → AreAs
 ascending_rest x [] are = tt
 ascending_rest x (y ∷ ys) are = are.1
 
+-- a number behind the first of an ascending list is above the first
 ascending_less : (x : ℕ) (xs : List ℕ) (m : ℕ) → AreAscending (x ∷ xs) → Contains xs m → x < m
 ascending_less x [] m are has = absurd (none_has m has)
 ascending_less x (y ∷ ys) m are has = elim (cons_cases y ys m has) [
@@ -31,6 +32,7 @@ ascending_less x (y ∷ ys) m are has = elim (cons_cases y ys m has) [
   | inr later ↦ let less = are.0 in let more = ascending_less y ys m are.1 later in omega (arith, less, more)
 ]
 
+-- two ascending lists, each of which has the numbers of the other, are one list
 pub same_ascending : (xs ys : List ℕ) → AreAscending xs → AreAscending ys → ((m : ℕ) → Contains xs m → Contains ys m) →
     ((m : ℕ) → Contains ys m → Contains xs m) → xs ≡ ys
 same_ascending [] [] p q there back = refl

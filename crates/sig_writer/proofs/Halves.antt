@@ -10,6 +10,7 @@ spaced_is : (inner : List ℕ) → spaced inner ≡ gap (is_some_text inner) ++ 
 spaced_is [] = refl
 spaced_is (c ∷ inner) = refl
 
+-- a text in the brackets of a skeleton is its opening bracket, the text, and its closing bracket
 brackets_are : (s : Skel) (inner : List ℕ) →
     in_brackets s inner ≡ bracket s (codes "(") ++ inner ++ bracket s (codes ")")
 brackets_are (flat v kind) inner = sym (append-nil inner)
@@ -37,6 +38,7 @@ at_fun : (b inner one ps other t : List ℕ) →
     b ++ (inner ++ one ++ ps ++ other) ++ t ≡ b ++ inner ++ (one ++ ps ++ other ++ t)
 at_fun b inner one ps other t = simp append_assoc
 
+-- the text of a type round a text is what stands before this, the text, and what stands behind it
 pub halves : AreHalves
 halves words (flat v kind) inner =
     ap (λ (t : List ℕ). each_before (words v) ++ kind_text kind ++ t) (spaced_is inner)

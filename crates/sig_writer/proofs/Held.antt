@@ -15,6 +15,7 @@ use Rattle.sig_writer.specs.Library.{external_at}
 use Rattle.sig_writer.specs.Nodes.{root_in, skel_by}
 use Rattle.sig_writer.specs.Signatures.{External}
 
+-- past its length a list has no element
 none_past : {A : Type 0} (xs : List A) (i : ℕ) → length xs ≤ i → slice_get xs i ≡ None
 none_past [] i le = refl
 none_past (x ∷ xs) zero le = absurd (omega (arith, le))

@@ -146,6 +146,7 @@ pub numbers_length : (count from : ℕ) → length (numbers count from) ≡ coun
 numbers_length zero from = refl
 numbers_length (suc count) from = ap (λ n. suc n) (numbers_length count (suc from))
 
+-- the i-th of so many numbers from one on is that number plus i
 pub numbers_get : (count from i : ℕ) → i < count → slice_get (numbers count from) i ≡ Some (from + i)
 numbers_get zero from i lt = absurd (omega (arith, lt))
 numbers_get (suc count) from zero lt = let same : from ≡ from + 0 = omega arith in ap (λ k. Some k) same
@@ -153,6 +154,7 @@ numbers_get (suc count) from (suc i) lt =
     let same : suc from + i ≡ from + suc i = omega arith in
     numbers_get count (suc from) i (omega (arith, lt)) ∙ ap (λ k. Some k) same
 
+-- so many numbers from one on contain that number plus i, where i is below the count
 pub numbers_has : (count from i : ℕ) → i < count → Contains (numbers count from) (from + i)
 numbers_has count from i lt =
     let long = numbers_length count from in (
@@ -162,6 +164,7 @@ numbers_has count from i lt =
           (numbers_get count from i lt),
     )
 
+-- each of so many numbers from one on is that number plus an index below the count
 pub numbers_in_range : (count from v : ℕ) → Contains (numbers count from) v → (i : ℕ) × (i < count) × (v ≡ from + i)
 numbers_in_range zero from v has = absurd (none_has v has)
 numbers_in_range (suc count) from v has = elim (cons_cases from (numbers count (suc from)) v has) [
@@ -172,6 +175,7 @@ numbers_in_range (suc count) from v has = elim (cons_cases from (numbers count (
 
 -- ---- some element
 
+-- where a test holds of some element of a list, there is an element of which it holds
 pub any_found : (p : ℕ → Bool) (xs : List ℕ) → list_any p xs ≡ true → (x : ℕ) × Contains xs x × (p x ≡ true)
 any_found p [] is = absurd cc
 any_found p (x ∷ xs) is = elim (or_cases (p x) (list_any p xs) is) [
@@ -182,12 +186,14 @@ any_found p (x ∷ xs) is = elim (or_cases (p x) (list_any p xs) is) [
 pub any_from : (p : ℕ → Bool) (xs : List ℕ) (x : ℕ) → Contains xs x → p x ≡ true → list_any p xs ≡ true
 any_from p xs x has is = list_any_at p xs has.0 x has.1 (ap p has.2 ∙ is)
 
+-- two tests of which each holds where the other does are equal
 same_bool : (a b : Bool) → (a ≡ true → b ≡ true) → (b ≡ true → a ≡ true) → a ≡ b
 same_bool true true there back = refl
 same_bool true false there back = sym (there refl)
 same_bool false true there back = back refl
 same_bool false false there back = refl
 
+-- two lists of one length that have the same elements at each index are one list
 same_lists : {X : Type 0} → (xs ys : List X) → length xs ≡ length ys →
     ((i : ℕ) → i < length xs → slice_get xs i ≡ slice_get ys i) → xs ≡ ys
 same_lists [] [] size same = refl

@@ -28,6 +28,7 @@ low_is known v e r lattice join written = record {
       written ∙ ap (λ x. unless x known.least) one ∙ ap (λ x. unless (it.join v) x) (sym is.least);
 }
 
+-- the meet of bounds at a variable, unless it is the greatest element, is what is written as its high element
 pub high_is : (known : Known) (v e : ℕ) (r : Option ℕ) → IsLattice known.lattice.now.order → IsMeetAt known v e →
     r ≡ unless e known.greatest → IsHighAt known v r
 high_is known v e r lattice meet written = record {

@@ -34,6 +34,7 @@ says_later said n to less silent =
 
 -- ---- the line
 
+-- the line by an equal test and an equal text is the same
 line_if : (b c : Bool) (text other : List ℕ) → b ≡ c → text ≡ other →
     line_by b text ≡ (if c then line (other ++ codes ";") else [])
 line_if b c text other test same = ap (λ t. line_by b t) same ∙ ap (λ x. line_by x other) test ∙ by_test c
@@ -42,6 +43,7 @@ line_if b c text other test same = ap (λ t. line_by b t) same ∙ ap (λ x. lin
     by_test true = refl
     by_test false = refl
 
+-- some node of a function says something as the code holds it exactly where it does as it is found
 speaks : (it : Found) (f : External) (said : Saying) → AreSaid it (nodes_of f) said →
     some_says said said.vars ≡ list_any (λ v. not (says_nothing (says it (nodes_of f) v))) (nodes_of f)
 speaks it f said are =
@@ -50,6 +52,7 @@ speaks it f said are =
     (nodes_of f)
     (λ v h. ap (λ (s : Says). not (says_nothing s)) (are.says_are v h))
 
+-- the line by what is held of a function's nodes is its line by what is found
 pub line_is : (it : Found) (lattice : LatticeView) (f : External) (said : Saying) → AreSaid it (nodes_of f) said →
     line_by (some_says said said.vars)
     (declared_text (λ v. words_of lattice (said_at said v)) f.skel f.name) ≡ line_of it lattice f
@@ -62,6 +65,7 @@ line_is it lattice f said are =
 
 -- ---- the refusal
 
+-- something is held where no word has a place exactly where something is found there
 unplaced_is : (it : Found) (f : External) (said : Saying) → AreSaid it (nodes_of f) said →
     some_unplaced said f.skel ≡ is_unplaced it f
 unplaced_is it f said are =
@@ -69,6 +73,7 @@ unplaced_is it f said are =
     (root f.skel ∷ unplaced f.skel)
     (λ v h. ap (λ (s : Says). not (says_nothing s)) (are.says_are v (placeless_in f.skel v h)))
 
+-- a node wants words by what is held exactly where it does by what is found
 unsigned_is : (it : Found) (lattice : LatticeView) (f : External) (said : Saying) → AreSaid it (nodes_of f) said →
     some_unsigned lattice said ≡ is_unsigned it lattice f
 unsigned_is it lattice f said are =
@@ -81,6 +86,7 @@ abbrev pub at_place : Place → Option lent.Refusal → Option Refusal
 at_place p None = None
 at_place p (Some refusal) = Some (refusal_at refusal p)
 
+-- a refusal at a place by two tests is that of the place, first for no place and then for no word
 by_tests : (p : Place) (a b : Bool) →
     at_place p (if a then Some kinds.NoPlace else if b then Some kinds.NoWord else None)
     ≡ (if a then Some (NoPlace p) else if b then Some (NoWord p) else None)
@@ -88,6 +94,7 @@ by_tests p true b = refl
 by_tests p false true = refl
 by_tests p false false = refl
 
+-- the refusal by what is held of a function's nodes is the refusal by what is found
 pub refusal_is : (it : Found) (lattice : LatticeView) (f : External) (said : Saying) → AreSaid it (nodes_of f) said →
     at_place f.place (refusal_in lattice said f.skel) ≡ refusal_of it lattice f
 refusal_is it lattice f said are =

@@ -10,11 +10,13 @@ use Rattle.sig_writer.specs.declared.marks.Pair.{Pair}
 use Rattle.sig_writer.specs.Marks.{AreMarks, IsJoined, Joins}
 use Rattle.sig_writer.specs.Marking.{IsEnd, IsMarked, Marks}
 
+-- the mark that is set at an index of the list is there
 set_here : (marks : List Bool) (i : ℕ) → i < length marks → IsMarked (set marks i true) i
 set_here [] i lt = absurd (omega (arith, lt))
 set_here (m ∷ ms) zero lt = refl
 set_here (m ∷ ms) (suc i) lt = set_here ms i (omega (arith, lt))
 
+-- a mark stays where another one is set
 set_kept : (marks : List Bool) (i k : ℕ) → IsMarked marks k → IsMarked (set marks i true) k
 set_kept [] i k is = is
 set_kept (m ∷ ms) zero zero is = refl
@@ -22,6 +24,7 @@ set_kept (m ∷ ms) zero (suc k) is = is
 set_kept (m ∷ ms) (suc i) zero is = is
 set_kept (m ∷ ms) (suc i) (suc k) is = set_kept ms i k is
 
+-- a mark behind the setting of one was there before, or is the one that is set
 set_only : (marks : List Bool) (i k : ℕ) → IsMarked (set marks i true) k → IsMarked marks k ⊎ (i ≡ k)
 set_only [] i k is = inl is
 set_only (m ∷ ms) zero zero is = inr refl
@@ -131,6 +134,7 @@ module _ (nodes : Nodes) (rows : List Summary) where
     );
   }
 
+-- at an index below the count of summaries there is a summary
 pub row_at : (rows : List Summary) (n : ℕ) → n < length rows → (row : Summary) × (slice_get rows n ≡ Some row)
 row_at [] n lt = absurd (omega (arith, lt))
 row_at (row ∷ rows) zero lt = (row, refl)

@@ -26,6 +26,7 @@ pushed_last : (list : List ℕ) (n : ℕ) → slice_get (list ++ n ∷ []) (leng
 pushed_last [] n = refl
 pushed_last (m ∷ ms) n = pushed_last ms n
 
+-- a list with a number put at its end ends with it
 ends_pushed : (list : List ℕ) (n : ℕ) → ends_with (list ++ n ∷ []) n ≡ true
 ends_pushed list n =
     let long = length-append list (n ∷ []) in
@@ -33,6 +34,7 @@ ends_pushed list n =
     ap (λ k. is_some_number (slice_get (list ++ n ∷ []) k) n) last
     ∙ ap (λ (it : Option ℕ). is_some_number it n) (pushed_last list n) ∙ eq_self n
 
+-- a list that ends with a number contains it
 ends_has : (list : List ℕ) (n : ℕ) → ends_with list n ≡ true → Contains list n
 ends_has list n ends = elim (slice_get_cases list (length list - 1)).1 [
   | inl found ↦
@@ -43,6 +45,7 @@ ends_has list n ends = elim (slice_get_cases list (length list - 1)).1 [
       ∙ ends in absurd cc
 ]
 
+-- a number put last leaves a list that ends with it, or else stands behind the list
 pub with_last_cases : (list : List ℕ) (n : ℕ) → ((ends_with list n ≡ true) × (with_last list n ≡ list)) ⊎
     (with_last list n ≡ list ++ n ∷ [])
 with_last_cases list n = elim (cases_Bool (ends_with list n)) [
@@ -50,6 +53,7 @@ with_last_cases list n = elim (cases_Bool (ends_with list n)) [
   | inr other ↦ inr (cond-false (ends_with list n) list (list ++ n ∷ []) other)
 ]
 
+-- a list with a number put last ends with it
 ends_last : (list : List ℕ) (n : ℕ) → ends_with (with_last list n) n ≡ true
 ends_last list n = elim (with_last_cases list n) [
   | inl same ↦ ap (λ (xs : List ℕ). ends_with xs n) same.1 ∙ same.0
@@ -60,6 +64,7 @@ pub with_last_twice : (list : List ℕ) (n : ℕ) → with_last (with_last list 
 with_last_twice list n = cond-true (ends_with (with_last list n) n) (with_last list n) (with_last list n ++ n ∷ [])
     (ends_last list n)
 
+-- putting a number last keeps the numbers of the list
 last_kept : (list : List ℕ) (n m : ℕ) → Contains list m → Contains (with_last list n) m
 last_kept list n m has = elim (with_last_cases list n) [
   | inl same ↦ subst (λ (xs : List ℕ). Contains xs m) (sym same.1) has
@@ -69,12 +74,14 @@ last_kept list n m has = elim (with_last_cases list n) [
 last_has : (list : List ℕ) (n : ℕ) → Contains (with_last list n) n
 last_has list n = ends_has (with_last list n) n (ends_last list n)
 
+-- a number of a list with one put last was in the list, or is that one
 last_only : (list : List ℕ) (n m : ℕ) → Contains (with_last list n) m → Contains list m ⊎ (n ≡ m)
 last_only list n m has = elim (with_last_cases list n) [
   | inl same ↦ inl (subst (λ (xs : List ℕ). Contains xs m) same.1 has)
   | inr more ↦ Contains-push_cases list n m (subst (λ (xs : List ℕ). Contains xs m) more has)
 ]
 
+-- an ascending list stays so with a number behind it that is above all of its own
 ascending_push : (list : List ℕ) (n : ℕ) → AreAscending list → ((m : ℕ) → Contains list m → m < n) →
     AreAscending (list ++ n ∷ [])
 ascending_push [] n are less = tt
@@ -82,6 +89,7 @@ ascending_push (m ∷ []) n are less = (less m (0, omega arith, refl), tt)
 ascending_push (m ∷ k ∷ ms) n are less =
     (are.0, ascending_push (k ∷ ms) n are.1 (λ x has. less x (suc has.0, (let lt = has.1 in omega (arith, lt)), has.2)))
 
+-- an ascending list stays so with a number put last that is above all of its own
 last_ascending : (list : List ℕ) (n : ℕ) → AreAscending list → ((m : ℕ) → Contains list m → m < n) →
     AreAscending (with_last list n)
 last_ascending list n are less = elim (with_last_cases list n) [
@@ -100,6 +108,7 @@ pushed_cases (z ∷ xs) y zero x is = inl is
 pushed_cases (z ∷ xs) y (suc k) x is = elim (pushed_cases xs y k x is)
     [ inl early ↦ inl early | inr last ↦ inr (ap (λ n. suc n) last.0, last.1) ]
 
+-- the items at an index are those of the list that is there
 pub items_get : (lists : List (Vec ℕ Global)) (j : ℕ) (list : Vec ℕ Global) → slice_get lists j ≡ Some list →
     items_at lists j ≡ list.items
 items_get [] j list is = absurd cc
@@ -111,12 +120,14 @@ pub items_read : (lists : List (Vec ℕ Global)) (at : ℕ) (list : Vec ℕ Glob
     list ≡ get_or lists at list → list.items ≡ items_at lists at
 items_read lists at list lt is = sym (items_get lists at list (slice_get_read lists (length lists) at list refl lt is))
 
+-- the items at an index that is set are those of the new list
 items_set_here : (lists : List (Vec ℕ Global)) (at : ℕ) (list : Vec ℕ Global) → at < length lists →
     items_at (set lists at list) at ≡ list.items
 items_set_here [] at list lt = absurd (omega (arith, lt))
 items_set_here (x ∷ xs) zero list lt = refl
 items_set_here (x ∷ xs) (suc at) list lt = items_set_here xs at list (omega (arith, lt))
 
+-- at any other index the items stay as they were when one list is set
 items_set_other : (lists : List (Vec ℕ Global)) (at j : ℕ) (list : Vec ℕ Global) → (at ≡ j → ⊥) →
     items_at (set lists at list) j ≡ items_at lists j
 items_set_other [] at j list other = refl
@@ -126,6 +137,7 @@ items_set_other (x ∷ xs) (suc at) zero list other = refl
 items_set_other (x ∷ xs) (suc at) (suc j) list other = items_set_other xs at j list
     (λ same. other (ap (λ n. suc n) same))
 
+-- an index without items has none with an empty list behind all
 pub items_push : (lists : List (Vec ℕ Global)) (list : Vec ℕ Global) (j : ℕ) → list.items ≡ [] →
     items_at lists j ≡ [] → items_at (lists ++ list ∷ []) j ≡ []
 items_push [] list zero none is = none
@@ -133,6 +145,7 @@ items_push [] list (suc j) none is = refl
 items_push (x ∷ xs) list zero none is = is
 items_push (x ∷ xs) list (suc j) none is = items_push xs list j none is
 
+-- setting the list at an index to its own with a number put last puts the number there and nowhere else
 pub puts_at : (number at : ℕ) (lists : List (Vec ℕ Global)) (list : Vec ℕ Global) → at < length lists →
     list.items ≡ with_last (items_at lists at) number →
     Puts (λ j. at ≡ j) number lists (set lists at list)
@@ -179,6 +192,7 @@ puts_both A B number x y z p q = record {
   ];
 }
 
+-- putting a number into the lists that one test tells is putting it where an equal test tells
 pub puts_as : (A B : ℕ → Type 0) (number : ℕ) (x y : List (Vec ℕ Global)) → ((j : ℕ) → A j → B j) →
     ((j : ℕ) → j < length x → B j → A j) → Puts A number x y → Puts B number x y
 puts_as A B number x y more less p = record {
@@ -229,6 +243,7 @@ module _ (nodes : Nodes) (rows : List Summary) (n : ℕ) (within : n < nodes.to 
 
 -- ---- how many are marked
 
+-- up to a marked node, one more is marked than before it
 pub up_to_is : (marks : List Bool) (i : ℕ) → IsMarked marks i → marked_up_to marks i ≡ suc (marked_before marks i)
 up_to_is [] i is = absurd cc
 up_to_is (true ∷ marks) zero is = refl
@@ -236,6 +251,7 @@ up_to_is (true ∷ marks) (suc i) is = ap (λ n. suc n) (up_to_is marks i is)
 up_to_is (false ∷ marks) zero is = absurd cc
 up_to_is (false ∷ marks) (suc i) is = up_to_is marks i is
 
+-- behind a marked node the count of marked nodes before goes up by one
 before_marked : (marks : List Bool) (n : ℕ) → IsMarked marks n →
     marked_before marks (suc n) ≡ suc (marked_before marks n)
 before_marked [] n is = absurd cc
@@ -250,6 +266,7 @@ pub before_marked_one : (marks : List Bool) (n : ℕ) → IsMarked marks n →
 before_marked_one marks n is = let up : n + 1 ≡ suc n = omega arith in ap (λ k. marked_before marks k) up
     ∙ before_marked marks n is
 
+-- behind a node that is not marked the count of marked nodes before stays
 before_other : (marks : List Bool) (n : ℕ) → slice_get marks n ≡ Some false →
     marked_before marks (suc n) ≡ marked_before marks n
 before_other [] n is = absurd cc
@@ -268,6 +285,7 @@ pub before_none : (marks : List Bool) → marked_before marks 0 ≡ 0
 before_none [] = refl
 before_none (mark ∷ marks) = refl
 
+-- of the nodes before n at most n are marked
 pub before_few : (marks : List Bool) (n : ℕ) → marked_before marks n ≤ n
 before_few [] n = omega arith
 before_few (m ∷ marks) zero = omega arith

@@ -10,6 +10,7 @@ numbers_end (suc count) from =
     let at : suc from + count ≡ from + suc count = omega arith in
     ap (λ (ns : List ℕ). from ∷ ns) (numbers_end count (suc from) ∙ ap (λ n. numbers count (suc from) ++ n ∷ []) at)
 
+-- pushing n behind the numbers up to n gives the numbers up to n + 1, behind what was there
 pub one_more : (from n at : ℕ) (old before after : List ℕ) → from ≤ n → before ≡ old ++ numbers (n - from) from
     → after ≡ before ++ at ∷ [] → at ≡ n
     → after ≡ old ++ numbers (n + 1 - from) from
@@ -36,6 +37,7 @@ final_number : (count from d : ℕ) → final d (numbers (suc count) from) ≡ f
 final_number zero from d = omega arith
 final_number (suc count) from d = let l = final_number count (suc from) from in omega (arith, l)
 
+-- the last of the nodes of a skeleton is its last variable
 final_node : (d : ℕ) (s : Skel) → final d (nodes s) ≡ last_of s
 final_node d (flat v k) = refl
 final_node d (ref v s) = final_node v s
@@ -47,6 +49,7 @@ final_node d (fun v ps r (Some e)) =
     final_behind v (all_nodes ps) (nodes r ++ e ∷ [])
     ∙ final_behind (final v (all_nodes ps)) (nodes r) (e ∷ [])
 
+-- a skeleton has at least one node
 some_nodes : (s : Skel) → 0 < length (nodes s)
 some_nodes (flat v k) = omega arith
 some_nodes (ref v s) = omega arith
@@ -57,12 +60,14 @@ last_is : (s : Skel) (count : ℕ) → length (nodes s) ≡ suc count → IsInOr
 last_is s count is order =
     sym (final_node 0 s) ∙ ap (final 0) (order ∙ ap (λ n. numbers n (root s)) is) ∙ final_number count (root s) 0
 
+-- in a skeleton whose variables are in pre-order the root is not above the last variable
 ordered : (s : Skel) → IsInOrder s → root s ≤ last_of s
 ordered s order =
     let some = some_nodes s in
     let l = last_is s (length (nodes s) - 1) (omega (arith, some)) order in
     omega (arith, l)
 
+-- the numbers from the root to the last variable are the nodes of a skeleton in pre-order
 all_ordered : (s : Skel) → IsInOrder s → numbers (last_of s + 1 - root s) (root s) ≡ nodes s
 all_ordered s order =
     let some = some_nodes s in
@@ -70,6 +75,7 @@ all_ordered s order =
     let is : last_of s + 1 - root s ≡ length (nodes s) = omega (arith, l, some) in
     ap (λ n. numbers n (root s)) is ∙ sym order
 
+-- the range from the root of a skeleton in pre-order to its last variable holds its nodes
 pub nodes_are : (s : Skel) (from last : ℕ) → from ≡ root s → last ≡ last_of s → IsInOrder s
     → AreNodes (nodes s) (record { from = from; to = last + 1 })
 nodes_are s from last from_is last_is order =

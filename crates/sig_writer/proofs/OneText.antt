@@ -12,6 +12,7 @@ use Rattle.sig_writer.specs.Signatures.{External, Found, NoPlace, NoWord, Says, 
 use Rattle.sig_writer.proofs.Elements.{first_or, here, in_flat, of_filter, same_any, same_filter, same_flat, there}
 use Rattle.sig_writer.proofs.Texts.{root_is_node, same_declared, unplaced_is_node}
 
+-- tests that follow from each other are equal
 same_test : (a b : Bool) → (a ≡ true → b ≡ true) → (b ≡ true → a ≡ true) → a ≡ b
 same_test true b to of = sym (to refl)
 same_test false true to of = of refl
@@ -138,6 +139,7 @@ module _ (sys : System) (order : Order) (lat : IsLattice order) (vars : List ℕ
       same_flat (line_of one lattice) (line_of other lattice) functions
       (λ f in_functions. same_line f (h f in_functions) lattice)
 
+-- what is right of the nodes of a library is one, and so are its lines and its first refusal
 pub one_text : OneText
 one_text sys lattice functions one other lat fits suits =
     let within : (f : External) → Contains functions f → (v : ℕ) → Contains (nodes_of f) v →

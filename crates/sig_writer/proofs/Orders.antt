@@ -12,6 +12,7 @@ use Rattle.unit_starts.specs.declared.unit_skeletons.skeletons.Skeletons.{Skelet
 use Rattle.unit_starts.specs.UnitSkeletons.Found.{number_or_none}
 use Rattle.sig_writer.specs.Nodes.{numbers, skel_by, IsInOrder, SkeletonsAreInOrder}
 
+-- a + b numbers from n on are a numbers from n on, then b numbers from n + a on
 numbers_split : (a b n : ℕ) → numbers (a + b) n ≡ numbers a n ++ numbers b (n + a)
 numbers_split zero b n = let e : 0 + b ≡ b = omega arith in let at : n + 0 ≡ n = omega arith in rw (e, at) refl
 numbers_split (suc a) b n =
@@ -60,6 +61,7 @@ mutual
       ∙ ap (λ (ns : List ℕ). numbers (size t) n ++ ns) (all_type_nodes ts (n + size t))
       ∙ sym (numbers_split (size t) (sizes ts) n)
 
+-- the root of the skeleton of a type that is numbered from n on is n
 root_is : (t : CType) (n : ℕ) → root (numbered t n) ≡ n
 root_is (base ws) n = refl
 root_is (void ws) n = refl
@@ -67,6 +69,7 @@ root_is (struct ws s) n = refl
 root_is (pointer ws t) n = refl
 root_is (function ws ps r e) n = refl
 
+-- the skeleton of a type that is numbered from any number on has its variables in pre-order
 type_in_order : (t : CType) (n : ℕ) → IsInOrder (numbered t n)
 type_in_order t n =
     let is = type_nodes t n in
@@ -77,6 +80,7 @@ by_choice : (b : Bool) (s other : Skel) → IsInOrder s → IsInOrder other → 
 by_choice true s other one two = one
 by_choice false s other one two = two
 
+-- the skeleton found at a place among numbered ones has its variables in pre-order
 among_in_order : (all : List Numbered) (p : Place) → IsInOrder (skeleton_among all p)
 among_in_order [] p = refl
 among_in_order (it ∷ all) p =

@@ -9,6 +9,7 @@ use Rattle.sig_writer.proofs.Elements.{any_of, of_any}
 abbrev pub has_pair : List Summary → ℕ → ℕ → Bool
 has_pair rows u v = list_any (λ row. nat_eq row.from u && nat_eq row.to v) rows
 
+-- where the test of a pair holds, a summary leads from the one variable to the other
 pub pair_of : (rows : List Summary) (u v : ℕ) → has_pair rows u v ≡ true → HasPair rows u v
 pair_of rows u v is =
     let found = any_of (λ (row : Summary). nat_eq row.from u && nat_eq row.to v) rows is in
@@ -22,6 +23,7 @@ pair_of rows u v is =
           (eqb-true row.to v both.1) from_u,
     )
 
+-- where a summary leads from one variable to another, the test of this pair holds
 pub is_pair : (rows : List Summary) (u v : ℕ) → HasPair rows u v → has_pair rows u v ≡ true
 is_pair rows u v h =
     of_any (λ (row : Summary). nat_eq row.from u && nat_eq row.to v) rows (record { from = u; to = v; why = h.0 }) h.1

@@ -23,6 +23,7 @@ module _ (vars : List ℕ) (nodes : Nodes) (are : AreNodes vars nodes) (v : ℕ)
       (subst (λ k. Contains (numbers (nodes.to - nodes.from) nodes.from) k) at
       (numbers_has (nodes.to - nodes.from) nodes.from (v - nodes.from) (omega (arith, from, to))))
 
+-- no element of a list passes a test that fails at each of them
 pub any_none : (p : ℕ → Bool) (xs : List ℕ) → ((x : ℕ) → Contains xs x → p x ≡ false) → list_any p xs ≡ false
 any_none p [] none = refl
 any_none p (x ∷ xs) none = or_from (p x) (list_any p xs) (none x (cons_here x xs))

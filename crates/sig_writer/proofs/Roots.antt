@@ -10,6 +10,7 @@ use Rattle.unit_starts.specs.UnitSkeletons.Found.{skel_or}
 use Rattle.unit_starts.proofs.UnitSkeletons.Placing.{found_all}
 use Rattle.sig_writer.specs.Nodes.{root_in, skel_by}
 
+-- the skeleton at the root number of a place is the one that begins at this place, in a table that is not full
 root_is : (it : Skeletons) (p : Place) → length it.vars ≤ 16777216 →
     skel_of it.vars (root_in it p) ≡ skel_by it (number_at it.starts p)
 root_is it p few = found_all it.vars it.starts p few ∙ by_number (number_at it.starts p)

@@ -16,6 +16,7 @@ use Rattle.sig_writer.specs.Parts.{IsSplitOf}
 
 -- ---- the variables of a constraint are below the number of all
 
+-- the variables of a constraint at an index of a list are within the highest of the list
 low_link : (cs : List Constraint) (n : ℕ) (c : Constraint) → slice_get cs n ≡ Some c → vars_of_link c.link ≤ highest cs
 low_link [] n c is = absurd cc
 low_link (d ∷ cs) zero c is =
@@ -24,6 +25,7 @@ low_link (d ∷ cs) zero c is =
 low_link (d ∷ cs) (suc n) c is = let deeper : vars_of_link c.link ≤ highest cs = low_link cs n c is in
     omega (arith, deeper)
 
+-- the variables of a constraint of a system are within the variables of the system
 pub has_low : (sys : System) (n : ℕ) (link : Link) → Has sys n link → vars_of_link link ≤ vars_of sys
 has_low sys n link has =
     let low : vars_of_link link ≤ highest sys.constraints =
@@ -81,6 +83,7 @@ module _ (one other : System) (lattice : ℕ) (same : AreSame one other) (laws :
   pub reaches_to : (v n b : ℕ) → ReachesBound one lattice v n b → ReachesBound other lattice v n b
   reaches_to v n b (x, d, st) = (x, down_to v x d, to n (Bound x lattice b) st)
 
+-- where two systems have the same owners at a constraint, they do so the other way round
 turned_link : (one other : System) (link : Link) → SameOwners one other link → SameOwners other one link
 turned_link one other (Le u v) h = (sym h.0, sym h.1)
 turned_link one other (Const l e v) h = sym h
@@ -88,6 +91,7 @@ turned_link one other (Bound v l b) h = sym h
 turned_link one other (Enter s u v) h = (sym h.0, sym h.1)
 turned_link one other (Leave s u v) h = (sym h.0, sym h.1)
 
+-- where one system is the same as another, the other is the same as it
 pub turned : (one other : System) → AreSame one other → AreSame other one
 turned one other same = record {
   constraints = sym same.constraints;
@@ -119,6 +123,7 @@ module _ (sys : System) (it : Found) (functions : List External) (s : Split) (fi
 
 -- ---- least and greatest elements of sets that are one
 
+-- the least element over a set is that over any set with the same elements
 pub least_of_same : (order : Order) (In Other : ℕ → Type 0) (r : ℕ) → ((e : ℕ) → In e → Other e) →
     ((e : ℕ) → Other e → In e) →
     IsLeastOver order In r → IsLeastOver order Other r
@@ -128,6 +133,7 @@ least_of_same order In Other r to of h = record {
   least = λ d low above. h.least d low (λ e is. above e (to e is));
 }
 
+-- the greatest element under a set is that under any set with the same elements
 pub greatest_of_same : (order : Order) (In Other : ℕ → Type 0) (r : ℕ) → ((e : ℕ) → In e → Other e) →
     ((e : ℕ) → Other e → In e) →
     IsGreatestUnder order In r → IsGreatestUnder order Other r

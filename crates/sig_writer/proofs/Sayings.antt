@@ -10,11 +10,13 @@ use Rattle.sig_writer.specs.Nodes.{numbers, numbers_in}
 use Rattle.sig_writer.specs.Saying.{elements_of, nothing_said, said_at, says_among, says_by, AreHeld, Saying}
 use Rattle.sig_writer.specs.Signatures.{Says}
 
+-- at an index below the length of a list there is an element
 pub some_at : {X : Type 0} → (xs : List X) (n : ℕ) → n < length xs → (x : X) × (slice_get xs n ≡ Some x)
 some_at [] n lt = absurd (omega (arith, lt))
 some_at (x ∷ xs) zero lt = (x, refl)
 some_at (x ∷ xs) (suc n) lt = some_at xs n (omega (arith, lt))
 
+-- among so many variables from one on, the k-th says the k-th of what is said
 among_at : (count from : ℕ) (all : List Says) (k v : ℕ) (it : Says) → v ≡ from + k → k < count →
     slice_get all k ≡ Some it → says_among (numbers count from) all v ≡ it
 among_at zero from all k v it at lt is = absurd (omega (arith, lt))
@@ -28,6 +30,7 @@ among_at (suc count) from (x ∷ all) (suc k) v it at lt is =
     cond-false (nat_eq from v) x (says_among (numbers count (suc from)) all v) other
     ∙ among_at count (suc from) all k v it (omega (arith, at)) (omega (arith, lt)) is
 
+-- a variable out of the range from `from` on says nothing
 among_else : (count from : ℕ) (all : List Says) (v : ℕ) → (v < from) ⊎ (from + count ≤ v) →
     says_among (numbers count from) all v ≡ nothing_said
 among_else zero from all v out = refl
@@ -39,6 +42,7 @@ among_else (suc count) from (x ∷ all) v out =
     ∙ among_else count (suc from) all v
     (elim out [ inl before ↦ inl (omega (arith, before)) | inr past ↦ inr (omega (arith, past)) ])
 
+-- the list of numbers and the elements at an index make what is said at this index
 by_at : (lists : List (Vec ℕ Global)) (elements : List Elements) (k : ℕ) (list : Vec ℕ Global) (it : Elements) →
     slice_get lists k ≡ Some list → slice_get elements k ≡ Some it →
     slice_get (says_by lists elements) k ≡ Some (record { numbers = list.items; low = it.low; high = it.high })

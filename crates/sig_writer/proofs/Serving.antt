@@ -347,6 +347,7 @@ module _ (sys : System) (order : Order) (it : Found) (functions : List External)
     safe = safe;
   }
 
+-- the words of a library that is known serve every client as the library does
 pub serves : (sys : System) (order : Order) (it : Found) (functions : List External) (rows : List Summary)
     (firsts : ℕ → ℕ) (below : List ℕ) →
     IsKnownLibrary sys order it functions rows firsts below → SamePaths → ServedIsWhole → WholeIsServed →

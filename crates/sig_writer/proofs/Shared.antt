@@ -17,6 +17,7 @@ only_one : (lattices : List LatticeView) (lattice : LatticeView) → lattices �
     → IsPlain lattice
 only_one lattices lattice is plain = let same : plain.0 ≡ lattice = cc in subst IsPlain same plain.2
 
+-- a list of one lattice is one plain lattice exactly where its lattice at 0 is plain
 pub one_plain : (lattices : List LatticeView) (n : ℕ) (lattice : LatticeView) (result : Bool) → length lattices ≡ 1
     → n ≡ 0 → slice_get lattices n ≡ Some lattice
     → (IsTrue result ↔ IsPlain lattice) → (IsTrue result ↔ IsOnePlain lattices)
@@ -36,6 +37,7 @@ own_more sys n it there own below =
     let all : (k : ℕ) → k < n + 1 → Own k = below_more Own n (λ k lt link. below k link lt) here in
     λ m link lt. all m lt link
 
+-- a shared constraint below which none is shared is the first shared one
 pub first_is : (sys : System) (n k : ℕ) (it : Constraint) → n ≡ k → slice_get sys.constraints n ≡ Some it
     → IsShared sys it.link → AreOwnBelow sys k → IsFirstShared sys n
 first_is sys n k it same there shared below = record {

@@ -12,6 +12,7 @@ by_test : (b : Bool) (value : Unit {0}) (o : Option (Unit {0})) (rest : Bool) �
 by_test true value o rest is = refl
 by_test false value o rest is = is
 
+-- one entry more of the table of `static` keeps it the table of the entries so far, the newest first
 pub static_added : (all : List (ℕ × ℕ)) (i : ℕ) (it : ℕ × ℕ) (before after : StaticSet) (value : Unit {0})
     → it ≡ slice_index_or all i it → i < length all → AreStatics (reverse (take i all)) before
     → ((q : Place) → get is_place after q ≡ cond (is_place it q) (Some value) (get is_place before q))

@@ -23,6 +23,7 @@ known_part known vars part it within all = record {
   greatest = all.greatest;
 }
 
+-- a node of one of some functions is among the nodes of them all
 node_in : (external : Place → External) (before after : List Place) (p : Place) (v : ℕ) →
     Contains (nodes_of (external p)) v →
     Contains (flat_map nodes_of (map external (before ++ p ∷ after))) v

@@ -61,6 +61,7 @@ module _ (words other : ℕ → List (List ℕ)) where
 
 -- ---- what has no place is a node
 
+-- the root of a skeleton is among its nodes
 pub root_is_node : (s : Skel) → Contains (nodes s) (root s)
 root_is_node (flat v k) = here [] v
 root_is_node (ref v s) = here (nodes s) v

@@ -148,6 +148,7 @@ module _ (sys : System) (lattice : LatticeView) (functions : List External) (row
 
 -- ---- where no bound is exceeded, a library is accepted, and else it is not
 
+-- a solver finds no exceeded bound of lattice 0 exactly where the system is accepted in it
 pub none_is_accepted : (sys : System) (order : Order) (solution : Solution) (o : Option ℕ) → solution.lattice ≡ 0 →
     IfSome o (IsFirstExceeded sys solution.lattice order) → IfNone o (IsKept sys solution order) →
     (is_none o ≡ true) ↔ IsAcceptedIn sys 0 order

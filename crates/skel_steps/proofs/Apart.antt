@@ -29,6 +29,7 @@ aside : (b : Bool) (pointer : Skel) (n : ℕ) (v : Val) (st : State) (r : Rounds
 aside true pointer n v st r = refl
 aside false pointer n v st r = refl
 
+-- the candidates of a selection are the same with other rounds
 selected_apart : (w : World) (token i n : ℕ) (st : State) (r : Rounds) →
     selected w token i n (record st { rounds = r }) ≡ selected w token i n st
 selected_apart w token i zero st r = refl
@@ -36,6 +37,7 @@ selected_apart w token i (suc n) st r =
     ap (λ (others : List Candidate). (if w.candidate (at w token) i then candidate_at (twice n) st ∷ [] else []) ++ others)
     (selected_apart w token (suc i) n st r)
 
+-- an op of expressions steps the stacks the same with other rounds, which stay
 expr_apart : (w : World) (st : State) (r : Rounds) (op : ExprOp) →
     expr_step w (record st { rounds = r }) op ≡ record (expr_step w st op) { rounds = r }
 expr_apart w st r (exprs.Name a b c) = refl
@@ -61,6 +63,7 @@ expr_apart w st r (exprs.Arrow a b c aims) =
 expr_apart w st r (exprs.Dot a b c) = refl
 expr_apart w st r (exprs.Label a) = refl
 
+-- an op of forms steps the stacks the same with other rounds, which stay
 form_apart : (w : World) (st : State) (r : Rounds) (op : FormOp) →
     form_step w (record st { rounds = r }) op ≡ record (form_step w st op) { rounds = r }
 form_apart w st r (forms.Cast a b) = refl
@@ -81,6 +84,7 @@ form_apart w st r (forms.Generic token count) =
     ap (λ (all : List Candidate). put (suc (twice count)) (pick_of (own w token) all) (record st { rounds = r }))
     (selected_apart w token 0 count st r)
 
+-- an op of initialisers steps the stacks the same with other rounds, which stay
 init_apart : (w : World) (st : State) (r : Rounds) (op : InitOp) →
     init_step w (record st { rounds = r }) op ≡ record (init_step w st op) { rounds = r }
 init_apart w st r (inits.Value a b) = refl
@@ -95,6 +99,7 @@ init_apart w st r inits.ListEnd = refl
 init_apart w st r inits.End = refl
 init_apart w st r inits.LiteralEnd = refl
 
+-- an op of specifiers steps the stacks the same with other rounds, which stay
 spec_apart : (st : State) (r : Rounds) (op : SpecOp) →
     spec_step (record st { rounds = r }) op ≡ record (spec_step st op) { rounds = r }
 spec_apart st r (specs.Word a) = refl
@@ -113,6 +118,7 @@ spec_apart st r (specs.TypeofEnd a) = refl
 spec_apart st r specs.TypeEnd = refl
 spec_apart st r specs.SpecsEnd = refl
 
+-- an op of declarators steps the stacks the same with other rounds, which stay
 declr_apart : (w : World) (st : State) (r : Rounds) (op : DeclrOp) →
     declr_step w (record st { rounds = r }) op ≡ record (declr_step w st op) { rounds = r }
 declr_apart w st r (declrs.DeclName a b) = refl
@@ -131,6 +137,7 @@ declr_apart w st r declrs.Member = refl
 declr_apart w st r (declrs.TypeName a) = refl
 declr_apart w st r declrs.DeclarationEnd = refl
 
+-- an op of statements steps the stacks the same with other rounds, which stay
 stmt_apart : (st : State) (r : Rounds) (op : StmtOp) →
     stmt_step (record st { rounds = r }) op ≡ record (stmt_step st op) { rounds = r }
 stmt_apart st r stmts.Quiet = refl
@@ -142,6 +149,7 @@ stmt_apart st r stmts.Leave = refl
 stmt_apart st r stmts.FunctionBody = refl
 stmt_apart st r stmts.FunctionEnd = refl
 
+-- any op steps the stacks the same with other rounds, which stay
 apart : (w : World) (st : State) (r : Rounds) (op : Op) →
     stack_step w (record st { rounds = r }) op ≡ record (stack_step w st op) { rounds = r }
 apart w st r (ops.Expr op) = expr_apart w st r op

@@ -12,17 +12,20 @@ use Rattle.skel_steps.specs.declared.picks.Count.{Count}
 use Rattle.skel_steps.specs.declared.picks.PickedVal.{PickedVal}
 use Rattle.skel_steps.specs.Picks.{IsPickedVal, count_of, more_than, first_by, first_val, is_several, are_several, fresh_by, value_by, pick_by, with_candidate}
 
+-- the count of candidates with one more at their end is one more: none, one or several
 one_more : (all : List Candidate) (c : Candidate) → count_of (all ++ c ∷ []) ≡ more_than (count_of all)
 one_more [] c = refl
 one_more (it ∷ []) c = refl
 one_more (it ∷ other ∷ others) c = refl
 
+-- the first of candidates with one more at their end is the first of them, or this one where there is none
 first_more : (all : List Candidate) (c : Candidate) →
     first_val (all ++ c ∷ []) ≡ first_by (count_of all) (first_val all) c.val
 first_more [] c = refl
 first_more (it ∷ []) c = refl
 first_more (it ∷ other ∷ others) c = refl
 
+-- a zero more leaves the candidates that are no zeros as they were
 zero_more : (all : List Candidate) (c : Candidate) → c.is_zero ≡ true → no_zeros (all ++ c ∷ []) ≡ no_zeros all
 zero_more [] c e = rw e refl
 zero_more (it ∷ others) c e = by (zero_more others c e) it.is_zero where
@@ -32,6 +35,7 @@ zero_more (it ∷ others) c e = by (zero_more others c e) it.is_zero where
   by h true = h
   by h false = ap (λ some. it ∷ some) h
 
+-- a candidate more that is no zero comes behind those that are none
 other_more : (all : List Candidate) (c : Candidate) → c.is_zero ≡ false →
     no_zeros (all ++ c ∷ []) ≡ no_zeros all ++ c ∷ []
 other_more [] c e = rw e refl
@@ -80,11 +84,13 @@ other_added rows all c old new h other count first others first_other =
 
 -- whether several are left, by the counts
 
+-- the count of candidates says that there are several exactly where there are
 several : (all : List Candidate) → are_several (count_of all) ≡ is_several all
 several [] = refl
 several (it ∷ []) = refl
 several (it ∷ other ∷ others) = refl
 
+-- a pick is fresh by the counts of candidates exactly where several are left of them
 fresh_left : (all : List Candidate) → fresh_by (count_of (no_zeros all)) (count_of all) ≡ is_several (left_of all)
 fresh_left all = by (no_zeros all) where
   by : (some : List Candidate) → fresh_by (count_of some) (count_of all) ≡ is_several (or_all some all)
@@ -99,6 +105,7 @@ fresh_is rows all it b h is =
 
 -- what is picked
 
+-- the value of several candidates by their count is that of those that are left
 value_left : (own : Skel) (first : Val) (some : List Candidate) (it other : Candidate) (others : List Candidate) →
     first ≡ first_val some →
     value_by (count_of some) own (value first) ≡ value_of_left own (or_all some (it ∷ other ∷ others))
@@ -106,6 +113,7 @@ value_left own first [] it other others is = refl
 value_left own first (a ∷ []) it other others is = ap value is
 value_left own first (a ∷ b ∷ more) it other others is = refl
 
+-- what is picked by the counts and the first candidates is what is picked of all
 pick_is : (own : Skel) (first first_other : Val) (all : List Candidate) → first ≡ first_val all →
     first_other ≡ first_val (no_zeros all) →
     pick_by (count_of all) (count_of (no_zeros all)) own first first_other ≡ pick_of own all
@@ -114,6 +122,7 @@ pick_is own first first_other (it ∷ []) is other_is = is
 pick_is own first first_other (it ∷ other ∷ others) is other_is =
     ap a_value (value_left own first_other (no_zeros (it ∷ other ∷ others)) it other others other_is)
 
+-- what is picked by what is kept of the candidates is what is picked of all
 pub picked_is : (rows : List Row) (all : List Candidate) (it : PickedVal) (own : Skel) → IsPickedVal rows all it →
     pick_by it.count it.others own (val_in rows it.first) (val_in rows it.first_other) ≡ pick_of own all
 picked_is rows all it own h =
@@ -128,6 +137,7 @@ with_is : (b : Bool) (all : List Candidate) (it : Candidate) →
 with_is true all it = refl
 with_is false all it = sym (append-nil all)
 
+-- the candidates so far with that of an association, and those behind it, are those so far and those from it on
 next_at : (w : World) (token i n : ℕ) (st : State) (all : List Candidate) →
     with_candidate (w.candidate (at w token) i) all (candidate_at (twice n) st) ++ selected w token (suc i) n st ≡
     all ++ selected w token i (suc n) st
@@ -147,6 +157,7 @@ selected_next w token i count st all lt =
     next_at w token i (count - suc i) st all ∙
     ap (λ (n : ℕ). all ++ selected w token i n st) (sym left)
 
+-- behind the last association the candidates so far are those of the selection
 pub selected_all : (w : World) (token i count : ℕ) (st : State) (all : List Candidate) → count ≤ i →
     all ++ selected w token i (count - i) st ≡ selected w token 0 count st → all ≡ selected w token 0 count st
 selected_all w token i count st all le is =

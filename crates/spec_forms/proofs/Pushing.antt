@@ -22,6 +22,7 @@ mix_from_pushed m (more_words first ws) w = mix_from_pushed (then_class m (class
 pub mix_pushed : (ws : SpecWords) (w : SpecWord) → mix_of (pushed ws w) ≡ then_class (mix_of ws) (class_of w)
 mix_pushed ws w = mix_from_pushed (Some no_mix) ws w
 
+-- words with one more have a type where they have one or the new word is one
 pub typed_pushed : (ws : SpecWords) (w : SpecWord) → is_typed (pushed ws w) ≡ (is_typed ws || is_type_word w)
 typed_pushed no_words w = by_word (is_type_word w)
   where

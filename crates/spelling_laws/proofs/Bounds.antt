@@ -25,6 +25,7 @@ record Grown (old new : List (List ℕ)) (kind : TokenKind) : Type 0 where
   one : length new ≤ length old + 1
   own : (id : ℕ) → kind ≡ Name id → id < length new
 
+-- a name adds itself to the names where it is new, and has the number of one of them
 name_grown : (names : List (List ℕ)) (text : List ℕ) (id : ℕ) → id ≡ name_number names text →
     Grown names (with_name names text) (Name id)
 name_grown names text id is = by (position (bytes_eq text) names) refl is
@@ -49,6 +50,7 @@ other_grown : (names : List (List ℕ)) (kind : TokenKind) → ((id : ℕ) → k
 other_grown names kind other =
     record { more = omega arith; one = omega arith; own = λ id same. absurd (other id same) }
 
+-- a token of any kind adds one name at most, and none where it is no name
 grown : (unit : ℕ) (wide : Bool) (words : Meanings) (names : List (List ℕ)) (text : List ℕ) (kind : TokenKind) →
     IsKind unit wide words names text kind → Grown names (names_behind names text kind) kind
 grown unit wide words names text (Name id) is = name_grown names text id is.2
@@ -69,6 +71,7 @@ record Few (tokens : List Token) (names : List (List ℕ)) : Type 0 where
   few : length names ≤ length tokens
   below : Below tokens (length names)
 
+-- one token more, with the name that it adds, keeps the names no more than the tokens
 one_more : (tokens : List Token) (t : Token) (old new : List (List ℕ)) → Few tokens old → Grown old new t.kind →
     Few (tokens ++ t ∷ []) new
 one_more tokens t old new h g =
@@ -80,6 +83,7 @@ one_more tokens t old new h g =
         let less = h.below k s id there is in let more = g.more in omega (arith, less, more)
     by k s id (inr same) is = g.own id (subst (λ (it : Token). it.kind ≡ Name id) (sym same) is)
 
+-- the names that were read so far are no more than the tokens, and each token's name is one of them
 reaches_few : (unit : ℕ) (wide : Bool) (words : Meanings) (bytes : List ℕ) (front : Front)
     → Reaches unit wide words bytes front →
     Few front.tokens front.names

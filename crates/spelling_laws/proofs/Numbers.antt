@@ -24,6 +24,7 @@ record Stands (lexed : Lexed) (name : ℕ) (text : List ℕ) : Type 0 where
   kind : token.kind ≡ Name name
   text_is : bytes_of lexed token ≡ text
 
+-- a kind of token that has a name's number is the name of this number
 kind_is : (kind : TokenKind) (n : ℕ) → name_of_kind kind ≡ Some n → kind ≡ Name n
 kind_is (Name m) n e = let same : m ≡ n = cc in ap (λ (k : ℕ). Name k) same
 kind_is (Keyword word) n e = absurd cc
@@ -38,6 +39,7 @@ kind_is End n e = absurd cc
 abbrev Are : Lexed → List Token → Type 0
 Are lexed ts = (k : ℕ) (t : Token) → slice_get ts k ≡ Some t → (i : ℕ) × (slice_get lexed.tokens i ≡ Some t)
 
+-- the name that is found for a text among tokens is that of a token which is spelled so
 among_stands : (lexed : Lexed) (ts : List Token) (text : List ℕ) (a : ℕ) → Are lexed ts →
     name_among lexed ts text ≡ Some a → Stands lexed a text
 among_stands lexed [] text a h e = absurd cc
@@ -58,6 +60,7 @@ among_stands lexed (t ∷ ts) text a h e =
       text_is = (bytes_eq-Decides (bytes_of lexed t) text).0 eq;
     }
 
+-- the text that is found for a name among tokens is the spelling of a token with this name
 spelled_stands : (lexed : Lexed) (ts : List Token) (name : ℕ) (text : List ℕ) → Are lexed ts →
     spelled_among lexed ts name ≡ Some text → Stands lexed name text
 spelled_stands lexed [] name text h e = absurd cc
@@ -87,6 +90,7 @@ token_kind : (lexed : Lexed) (i : ℕ) (t : Token) (n : ℕ) → slice_get lexed
 token_kind lexed i t n there kind =
     ap (option_map (λ (token : Token). token.kind)) there ∙ ap (λ (k : TokenKind). Some k) kind
 
+-- the text of a token by its number is the bytes of the token that is there
 token_text : (lexed : Lexed) (i : ℕ) (t : Token) → slice_get lexed.tokens i ≡ Some t
     → text_of lexed i ≡ bytes_of lexed t
 token_text lexed i t there =

@@ -5,6 +5,7 @@ use Rattle.flow_graph.specs.declared.constraint.Constraint.{Constraint}
 use Rattle.flow_graph.specs.System.{Has, Stands}
 use Rattle.split_laws.specs.Splits.{Split, of_part}
 
+-- an item of a list stands at its place in the list with another behind
 left_of : {A : Type 0} (xs ys : List A) (k : ℕ) (x : A) → slice_get xs k ≡ Some x → slice_get (xs ++ ys) k ≡ Some x
 left_of [] ys k x e = absurd cc
 left_of (y ∷ xs) ys zero x e = e
@@ -15,6 +16,7 @@ right_of : {A : Type 0} (xs ys : List A) (k : ℕ) (x : A) → slice_get ys k �
 right_of [] ys k x e = (k, e)
 right_of (y ∷ xs) ys k x e = let on = right_of xs ys k x e in (suc on.0, on.1)
 
+-- an item of two joined lists is at its place in the first, or at some place in the second
 either_of : {A : Type 0} (xs ys : List A) (k : ℕ) (x : A) → slice_get (xs ++ ys) k ≡ Some x
     → (slice_get xs k ≡ Some x) ⊎ ((j : ℕ) × (slice_get ys j ≡ Some x))
 either_of [] ys k x e = inr (k, e)

@@ -57,6 +57,7 @@ module _ (one other : System) (lattice : ℕ) (same : AreSame one other) where
   on e v (inl p) = inl (back e v p)
   on e v (inr c) = inr (call e v c)
 
+-- owners that are the same for one system and another are so the other way round
 turned_link : (one other : System) (link : Link) → SameOwners one other link → SameOwners other one link
 turned_link one other (Le u v) h = (sym h.0, sym h.1)
 turned_link one other (Const l e v) h = sym h
@@ -64,6 +65,7 @@ turned_link one other (Bound v l b) h = sym h
 turned_link one other (Enter s u v) h = (sym h.0, sym h.1)
 turned_link one other (Leave s u v) h = (sym h.0, sym h.1)
 
+-- if one system is the same as another, the other is the same as it
 turned : (one other : System) → AreSame one other → AreSame other one
 turned one other same = record {
   constraints = sym same.constraints;
@@ -74,12 +76,14 @@ turned one other same = record {
   }));
 }
 
+-- a system is safe where one with the same constraints and owners is
 safely : (one other : System) (lattice : ℕ) (order : Order) → AreSame one other → IsSafe one lattice order
     → IsSafe other lattice order
 safely one other lattice order same safe n v b e st lead =
     let back_way = turned one other same in
     safe n v b e (to other one lattice back_way n (Bound v lattice b) st) (on other one lattice back_way e v lead)
 
+-- systems with the same constraints and owners have the same paths and are safe alike
 pub same_paths : SamePaths
 same_paths one other lattice same =
     let back_way = turned one other same in

@@ -24,6 +24,7 @@ use Rattle.split_laws.proofs.Library.{down_on, split_path, owned, calls_of, copy
 site_is : {x y : Site} → Some x ≡ Some y → x ≡ y
 site_is e = cc
 
+-- where two properties are decided, both together are
 both : (A B : Type 0) → Decided A → Decided B → Decided (A × B)
 both A B (inl a) (inl b) = inl (a, b)
 both A B (inr not) b = inr (λ p. not p.0)
@@ -404,6 +405,7 @@ module _ (s : Split) (lattice : ℕ) (order : Order) (join meet : ℕ → ℕ) (
       bound = bound_on;
     }
 
+-- where the words with the client are accepted, the library with the client is
 pub served_is_whole : ServedIsWhole
 served_is_whole s lattice order join meet t given accepted depth =
     let before = accepted depth in

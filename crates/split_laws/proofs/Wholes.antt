@@ -293,6 +293,7 @@ module _ (s : Split) (lattice : ℕ) (order : Order) (join meet : ℕ → ℕ) (
       bound = bound_on;
     }
 
+-- where the library with the client is accepted, the words with the client are
 pub whole_is_served : WholeIsServed
 whole_is_served s lattice order join meet t given accepted depth =
     let extra = room s lattice order join meet t given in

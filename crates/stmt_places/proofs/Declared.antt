@@ -100,6 +100,7 @@ name_specs kind h = absurd cc
 abbrev pub behind_words : TokenKind → Bool
 behind_words kind = if is_semicolon kind then true else is_name_kind kind
 
+-- a name and `;`, which may stand behind the words of a declaration, stop its specifiers
 pub words_specs : (kind : TokenKind) → behind_words kind ≡ true → stops_specs kind ≡ true
 words_specs kind h = by_semi (is_semicolon kind) refl h
   where

@@ -45,6 +45,7 @@ while_stops : (kind : TokenKind) → is_while kind ≡ true → stops_stmt kind 
 while_stops (kinds.Keyword keywords.While) h = refl
 while_stops kind h = absurd cc
 
+-- what stops a statement is no `else`
 stops_no_else : (kind : TokenKind) → stops_stmt kind ≡ true → is_else kind ≡ false
 stops_no_else kind h = by_else (is_else kind) h
   where
@@ -83,6 +84,7 @@ start_no_end kind h = refl
 
 -- A part in a scope of its own.
 
+-- a reader that is lawful is so in a scope of its own too, and keeps the scopes outside
 pub own_law : {A : Type 0} (read : Reader A) (front stops : TokenKind → Bool) → Law false read front stops
     → Law true (in_own read) front stops
 own_law read front stops l = record {
@@ -90,6 +92,7 @@ own_law read front stops l = record {
   ready = λ s at. own_ready (λ s. new_scope (is_wide s)) read (λ x t. x) front stops s at (l.ready (enter s) at);
 }
 
+-- a reader that leaves no more tokens than it was given does so in a scope of its own too
 own_falls : {A : Type 0} (read : Reader A) → Falls read → Falls (in_own read)
 own_falls read falls s ts x e =
     let a = bind_ok e in

@@ -6,6 +6,7 @@ use Rattle.c_tree.specs.declared.lexeme.Lexeme.{Lexeme}
 use Rattle.row_laws.specs.KeyLaws.Differing.{has_number, AreNumbered}
 use Rattle.token_laws.specs.Tokens.{AreCounted, CountedAreRead}
 
+-- tokens that are numbered from m on have no number below m
 no_number : (n m : ℕ) (k : List Lexeme) → n < m → AreCounted m k → has_number n k ≡ false
 no_number n m [] less h = refl
 no_number n m (it ∷ k) less h = by (nat_eq it.at n) refl (no_number n (suc m) k (omega (arith, less)) h.1)
@@ -15,6 +16,7 @@ no_number n m (it ∷ k) less h = by (nat_eq it.at n) refl (no_number n (suc m) 
         let same : it.at ≡ n = eqb-true it.at n e in let place : it.at ≡ m = h.0 in absurd (omega (arith, same, place, less))
     by false e none = none
 
+-- tokens that are numbered by their places have different numbers
 numbered : (m : ℕ) (k : List Lexeme) → AreCounted m k → AreNumbered k
 numbered m [] h = tt
 numbered m (it ∷ k) h =

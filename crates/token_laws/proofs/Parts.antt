@@ -31,6 +31,7 @@ use Rattle.token_laws.proofs.Texts.{Holds, Covers, empty, one, both, nothing, no
 
 -- specifiers are no mix without a word
 
+-- no basic type is made of no words
 no_type_of_none : Any (IsPermutation []) basic_types → ⊥
 no_type_of_none (at, set, less, is, same) =
     let long : 0 ≡ length set = sym (length_permutation [] set same) in

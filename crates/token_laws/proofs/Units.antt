@@ -50,6 +50,7 @@ use Rattle.token_laws.proofs.Found.{bodies_at, faults_at, StartsAt, starts_appen
 same_get : (n m : ℕ) (all : List Lexeme) → n ≡ m → slice_get all n ≡ slice_get all m
 same_get n m all e = ap (slice_get all) e
 
+-- tokens that are numbered by their places are each the token of its number in the whole list
 counted_all : (all k : List Lexeme) (n : ℕ) → AreCounted n k → ((i : ℕ) → slice_get all (n + i) ≡ slice_get k i) →
     AllAt (λ m. IsTokenOf m all) k
 counted_all all [] n h same = tt
@@ -89,6 +90,7 @@ at_place (it ∷ k) (suc n) m h is =
 from_none : (n : ℕ) → 0 + n ≡ n
 from_none n = omega arith
 
+-- where an element of the text is the one token between n and n, n is the number of a token
 one_token : (all : List Lexeme) → AreCounted 0 all → (n : ℕ) → IsElement (tokens_between all n n) → IsTokenOf n all
 one_token all h n is =
     let found = at_place all n 0 h (subst (λ (m : ℕ). IsElement (take m (drop n all))) (one n) is) in
@@ -99,6 +101,7 @@ one_token all h n is =
 
 -- one source
 
+-- all tokens that the ops of a source's tape carry are tokens of its text
 tape_tokens : FirstBegins → LastEnds → (it : Source) (all : List Lexeme) → IsReadFrom it all →
     AllOps (λ n. IsTokenOf n all) (tape_of it.items)
 tape_tokens firsts lasts it all read =
@@ -112,6 +115,7 @@ stands : (it : Source) (all : List Lexeme) (a b : ℕ) → IsTokenOf a all → I
     StandsAt it all (record { unit = it.spelling.unit; from = a; to = b })
 stands it all a b first last = record { unit = refl; first = first; last = last }
 
+-- what holds of all tokens along a tape still holds where it is weakened for each
 ops_hold : (P Q : ℕ → Type 0) → ((n : ℕ) → P n → Q n) → (tape : List Op) → AllOps P tape → AllOps Q tape
 ops_hold P Q f [] h = tt
 ops_hold P Q f (op ∷ tape) h = (ins_hold (op_tokens op) h.0, ops_hold P Q f tape h.1)
@@ -127,6 +131,7 @@ Given S [] texts = Unit {0}
 Given S (it ∷ sources) [] = Unit {0}
 Given S (it ∷ sources) (all ∷ texts) = ((where_ : Span) → StandsAt it all where_ → S where_) × Given S sources texts
 
+-- what holds of each span that stands in the sources is given for all of them, source by source
 given_later : (S : Span → Type 0) (sources : List Source) (texts : List (List Lexeme)) →
     ((where_ : Span) → StandsIn sources texts where_ → S where_) → Given S sources texts
 given_later S [] texts f = tt
@@ -139,11 +144,13 @@ given sources texts = given_later (StandsIn sources texts) sources texts (λ whe
 
 -- members of lists
 
+-- a span of one of some constraints has what all their spans have
 stands_there : (S : Span → Type 0) (cs : List Constraint) (c : Constraint) → Stand S cs → Contains cs c → S c.span
 stands_there S [] c h (k, less, is) = absurd (omega (arith, less))
 stands_there S (x ∷ cs) c h (zero, less, is) = subst (λ (d : Constraint). S d.span) is h.0
 stands_there S (x ∷ cs) c h (suc k, less, is) = stands_there S cs c h.1 (k, omega (arith, less), is)
 
+-- a place of one of some faults has what all their places have
 fault_there : (S : Place → Type 0) (fs : List Fault) (f : Fault) → FaultsOk S fs → Contains fs f → S f.at
 fault_there S [] f h (k, less, is) = absurd (omega (arith, less))
 fault_there S (x ∷ fs) f h (zero, less, is) = subst (λ (g : Fault). S g.at) is h.0
@@ -153,12 +160,14 @@ abbrev SitesAt : (Place → Type 0) → List Site → Type 0
 SitesAt S [] = Unit {0}
 SitesAt S (site ∷ sites) = S (site.unit, site.token) × SitesAt S sites
 
+-- a place of one of some call sites has what all their places have
 site_there : (S : Place → Type 0) (sites : List Site) (it : Site) → SitesAt S sites → Contains sites it
     → S (it.unit, it.token)
 site_there S [] it h (k, less, is) = absurd (omega (arith, less))
 site_there S (x ∷ sites) it h (zero, less, is) = subst (λ (s : Site). S (s.unit, s.token)) is h.0
 site_there S (x ∷ sites) it h (suc k, less, is) = site_there S sites it h.1 (k, omega (arith, less), is)
 
+-- call sites are at places that have what the places of the skeletons have
 sites_at : (S : Place → Type 0) (functions : List Place) (starts : List Start) → StartsAt S starts →
     SitesAt S (sites_among functions starts)
 sites_at S functions [] h = tt
@@ -245,6 +254,7 @@ module _ (firsts : FirstBegins) (lasts : LastEnds) (S : Span → Type 0) where
       (starts_at (AtWord S) it.spelling s h nothing (file access) (tape_of it.items) (own_tape it all read.0 f.0))
       (starts_there access s h sources texts read.1 f.1)
 
+-- the span of each constraint of a program that was read has its tokens in the text of its unit
 pub spans_have_tokens : FirstBegins → LastEnds → NamesOfTapes → ConstraintsAreFound → SpansHaveTokens
 spans_have_tokens firsts lasts names found p texts read c there =
     let S = StandsIn p.sources texts in
@@ -253,6 +263,7 @@ spans_have_tokens firsts lasts names found p texts read c there =
     stands_there S (system_of p).constraints c
     (subst (Stand S) (found p (sound_of firsts lasts S p.sources texts read)) (rows_there firsts lasts S p known p.sources texts read all)) there
 
+-- the place of each call site of a program that was read has its token in the text of its unit
 pub sites_have_tokens : FirstBegins → LastEnds → NamesOfTapes → StartsOfProgramAreFound → SitesHaveTokens
 sites_have_tokens firsts lasts names found p texts read site there =
     let S = StandsIn p.sources texts in
@@ -263,6 +274,7 @@ sites_have_tokens firsts lasts names found p texts read site there =
     (subst (StartsAt (AtWord S)) (found (has_access p.lattices) p.sources (sound_of firsts lasts S p.sources texts read))
     (starts_there firsts lasts S (has_access p.lattices) (names_of p.sources) known p.sources texts read all))) there
 
+-- the place of each fault of sources that were read has its token in the text of its unit
 pub faults_have_tokens : FirstBegins → LastEnds → NamesOfTapes → FaultsAreFound → FaultsHaveTokens
 faults_have_tokens firsts lasts names found sources texts read f there =
     let S = StandsIn sources texts in

@@ -23,6 +23,7 @@ use Rattle.unit_places.specs.Laws.{IsEnded}
 
 -- Numbered tokens.
 
+-- a numbered token has the number of the first and its position
 numbered_at : (at : ℕ) (tokens : List TokenKind) (n : ℕ) (t : Lexeme) → slice_get (numbered_from at tokens) n ≡ Some t
     → t.at ≡ at + n
 numbered_at at [] n t e = absurd cc
@@ -47,6 +48,7 @@ head_is x t xs r e = cc
 tail_is : (x t : Lexeme) (xs r : List Lexeme) → x ∷ xs ≡ t ∷ r → xs ≡ r
 tail_is x t xs r e = cc
 
+-- numbered tokens are cut before one of them: those before it and its kind do not depend on what follows
 cut : (n : ℕ) (tokens : List TokenKind) (b : List Lexeme) (t : Lexeme) (r : List Lexeme)
     → numbered_from n tokens ≡ b ++ (t ∷ r) → Cut n tokens b t
 cut n [] [] t r e = absurd cc
@@ -85,6 +87,7 @@ code_is a b r e d = cc
 same_place : (a b : Refusal) (r : Read (List Item)) → r ≡ Err a → r ≡ Err b → b.1 ≡ a.1
 same_place a b r e d = cc
 
+-- tokens with the end behind them hold an end, from whatever number on
 has_end_last : (n : ℕ) (body : List TokenKind) → has_end (numbered_from n (body ++ kinds.End ∷ [])) ≡ true
 has_end_last n [] = refl
 has_end_last n (kind ∷ body) = by_end (is_end kind) (has_end_last (suc n) body)

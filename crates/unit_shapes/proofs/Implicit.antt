@@ -13,12 +13,15 @@ use Rattle.name_rules.specs.Values.{undeclared_function}
 use Rattle.unit_shapes.specs.declared.uses.ImplicitTypes.{ImplicitTypes}
 use Rattle.unit_shapes.specs.Views.{AreImplicit}
 
+-- types that a table knows are known by each table that it grew from
 knows_before : (old new : List Row) (t : ℕ → CType) → Grows old new → Knows t new → Knows t old
 knows_before old new t grown knows n lt =
     let longer = grown.longer in
     let within : n < length new = omega arith in
     knows n within ∙ grown.keeps n lt
 
+-- a base type, a `void`, a text and a function type, each pushed to a table that grew, are the implicit types of the
+-- last table
 pub implicit : (first second third fourth : List Row) (number nothing text function : ℕ) (ws vs us : Words) (ps : List ℕ)
     → Grows first second → Grows second third → Grows third fourth → ws ≡ [] → vs ≡ [] → us ≡ [] → ps ≡ []
     → number < length first → Is first number (λ t. base []) → Is second nothing (λ t. with_words ws (void []))
@@ -46,6 +49,7 @@ implicit first second third fourth number nothing text function ws vs us ps g h 
       low = let l = g.longer in let m = h.longer in let n = i.longer in omega arith;
     }
 
+-- a type other than the base type that a number has stays its type while the table grows
 kept : (old new : List Row) (n : ℕ) (t : CType) → Grows old new → type_of old n ≡ t → (t ≡ base [] → ⊥)
     → type_of new n ≡ t
 kept old new n t grows is other = elim (cases_lt n (length old)) [

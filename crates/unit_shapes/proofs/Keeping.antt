@@ -62,6 +62,8 @@ module _ (a b c x y z : ℕ) where
       (or_right (nat_lt b y) (nat_eq b y && nat_lt c z)
       (and_both (nat_eq b y) (nat_lt c z) (eq-eqb b y d) (lt-ltb c z lt))))
 
+-- three numbers that come before three others, in order of the first that differs, come before all that those come
+-- before
 lower_twice : (a b c x y z k l m : ℕ) → Lower a b c x y z → Lower x y z k l m → Lower a b c k l m
 lower_twice a b c x y z k l m (inl p) (inl q) = inl (omega arith)
 lower_twice a b c x y z k l m (inl p) (inr (e, h)) = inl (omega arith)
@@ -71,6 +73,7 @@ lower_twice a b c x y z k l m (inr (e, inl p)) (inr (d, inr (i, q))) = inr (e �
 lower_twice a b c x y z k l m (inr (e, inr (h, p))) (inr (d, inl q)) = inr (e ∙ d, inl (omega arith))
 lower_twice a b c x y z k l m (inr (e, inr (h, p))) (inr (d, inr (i, q))) = inr (e ∙ d, inr (h ∙ i, omega arith))
 
+-- three numbers do not come before themselves
 not_lower : (a b c : ℕ) → Lower a b c a b c → ⊥
 not_lower a b c (inl p) = omega arith
 not_lower a b c (inr (e, inl p)) = omega arith
@@ -79,11 +82,13 @@ not_lower a b c (inr (e, inr (d, p))) = omega arith
 abbrev Comes : Fault → Fault → Type 0
 Comes f g = Lower f.at.0 f.at.1 (number f.rule) g.at.0 g.at.1 (number g.rule)
 
+-- a fault before another by the rules comes before it by unit, token and rule
 comes : (f g : Fault) → IsBefore f g → Comes f g
 comes f g (by_unit _ _ lt) = inl lt
 comes _ _ (by_token u s t r q lt) = inr (refl, inl lt)
 comes _ _ (by_rule p r q lt) = inr (refl, inr (refl, lt))
 
+-- a fault that comes before another by unit, token and rule is before it by the rules
 before : (f g : Fault) → Comes f g → IsBefore f g
 before f g (inl lt) = by_unit f g lt
 before f g (inr (e, inl lt)) =

@@ -25,6 +25,7 @@ flags_next h t front (suc n) st lt =
     let e : suc n - 1 ≡ n = omega arith in
     rw e (append_assoc front ((not h || is_of_type t (type_at (suc (twice n)) st)) ∷ []) (candidate_flags h t (associations n st)))
 
+-- the flags at a place among two lists of selections are those of the first, or else those of the second
 row_more : (xs ys : List Selection) (p : Place) → row_among (xs ++ ys) p ≡ or_else (row_among xs p) (row_among ys p)
 row_more [] ys p = refl
 row_more (it ∷ xs) ys p =
@@ -34,6 +35,7 @@ row_more (it ∷ xs) ys p =
 pub adds_none : (it : PlaceFlags) → AddsSelections it it []
 adds_none it = λ p. sym (or_none (row_at it p))
 
+-- flags with a row put at the place of a selection, where none stood, are those with this selection added
 pub adds_one : (old new : PlaceFlags) (u : Spelling) (st : State) (token count : ℕ) (at : Place) (row : List Bool) →
     at ≡ (selection_at u st token count).at → row ≡ selection_row count st →
     ((p : Place) → row_at new p ≡ or_else (row_at old p) (there at row p)) →
@@ -42,12 +44,14 @@ adds_one old new u st token count at row at_is row_is added = λ p.
     added p ∙ (λ i. or_else (row_at old p) (there (at_is i) (row_is i) p)) ∙
     ap (or_else (row_at old p)) (sym (or_none (there (selection_at u st token count).at (selection_row count st) p)))
 
+-- flags to which selections and then others are added are those with both added
 pub adds_more : (a b c : PlaceFlags) (xs ys : List Selection) → AddsSelections a b xs → AddsSelections b c ys →
     AddsSelections a c (xs ++ ys)
 adds_more a b c xs ys first second = λ p.
     second p ∙ ap (λ o. or_else o (row_among ys p)) (first p) ∙ or_assoc (row_at a p) (row_among xs p) (row_among ys p) ∙
     ap (or_else (row_at a p)) (sym (row_more xs ys p))
 
+-- from the index of an element on a list is this element and those from the next index on
 drop_there : {A : Type 0} (xs : List A) (n : ℕ) (x : A) → x ≡ get_or xs n x → n < length xs
     → drop n xs ≡ x ∷ drop (n + 1) xs
 drop_there [] n x is lt = absurd (omega arith)
@@ -55,6 +59,7 @@ drop_there (y ∷ ys) zero x is lt = ap (λ z. z ∷ ys) (sym is)
 drop_there (y ∷ ys) (suc n) x is lt =
     let e : suc n + 1 ≡ suc (n + 1) = omega arith in rw e (drop_there ys n x is (omega arith))
 
+-- past its end nothing of a list is left
 drop_past : {A : Type 0} (xs : List A) (n : ℕ) → length xs ≤ n → drop n xs ≡ []
 drop_past [] zero le = refl
 drop_past [] (suc n) le = refl
@@ -72,6 +77,7 @@ pub record Selected (u : Spelling) (s : Names) (first st : State) (tape : List O
   pub added : AddsSelections old now some
   pub left : some ++ selections_found u s st (drop n tape) ≡ selections_found u s first tape
 
+-- before the first op no selection is added
 pub at_first : (u : Spelling) (s : Names) (st : State) (tape : List Op) (it : PlaceFlags)
     → Selected u s st st tape 0 it it
 at_first u s st tape it = record { some = []; added = adds_none it; left = ap (selections_found u s st) (none tape) } where
@@ -79,6 +85,7 @@ at_first u s st tape it = record { some = []; added = adds_none it; left = ap (s
   none [] = refl
   none (op ∷ tape) = refl
 
+-- behind one op more the selections of the ops so far are added
 pub at_next : (u : Spelling) (s : Names) (first st after : State) (tape : List Op) (n : ℕ) (op : Op) (old now new : PlaceFlags) →
     op ≡ get_or tape n op → n < length tape → Selected u s first st tape n old now →
     AddsSelections now new (op_selections u st op) → after ≡ step u s st op → Selected u s first after tape (n + 1) old new
@@ -91,6 +98,7 @@ at_next u s first st after tape n op old now new is lt so more next = record {
       ap (λ (all : List Selection). so.some ++ all) (sym (next_selected u s st tape n op is lt)) ∙ so.left;
 }
 
+-- behind the last op the selections of the whole tape are added
 pub at_last : (u : Spelling) (s : Names) (first st : State) (tape : List Op) (n : ℕ) (old now : PlaceFlags)
     → length tape ≤ n →
     Selected u s first st tape n old now → AddsSelections old now (selections_found u s first tape)
@@ -107,6 +115,7 @@ next_begun : (u : Spelling) (s : Names) (st : State) (r : Rounds) (tape : List O
     op_starts u s st r op ++ starts_found u s (step u s st op) (round_step st.declarations r op) (drop (n + 1) tape)
 next_begun u s st r tape n op is lt = ap (starts_found u s st r) (drop_there tape n op is lt)
 
+-- behind one op more the skeletons of the ops so far and those of the ops still to come are those of the whole tape
 pub begun_next : (u : Spelling) (s : Names) (found more whole : List Start) (st after : State) (r next : Rounds) (tape : List Op)
     (n : ℕ) (op : Op) → op ≡ get_or tape n op → n < length tape → found ++ starts_found u s st r (drop n tape) ≡ whole →
     more ≡ found ++ op_starts u s st r op → next ≡ round_step st.declarations r op → after ≡ step u s st op →

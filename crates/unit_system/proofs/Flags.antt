@@ -8,6 +8,7 @@ use Rattle.name_tables.specs.PlaceFlags.Flags.{flag_at, row_at, some_flag}
 use Rattle.row_rules.specs.Starting.{Selection, flag_among}
 use Rattle.unit_starts.specs.Selecting.{AddsSelections, row_among}
 
+-- the flag of a selection's number at a place, by its row, is that of the selections
 flag_of_row : (all : List Selection) (p : Place) (n : ℕ) → some_flag (row_among all p) n ≡ flag_among all p n
 flag_of_row [] p n = refl
 flag_of_row (it ∷ others) p n =

@@ -15,6 +15,7 @@ use Rattle.unit_starts.specs.Views.{start_in}
 abbrev owner_at : List Owner → ℕ → Owner
 owner_at xs n = unwrap_or (slice_get xs n) Nobody
 
+-- two lists of owners of one length that give each variable the same owner are one list
 same_lists : (xs ys : List Owner) → length xs ≡ length ys → ((n : ℕ) → n < length xs → owner_at xs n ≡ owner_at ys n)
     → xs ≡ ys
 same_lists [] [] e same = refl
@@ -24,11 +25,13 @@ same_lists (x ∷ xs) (y ∷ ys) e same =
     ap (λ (z : Owner). z ∷ xs) (same 0 (omega arith))
     ∙ ap (λ (zs : List Owner). y ∷ zs) (same_lists xs ys (omega arith) (λ n lt. same (suc n) (omega arith)))
 
+-- a variable below the length of a list of owners keeps its owner with one owner more behind
 in_front : (xs : List Owner) (x : Owner) (n : ℕ) → n < length xs → owner_at xs n ≡ owner_at (xs ++ x ∷ []) n
 in_front [] x n lt = absurd (omega arith)
 in_front (y ∷ xs) x zero lt = refl
 in_front (y ∷ xs) x (suc n) lt = in_front xs x n (omega arith)
 
+-- the variable at the length of a list of owners has the owner that is put behind it
 at_end : (xs : List Owner) (x : Owner) (n : ℕ) → n ≡ length xs → x ≡ owner_at (xs ++ x ∷ []) n
 at_end [] x zero is = refl
 at_end [] x (suc n) is = absurd (omega arith)
@@ -54,6 +57,7 @@ set_last old new n owner sets known =
           sets.others u apart ∙ in_front old.owners owner u (omega arith)
     ]
 
+-- an owner before e - (n + 1) of itself is e - n times this owner, where n is below e
 one_fewer : (n e : ℕ) (owner : Owner) → n < e → owner ∷ replicate (e - (n + 1)) owner ≡ replicate (e - n) owner
 one_fewer n e owner lt =
     let left : suc (e - (n + 1)) ≡ e - n = omega arith in

@@ -80,6 +80,7 @@ pub record Begun (access : Bool) (program : Resolved) (units : List UnitTape) (i
   pub added : AddsSelections old now some
   pub selections : some ++ selections_among (names_on program) (tapes_of (drop i units)) ≡ selections_on program
 
+-- before the first unit no skeletons and no selections are found, and all are to come
 pub begun_first : (access : Bool) (program : Resolved) (units : List UnitTape) (found : List rules.Start) (old : PlaceFlags)
     → units ≡ program.units → found ≡ [] → Begun access program units 0 found old old
 begun_first access program units found old is none = record {
@@ -93,6 +94,7 @@ begun_first access program units found old is none = record {
   none_dropped [] = refl
   none_dropped (x ∷ xs) = refl
 
+-- behind one unit more its skeletons are found and its selections added
 pub begun_next : (access : Bool) (program : Resolved) (units : List UnitTape) (i : ℕ) (unit : UnitTape) (found more : List rules.Start)
     (old now new : PlaceFlags) → i < length units → unit ≡ slice_index_or units i unit
     → Begun access program units i found old now
@@ -113,6 +115,7 @@ begun_next access program units i unit found more old now new lt is so row added
           ∙ ap (λ ts. so.some ++ selections_among s ts) (sym (behind units i unit lt is)) ∙ so.selections;
     }
 
+-- behind the last unit the skeletons of all units are found
 pub begun_starts : (access : Bool) (program : Resolved) (units : List UnitTape) (i : ℕ) (found : List rules.Start)
     (old now : PlaceFlags) → length units ≤ i → Begun access program units i found old now
     → found ≡ starts_on access program
@@ -120,6 +123,7 @@ begun_starts access program units i found old now le so =
     sym (append-nil found)
     ∙ ap (λ ts. found ++ starts_among access (names_on program) ts) (sym (past units i le)) ∙ so.starts
 
+-- behind the last unit the selections of all units are added
 pub begun_selections : (access : Bool) (program : Resolved) (units : List UnitTape) (i : ℕ) (found : List rules.Start)
     (old now : PlaceFlags) → length units ≤ i → Begun access program units i found old now
     → AddsSelections old now (selections_on program)

@@ -16,6 +16,7 @@ use Rattle.unit_types.specs.Resolved.{tape_of, tapes_of, faults_among}
 pub knows_before : (old new : List Row) (t : ℕ → CType) → Grows old new → Knows t new → Knows t old
 knows_before old new t grows knows = λ n lt. knows n (let l = grows.longer in omega arith) ∙ grows.keeps n lt
 
+-- where a unit's tape leads from some names to others, those on the tapes from that unit on come from the others
 pub names_on_from : (units : List UnitTape) (i : ℕ) (it : UnitTape) (s after : Names) → it ≡ slice_index_or units i it
     → i < length units → after ≡ tape_named (tape_of it) (unit_begun (tape_of it).spelling.unit s)
     → tapes_named (tapes_of (drop (i + 1) units)) after ≡ tapes_named (tapes_of (drop i units)) s

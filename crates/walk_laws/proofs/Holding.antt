@@ -22,6 +22,7 @@ use Rattle.flow_laws.proofs.Exact.{subs_are_sub_paths}
 use Rattle.flow_laws.proofs.Showing.{subs_pass}
 use Rattle.flow_laws.proofs.Walking.{seen, call_const, follows_const, onward_passes, quiet_and, Settles}
 
+-- the last of two items and more is the last of those behind the first
 last_more : {A : Type 0} (x y : A) (zs : List A) → last_of (x ∷ y ∷ zs) ≡ last_of (y ∷ zs)
 last_more x y zs =
     let steps : length (x ∷ y ∷ zs) - 1 ≡ suc (length (y ∷ zs) - 1) = omega arith in
@@ -115,6 +116,7 @@ module _ (sys : System) (lattice : ℕ) (subs : List (List PathStep)) (to : ℕ)
 or_both : (a b : Option BadStep) → a ≡ None → b ≡ None → or_else a b ≡ None
 or_both a b first second = ap (λ x. or_else x b) first ∙ second
 
+-- no step of a walk with its sub-paths fails a rule, and it ends at its last variable
 pub walk_shown : WalkShown
 walk_shown sys lattice from to end subs steps are walk =
     let first = Edge (constant_to lattice from) in

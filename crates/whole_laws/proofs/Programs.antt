@@ -9,12 +9,14 @@ use Rattle.missing_laws.specs.Programs.{AreFormed, IsAccepted, ProgramsHaveSkele
 use Rattle.missing_laws.proofs.Places.{declared_differ}
 use Rattle.whole_laws.specs.Programs.{IsParsed, PlacesOfReadDiffer, ReadProgramsHaveSkeletons, ReadProgramsMissNothing}
 
+-- sources that are parsed are formed
 formed : (sources : List Source) → All IsParsed sources → AreFormed sources
 formed [] h = tt
 formed (it ∷ sources) h =
     let parsed = All-head IsParsed it sources h in
     ((parsed.all, parsed.formed.rules), formed sources (All-tail IsParsed it sources h))
 
+-- sources that are parsed are read
 read : (sources : List Source) → All IsParsed sources → All IsRead sources
 read [] h = All-nil IsRead
 read (it ∷ sources) h =
@@ -26,6 +28,7 @@ read (it ∷ sources) h =
       numbers = parsed.numbers;
     }) (read sources (All-tail IsParsed it sources h))
 
+-- sources that are parsed are scoped
 scoped : (sources : List Source) → All IsParsed sources → All IsScoped sources
 scoped [] h = All-nil IsScoped
 scoped (it ∷ sources) h =
@@ -33,6 +36,7 @@ scoped (it ∷ sources) h =
     All-cons IsScoped it sources (record { all = parsed.all; formed = parsed.formed; names = parsed.names })
     (scoped sources (All-tail IsParsed it sources h))
 
+-- a program that was parsed, whose units differ in number and have no fault, is accepted
 accepted : PlacesOfReadDiffer → FirstsOfScopedHaveSkeletons → (p : Program) → All IsParsed p.sources →
     UnitsDiffer p.sources → HasNoFault p.sources → IsAccepted p
 accepted places firsts p parsed units none =

@@ -49,6 +49,7 @@ module _ (u : Spelling) (st : State) where
   op_part (ops.Declr op) = no_part (key_place u (op_key (ops.Declr op)))
   op_part (ops.Stmt op) = none
 
+-- the selections along a tape are at places of its ops, in their order
 tape_part : (u : Spelling) (s : Names) (tape : List Op) (st : State) →
     IsPart (selection_places (selections_found u s st tape)) (key_places u tape)
 tape_part u s [] st = none
@@ -57,6 +58,7 @@ tape_part u s (op ∷ tape) st =
     (sym (selections_joined (op_selections u st op) (selections_found u s (step u s st op) tape)))
     (joined_part (op_part u st op) (tape_part u s tape (step u s st op)))
 
+-- the selections of the sources are at places of their ops, in their order
 sources_part : (s : Names) (sources : List Source)
     → IsPart (selection_places (selections_on s sources)) (keys_among sources)
 sources_part s [] = none
@@ -65,6 +67,7 @@ sources_part s (it ∷ sources) =
     (sym (selections_joined (selections_found it.spelling s nothing (tape_of it.items)) (selections_on s sources)))
     (joined_part (tape_part it.spelling s (tape_of it.items) nothing) (sources_part s sources))
 
+-- the selections of a program are at different places, where its ops are
 pub selections_differ : SelectionsOfProgramAreFound → (sources : List Source) → AreDifferent (keys_among sources) →
     AreDifferent (selection_places (selections_among (names_of sources) sources))
 selections_differ found sources differ =

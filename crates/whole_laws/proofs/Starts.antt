@@ -193,6 +193,7 @@ module _ (u : Spelling) (s : Names) (st : State) (r : Rounds) where
 
 -- along tapes
 
+-- the skeletons along a tape begin at places of its ops, in their order
 tape_part : (u : Spelling) (s : Names) (tape : List Op) (st : State) (r : Rounds) →
     IsPart (start_places (starts_found u s st r tape)) (key_places u tape)
 tape_part u s [] st r = none
@@ -203,6 +204,7 @@ tape_part u s (op ∷ tape) st r =
     (sym (starts_joined (op_starts u s st r op) (starts_found u s next around_next tape)))
     (joined_part (op_part u s st r op) (tape_part u s tape next around_next))
 
+-- the skeletons of the sources begin at places of their ops, in their order
 sources_part : (access : Bool) (s : Names) (sources : List Source) →
     IsPart (start_places (found_on access s sources)) (keys_among sources)
 sources_part access s [] = none
@@ -211,6 +213,7 @@ sources_part access s (it ∷ sources) =
     (sym (starts_joined (unit_starts access it.spelling s (tape_of it.items)) (found_on access s sources)))
     (joined_part (tape_part it.spelling s (tape_of it.items) nothing (file access)) (sources_part access s sources))
 
+-- the skeletons of a program begin at different places, where its ops are
 pub starts_differ : StartsOfProgramAreFound → (sources : List Source) → All IsSound sources →
     AreDifferent (keys_among sources) → (access : Bool) → AreDifferent (start_places (starts_of access sources))
 starts_differ found sources sound differ access =

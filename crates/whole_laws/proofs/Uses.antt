@@ -42,6 +42,7 @@ uses_joined (x ∷ xs) ys = ap (λ (ps : List Place). x.at ∷ ps) (uses_joined 
 
 -- what declares nothing but names and tags uses none
 
+-- a typedef that names a struct without a tag leaves the uses of names as they were
 known_same : (words : List Keyword) (name : ℕ) (untagged : Option ℕ) (s : Names) →
     (typedef_known words name untagged s).uses ≡ s.uses
 known_same words name None s = refl
@@ -51,6 +52,7 @@ known_same words name (Some n) s = by (has_word keywords.Typedef words && is_at_
     by true = refl
     by false = refl
 
+-- a thing that is new or `static` leaves the uses of names as they were
 thing_same : (b c : Bool) (unit name : ℕ) (at : Place) (s : Names) →
     (static_where b unit name (thing_where c name at s)).uses ≡ s.uses
 thing_same true true unit name at s = refl
@@ -58,6 +60,7 @@ thing_same true false unit name at s = refl
 thing_same false true unit name at s = refl
 thing_same false false unit name at s = refl
 
+-- a declarator, be it with a name or without, leaves the uses of names as they were
 some_same : (u : Spelling) (untagged : Option ℕ) (it : Option Named) (words : List Keyword) (t : CType) (s : Names) →
     (declared_some u untagged it words t s).uses ≡ s.uses
 some_same u untagged None words t s = refl
@@ -95,12 +98,14 @@ tag_same : (found : Option ℕ) (u : Spelling) (kind : TagKind) (token tag : ℕ
 tag_same (Some n) u kind token tag s = refl
 tag_same None u kind token tag s = refl
 
+-- a use of a tag leaves the uses of names as they were
 tag_used_same : (u : Spelling) (alone : Bool) (kind : TagKind) (token tag : ℕ) (s : Names) →
     (tag_used u alone kind token tag s).names.uses ≡ s.uses
 tag_used_same u alone kind token tag s =
     tag_same (if alone then tag_in (innermost s.scopes).tags kind (u.key tag) else tag_through s.scopes kind (u.key tag))
     u kind token tag s
 
+-- a tag that is known leaves the uses of names as they were
 tag_known_same : (tag : Option ℕ) (n : ℕ) (s : Names) → (tag_known tag n s).uses ≡ s.uses
 tag_known_same None n s = refl
 tag_known_same (Some tag) n s = by (is_at_file s)
@@ -118,6 +123,7 @@ keep_same : (own : Option Place) (s : Names) → (keep own s).uses ≡ s.uses
 keep_same None s = refl
 keep_same (Some own) s = refl
 
+-- the entry into the body of a function leaves the uses of names as they were
 entered_same : (plain counted : Bool) (d : Option Declared) (s : Names)
     → (body_entered_by plain counted d s).uses ≡ s.uses
 entered_same plain counted None s = refl
@@ -126,6 +132,7 @@ entered_same plain false (Some d) s = refl
 
 -- lists of identifiers
 
+-- faults of parameters behind a list of identifiers leave the uses of names as they were
 unknown_same : (u : Spelling) (its : List OldParameter) (s : Names) → (old_faults u its s).uses ≡ s.uses
 unknown_same u [] s = refl
 unknown_same u (it ∷ its) s =
@@ -225,6 +232,7 @@ module _ (u : Spelling) where
 
 -- units
 
+-- the uses of names along the tapes of sources are at places of their ops, in their order, behind earlier ones
 sources_part : (sources : List Source) (s : Names) (keys : List Place) → IsPart (use_places s.uses) keys →
     IsPart (use_places (tapes_named (map tape_of_source sources) s).uses) (keys ++ keys_among sources)
 sources_part [] s keys h = further_part [] h
@@ -237,6 +245,7 @@ sources_part (it ∷ sources) s keys h =
     next : Names
     next = (run it.spelling (tape_of it.items) (with_names (unit_begun it.spelling.unit s))).names
 
+-- the uses of names in a program are at different places, where its ops are
 pub uses_differ : NamesOfTapes → (sources : List Source) → All IsSound sources → AreDifferent (keys_among sources) →
     AreDifferent (use_places (names_of sources).uses)
 uses_differ names sources sound differ =

@@ -17,6 +17,7 @@ use Rattle.whole_laws.proofs.Selections.{selections_differ}
 use Rattle.whole_laws.proofs.Starts.{starts_differ}
 use Rattle.whole_laws.proofs.Uses.{uses_differ}
 
+-- where nothing is declared at a place, it is not among the places of the declarations
 none_declared : (ds : List Declared) (p : Place) → declared_at ds p ≡ None → has_place (declared_places ds) p ≡ false
 none_declared [] p e = refl
 none_declared (d ∷ ds) p e = by (is_place d.at p) e (none_declared ds p)
@@ -31,12 +32,14 @@ declared_differ : (ds : List Declared) → Differ ds → AreDifferent (declared_
 declared_differ [] h = tt
 declared_differ (d ∷ ds) h = (none_declared ds d.at h.0, declared_differ ds h.1)
 
+-- sources that are read are sound
 sound_of : (sources : List Source) → All IsRead sources → All IsSound sources
 sound_of [] h = All-nil IsSound
 sound_of (it ∷ sources) h =
     let read = All-head IsRead it sources h in
     All-cons IsSound it sources (read.all, read.rules) (sound_of sources (All-tail IsRead it sources h))
 
+-- no two declarations, uses, skeletons or selections of units that were read are at one place, by the laws of tapes
 pub places_differ : KeysDiffer → NamesOfTapes → DeclarationsDiffer → StartsOfProgramAreFound
     → SelectionsOfProgramAreFound →
     PlacesOfReadDiffer

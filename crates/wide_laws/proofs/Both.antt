@@ -26,6 +26,7 @@ pub behind_left : (ts : List Lexeme) → Leaves ts (behind_first ts)
 behind_left [] = ([], refl)
 behind_left (t ∷ ts) = (t ∷ [], refl)
 
+-- an answer that is late among the rest of some tokens is late among all of them
 pub late_down : {A : Type 0} {ts us : List Lexeme} → Leaves ts us → (q : Read A) → Late us q → Late ts q
 late_down h (Ok y) l = leaves_leaves h l
 late_down h (Err d) (inl deep) = inl deep
@@ -37,6 +38,7 @@ unfolding and_then
 late_bind ts (Ok x) f h k = late_down h (f x) (k x)
 late_bind ts (Err (fault, at)) f h k = h
 
+-- answers that agree, or of which the second goes on deeper, among the rest of some tokens do so among all of them
 passes_down : {A : Type 0} {ts us : List Lexeme} → Leaves ts us → (r q : Read A) → Passes us r q → Passes ts r q
 passes_down h (Ok x) q p = p
 passes_down h (Err e) q (inl p) = inl p

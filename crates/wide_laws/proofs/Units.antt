@@ -370,6 +370,7 @@ late_alone : (dialect : Bool) (items : List Item) (ts : List Lexeme) → Late ts
 late_alone dialect items [] = all_left []
 late_alone dialect items (t ∷ ts) = inr (late_refused (t ∷ ts))
 
+-- with more room a unit is read alike, or the reader goes on behind the token refused for the height
 unit_both : (room wide : ℕ) → 1 ≤ room → room < wide → (dialect : Bool) (all : List Lexeme)
     → Both (Unit {0}) (Unit {0}) all (unit_of room dialect all) (unit_of wide dialect all)
 unit_both room wide one less dialect all =

@@ -28,6 +28,7 @@ past_token {A} test s (t ∷ ts) f is k = by_test (test t.kind) is
     by_test true h = k (record { tree = t.at; scopes = s; rest = ts })
     by_test false h = absurd cc
 
+-- a name, read or refused, leaves or refuses one of the tokens given
 pub late_name : (s : HeldScopes) (ts : List Lexeme) → Late ts (name_at s ts)
 late_name s [] = inr (late_refused [])
 late_name s (t ∷ ts) = by_name (spelled_name t.kind)
@@ -36,6 +37,7 @@ late_name s (t ∷ ts) = by_name (spelled_name t.kind)
     by_name None = inr (late_refused (t ∷ ts))
     by_name (Some name) = behind_left (t ∷ ts)
 
+-- a tag, present, absent or refused, leaves or refuses one of the tokens given
 pub late_tag : (s : HeldScopes) (ts : List Lexeme) → Late ts (tag_at s ts)
 late_tag s [] = all_left []
 late_tag s (t ∷ ts) = by_name (spelled_name t.kind)
@@ -44,6 +46,7 @@ late_tag s (t ∷ ts) = by_name (spelled_name t.kind)
     by_name None = all_left (t ∷ ts)
     by_name (Some name) = behind_left (t ∷ ts)
 
+-- a token that makes something, read or refused, leaves or refuses one of the tokens given
 late_made : {A : Type 0} (of : TokenKind → Option (ℕ → A)) (s : HeldScopes) (ts : List Lexeme)
     → Late ts (made_at of s ts)
 late_made of s [] = inr (late_refused [])
@@ -69,6 +72,7 @@ pub late_asm_words : (s : HeldScopes) (ts : List Lexeme) → Late ts (asm_words_
 unfolding asm_words_at
 late_asm_words s ts = late_repeated (λ kind. is_made (asm_word_of kind)) (made_at asm_word_of) (late_made asm_word_of) s ts
 
+-- the loop over brackets, whether it ends or refuses, leaves or refuses one of the tokens given
 late_brackets : (state : Opened) (s : HeldScopes) (ts : List Lexeme) → Late ts (run bracket_turn state s ts)
 late_brackets state s ts = let both : Both ⊥ ⊥ ts (run bracket_turn state s ts) (run bracket_turn state s ts) = both_run bracket_turn bracket_turn turn state s ts in both.late
   where

@@ -31,6 +31,7 @@ or_none (Some n) = refl
 eq_false : (a b : List ℕ) → bytes_eq a b ≡ false → (a ≡ b → ⊥)
 eq_false a b off is = let both : true ≡ false = sym ((bytes_eq-Decides a b).1 is) ∙ off in cc
 
+-- texts are unlike where one is like a third and the other is not
 apart : (text t k : List ℕ) → bytes_eq text t ≡ false → bytes_eq text k ≡ true → bytes_eq t k ≡ false
 apart text t k off on = by_test (bytes_eq t k) refl
   where
@@ -82,6 +83,7 @@ if_none : {A : Type 0} (b : Bool) → None ≡ (let o : Option A = if b then Non
 if_none true = refl
 if_none false = refl
 
+-- a token whose kind is no name is the name of no spelling
 pub no_name : (lexed : Lexed) (o : Option Token) (kind : TokenKind) → kind_of o ≡ Some kind → name_of_kind kind ≡ None
     → (t : List ℕ) → None ≡ name_of_token lexed o t
 no_name lexed None kind is none t = absurd cc
@@ -95,6 +97,7 @@ if_past : (b : Bool) (count name : ℕ)
 if_past true count name = refl
 if_past false count name = refl
 
+-- a token whose kind is a name has it as the name of its own spelling, past a count, and of no other
 pub a_name : (lexed : Lexed) (o : Option Token) (kind : TokenKind) (bytes : List ℕ) (count name : ℕ)
     → kind_of o ≡ Some kind
     → option_map (bytes_of lexed) o ≡ Some bytes → name_of_kind kind ≡ Some name → (t : List ℕ)
@@ -121,6 +124,7 @@ named_on lexed (token ∷ tokens) zero t lt = by_test (bytes_eq (bytes_of lexed 
 named_on lexed (token ∷ tokens) (suc i) t lt =
     let e : suc i + 1 ≡ suc (i + 1) = omega arith in rw e (named_on lexed tokens i t (omega arith))
 
+-- the first of three names that is there, the latter two past one count, is the same either way it is grouped
 pub or_twice : (a x y : Option ℕ) (count : ℕ)
     → or_behind (or_behind a (past count x)) (past count y) ≡ or_behind a (past count (or_behind x y))
 or_twice None None y count = refl
@@ -145,6 +149,7 @@ texts_on it lexed (token ∷ tokens) zero name lt = by_test (is_name (name_of_ki
 texts_on it lexed (token ∷ tokens) (suc i) name lt =
     let e : suc i + 1 ≡ suc (i + 1) = omega arith in rw e (texts_on it lexed tokens i name (omega arith))
 
+-- one item more at the end changes no item that is got, where it is the default at its own position
 got_more : (keys : List ℕ) (x i d : ℕ) → (i ≡ length keys → x ≡ d)
     → unwrap_or (slice_get (keys ++ x ∷ []) i) d ≡ unwrap_or (slice_get keys i) d
 got_more [] x zero d h = h refl
@@ -158,6 +163,7 @@ own_more keys x n is = got_more keys x n n (λ e. is ∙ sym e)
 
 -- units
 
+-- the key of a spelling among units, or else the name past all their tokens, is what the rules say of it
 among_is : (units : List Lexed) (text : List ℕ) (name : ℕ)
     → key_or (count_of units + name) (key_spelled units text) ≡ key_among units text name
 among_is [] text name = omega arith
@@ -173,6 +179,7 @@ among_is (first ∷ others) text name =
     by_case None (Some n) is = ap (λ (m : ℕ). length first.tokens + m) is
     by_case (Some n) rest is = refl
 
+-- the key of a name of a unit behind others, by its spelling, is what the rules say of it, also behind none
 behind_is : (units : List Lexed) (lexed : Lexed) (name : ℕ)
     → key_of_some units (spelled lexed name) name ≡ key_behind units lexed name
 behind_is [] lexed name = by_case (spelled lexed name)
@@ -182,6 +189,7 @@ behind_is [] lexed name = by_case (spelled lexed name)
     by_case (Some text) = refl
 behind_is (first ∷ others) lexed name = refl
 
+-- the key that the names of units give a spelling, where there is one, is its key among the units
 by_units : (units : List Lexed) (it : EarlierNames) → AreNamesOf units it → (o : Option (List ℕ)) (name : ℕ)
     → key_by it name name o ≡ key_of_some units o name
 by_units units it are None name = refl
@@ -199,6 +207,7 @@ no_tokens : (first : Lexed) (tokens : List Token) (text : List ℕ) (key : ℕ) 
 no_tokens first [] text key none = omega arith
 no_tokens first (token ∷ tokens) text key none = absurd (omega arith)
 
+-- among units without tokens each name is the key of its spelling
 none_among : (units : List Lexed) (text : List ℕ) (name : ℕ) → count_of units ≡ 0 → key_among units text name ≡ name
 none_among [] text name none = refl
 none_among (first ∷ others) text name none =
@@ -223,6 +232,7 @@ past_twice : (a b : ℕ) (o : Option ℕ) → past a (past b o) ≡ past (a + b)
 past_twice a b None = refl
 past_twice a b (Some n) = let e : a + (b + n) ≡ (a + b) + n = omega arith in ap (λ (m : ℕ). Some m) e
 
+-- a spelling has its key among units and one more from the units, or else from the last, past their tokens
 spelled_more : (units : List Lexed) (lexed : Lexed) (text : List ℕ) → key_spelled (units ++ lexed ∷ []) text
     ≡ or_behind (key_spelled units text) (past (count_of units) (name_among lexed lexed.tokens text))
 spelled_more [] lexed text = past_none (name_among lexed lexed.tokens text)
@@ -239,6 +249,7 @@ spelled_more (first ∷ others) lexed text =
     by_case None (Some n) = refl
     by_case None None = past_twice (length first.tokens) (count_of others) (name_among lexed lexed.tokens text)
 
+-- units and one more have the tokens of the units and those of the one
 count_more : (units : List Lexed) (lexed : Lexed)
     → count_of (units ++ lexed ∷ []) ≡ count_of units + length lexed.tokens
 count_more [] lexed = omega arith

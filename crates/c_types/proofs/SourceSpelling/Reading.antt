@@ -11,6 +11,7 @@ use Rattle.c_types.specs.SourceSpelling.Keys.{own_or}
 some_is : {A : Type 0} (x y : A) → ◌≡◌ {A = Option A} (Some x) (Some y) → x ≡ y
 some_is {A} x y is = ap (λ (o : Option A). unwrap_or o x) is
 
+-- a token that is an index word or has a mark is an annotation, and no other is
 annotation_of : (lexed : Lexed) (o : Option Token) (kind : TokenKind) (mark : Option (ℕ × ℕ))
     → option_map (λ token. token.kind) o ≡ Some kind
     → option_map (λ token. mark_of_kind lexed token.kind) o ≡ Some mark
@@ -27,6 +28,7 @@ pub annotation_is : (lexed : Lexed) (n : ℕ) (kind : TokenKind) (mark : Option 
     → is_index kind || is_some mark ≡ holds_at (is_annotation lexed) lexed.tokens n
 annotation_is lexed n kind mark is has = annotation_of lexed (slice_get lexed.tokens n) kind mark is has
 
+-- a token is spelled `0` where its bytes are
 zero_of : (lexed : Lexed) (o : Option Token) (bytes : List ℕ)
     → option_map (λ token. slice_range lexed.bytes token.start token.end) o ≡ Some bytes
     → is_zero_text bytes ≡ holds_of_some (is_zero lexed) o
@@ -39,6 +41,7 @@ pub zero_is : (lexed : Lexed) (n : ℕ) (bytes : List ℕ)
     → is_zero_text bytes ≡ holds_at (is_zero lexed) lexed.tokens n
 zero_is lexed n bytes is = zero_of lexed (slice_get lexed.tokens n) bytes is
 
+-- the result for the item at a position, put before those of the items behind it, gives those from the position on
 dropped : {A : Type 0} (f : A → Bool) (xs : List A) (i : ℕ) (b : Bool) → i < length xs → b ≡ holds_at f xs i
     → b ∷ map f (drop (i + 1) xs) ≡ map f (drop i xs)
 dropped f [] i b lt is = absurd (omega arith)
@@ -74,6 +77,7 @@ abbrev spelled_by : ℕ → Bool → (ℕ → Bool) → (ℕ → Bool) → (ℕ 
 spelled_by unit wide annotates is_naught key =
     record { unit = unit; wide = wide; annotates = annotates; is_naught = is_naught; key = key }
 
+-- a spelling made of a unit's number, width, flags of its tokens and keys is what is read of it behind other units
 pub spelled_is : (units : List Lexed) (lexed : Lexed) (unit : ℕ) (wide : Bool) (words zeros : List Bool) (keys : List ℕ)
     → unit ≡ lexed.unit → wide ≡ lexed.wide → words ≡ map (is_annotation lexed) lexed.tokens
     → zeros ≡ map (is_zero lexed) lexed.tokens

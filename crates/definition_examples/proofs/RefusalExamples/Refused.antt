@@ -82,6 +82,7 @@ module _ (trees : UnitsBeginAsTrees) (none : NoneIsEarlier) where
       → ¬ IsAllowed false tokens at code
   goes_on tokens first at code unit less allowed = none false tokens first at code unit allowed less
 
+-- each refused source is refused first at the token, and for the reason, that was worked out
 pub refusals_hold : WholeAreMixes → MixesGoOn → UnitsAreTrees → UnitsBeginAsTrees → UnitsBeginAtAnyHeight
     → NoneIsEarlier → RefusalsHold
 refusals_hold whole_are goes are trees heights none = (

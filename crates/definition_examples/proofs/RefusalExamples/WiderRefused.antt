@@ -20,6 +20,7 @@ module _ (trees : UnitsBeginAsTrees) (none : NoneIsEarlier) where
     earlier = λ n other allowed. none true tokens at n other unit allowed;
   }
 
+-- each refused source of wider C is refused first at the token, and for the reason, that was worked out
 pub wider_hold : WholeAreMixes → MixesGoOn → UnitsAreTrees → UnitsBeginAsTrees → NoneIsEarlier → WiderHold
 wider_hold whole_are goes are trees none = (
   (

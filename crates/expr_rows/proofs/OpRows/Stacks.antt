@@ -44,6 +44,7 @@ accepts_newest ws w level h is =
 abbrev pub IsSettling : ℕ → List Waiting → Expr → List Waiting → Expr → Type 0
 IsSettling level before e now f = settle_of level (stack_of now) f ≡ settle_of level (stack_of before) e
 
+-- joining goes on behind one that waits, where its right operand ends before an operator of the level
 pub settling_goes_on : (level : ℕ) (before : List Waiting) (e : Expr) (ws vs : List Waiting) (w : Waiting) (f g : Expr)
     → IsSettling level before e ws f →
     ws ≡ vs ++ w ∷ [] → level < right_level (operator w.op) → g ≡ joined w f → IsSettling level before e vs g

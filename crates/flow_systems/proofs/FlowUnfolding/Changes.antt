@@ -9,6 +9,7 @@ pub last-push : (cs : List Change) (c : Change) (other v : ℕ) (w : List ℕ)
 last-push [] c other v w = refl
 last-push (d ∷ cs) c other v w = last-push cs c (cond (is_same d.at d.sites v w) d.elem other) v w
 
+-- taking one change from those that are left makes it the last so far, where it is of this copy of the variable
 pub last-step : (cs : List Change) (i other v : ℕ) (w : List ℕ) (c : Change) → i < length cs → c ≡ get_or cs i c →
     last_change (drop i cs) other v w ≡ last_change (drop (i + 1) cs) (cond (is_same c.at c.sites v w) c.elem other) v w
 last-step cs i other v w c less is =

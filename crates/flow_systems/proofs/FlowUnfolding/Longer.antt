@@ -9,6 +9,7 @@ use Rattle.flow_systems.specs.FlowUnfolding.Strings.{HasAll}
 pub kept_push : (old new : List (List ℕ)) (y w : List ℕ) → new ≡ old ++ y ∷ [] → Contains old w → Contains new w
 kept_push old new y w is there = let Has : List (List ℕ) → Type 0 = λ k. Contains k w in subst Has (sym is) (Contains-append_left old (y ∷ []) w there)
 
+-- pushing one more string with the site in front adds it to those that were added
 pub added_push : (old new strings : List (List ℕ)) (site i : ℕ) (x y : List ℕ) → new ≡ old ++ y ∷ [] → y ≡ site ∷ x
     → x ≡ get_or strings i x →
     ((k : ℕ) (w : List ℕ) → k < i → slice_get strings k ≡ Some w → Contains old (site ∷ w)) →
@@ -30,6 +31,7 @@ pub added_all : (strings all : List (List ℕ)) (site i : ℕ) → length string
 added_all strings all site i end added w there =
     added there.0 w (omega (arith, end, there.1)) (slice_get_read strings (length strings) there.0 w refl there.1 (sym there.2))
 
+-- the empty string alone is all strings of no site
 pub all_none : (strings : List (List ℕ)) (x : List ℕ) (count : ℕ) → strings ≡ x ∷ [] → x ≡ [] → HasAll strings count 0
 all_none strings x count one is [] below short =
     let Has : List (List ℕ) → Type 0 = λ k. Contains k [] in

@@ -37,6 +37,7 @@ pub record Flows : Type 0 where
   pub unsmashed : (e : ℕ) (b : Skel) → AllStay nobodys Nobody (unsmash e b)
   pub crossed : (site : ℕ) (a b : Skel) → AllLead nobodys Nobody Nobody site (cross site a b)
 
+-- the entry of an element in the view of a lattice makes it an element of that lattice
 entry_within : (lattices : List LatticeView) (lattice elem : ℕ) (view : Option LatticeView) (entry : Entry) →
     slice_get lattices lattice ≡ view → entry_of_view view elem ≡ Some entry → IsElement lattices lattice elem
 entry_within lattices lattice elem None entry there e = absurd cc

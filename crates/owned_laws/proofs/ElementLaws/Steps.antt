@@ -168,6 +168,7 @@ module _ (law : Flows) (w : World) where
       lists_named w.lattices (op_row w st op) (rows_found w (step w st op) tape)
       (none_where w.lattices (is_quiet st.rounds) (loud_row w st op) (loud_named st op)) (tape_named tape (step w st op))
 
+-- the constants and bounds of all units of a program name elements of its lattices
 units_named : Flows → (p : Program) (sources : List Source) → AllNamed p.lattices (rows_among p sources)
 units_named law p [] = tt
 units_named law p (it ∷ sources) =

@@ -22,6 +22,7 @@ use Rattle.owned_laws.proofs.OwnerLaws.Intervals.{skeletons_are_owned}
 
 -- constraints by their numbers
 
+-- each of constraints that all fit in a system fits
 fits_at : (sys : System) (cs : List Constraint) (n : ℕ) (c : Constraint) → AllFit sys cs →
     slice_get cs n ≡ Some c → Fits sys c.link
 fits_at sys [] n c h e = absurd cc
@@ -32,6 +33,7 @@ has_fits : (sys : System) (n : ℕ) (link : Link) → AllFit sys sys.constraints
 has_fits sys n link h it =
     subst (Fits sys) it.link_is (fits_at sys sys.constraints n it.constraint h it.there)
 
+-- two variables of one owner or of nobody that have functions have the same one
 one_function : (o : Owner) (f g : ℕ) (a b : Owner) → (a ≡ o) ⊎ (a ≡ Nobody) → (b ≡ o) ⊎ (b ≡ Nobody) →
     a ≡ Function f → b ≡ Function g → f ≡ g
 one_function o f g a b (inl p) (inl q) e d = cc
@@ -39,6 +41,7 @@ one_function o f g a b (inl p) (inr q) e d = absurd cc
 one_function o f g a b (inr p) (inl q) e d = absurd cc
 one_function o f g a b (inr p) (inr q) e d = absurd cc
 
+-- a system whose constraints all fit is well owned
 pub fitting_is_well_owned : FittingIsWellOwned
 fitting_is_well_owned sys h = record {
   le = λ n u v f g it e d. let fit = has_fits sys n (Le u v) h it in
@@ -51,6 +54,7 @@ pub lists_fit : ListsFit
 lists_fit sys [] ds h k = k
 lists_fit sys (c ∷ cs) ds h k = (h.0, lists_fit sys cs ds h.1 k)
 
+-- a link that stays within one owner fits
 stays_fits : (sys : System) (owner : Owner) (link : Link) → Stays (owner_of sys) owner link → Fits sys link
 stays_fits sys owner (Le u v) h = record { owner = owner; from = h.0; to = h.1 }
 stays_fits sys owner (Const l e v) h = tt
@@ -58,11 +62,13 @@ stays_fits sys owner (Bound v l e) h = tt
 stays_fits sys owner (Enter s u v) h = absurd h
 stays_fits sys owner (Leave s u v) h = absurd h
 
+-- the constraints of links that stay within one owner all fit
 pub staying_fits : StayingFits
 staying_fits sys owner lattices where_ [] h = tt
 staying_fits sys owner lattices where_ (link ∷ links) h =
     (stays_fits sys owner link h.0, staying_fits sys owner lattices where_ links h.1)
 
+-- a link that leads from the owner of a site to its target, or back, by this site fits
 leads_fits : (sys : System) (site : ℕ) (it : Site) (link : Link) → slice_get sys.sites site ≡ Some it →
     Leads (owner_of sys) it.owner (Function it.target) site link → Fits sys link
 leads_fits sys site it (Le u v) there h = absurd h
@@ -73,6 +79,7 @@ leads_fits sys site it (Enter s u v) there h =
 leads_fits sys site it (Leave s u v) there h =
     record { it = it; there = ap (slice_get sys.sites) h.0 ∙ there; outer_is = h.2; inner_is = h.1 }
 
+-- the constraints of links that lead by a site all fit
 pub leading_fits : LeadingFits
 leading_fits sys site it lattices where_ [] there h = tt
 leading_fits sys site it lattices where_ (link ∷ links) there h =
@@ -86,6 +93,7 @@ pub record IsOneOf (all : List Numbered) (start : Start) (s : Skel) : Type 0 whe
   pub start_is : it.start ≡ start
   pub skeleton_is : s ≡ skeleton_of it
 
+-- what is found among numbered skeletons is found with one more before them
 later : (first : Numbered) (all : List Numbered) (start : Start) (s : Skel) → IsOneOf all start s →
     IsOneOf (first ∷ all) start s
 later first all start s p = record {
@@ -95,6 +103,7 @@ later first all start s p = record {
   skeleton_is = p.skeleton_is;
 }
 
+-- the first skeleton that begins at a place is one of the numbered ones, and the one found there
 pub found_at : (starts : List Start) (n : ℕ) (p : Place) (start : Start) → start_at starts p ≡ Some start →
     IsOneOf (numbered_from n starts) start (skeleton_among (numbered_from n starts) p)
 found_at [] n p start e = absurd cc
@@ -112,6 +121,7 @@ found_at (head ∷ starts) n p start e = by (is_place head.at p) e (found_at sta
     by true e more = record { it = first; there = (0, omega arith, refl); start_is = cc; skeleton_is = refl }
     by false e more = later first others start (skeleton_among others p) (more e)
 
+-- the variables of the skeleton found at a place have the owner with which it begins there
 pub skeletons_at_are_owned : SkeletonsAtAreOwned
 skeletons_at_are_owned functions starts p start e =
     let found = found_at starts 0 p start e in
@@ -139,6 +149,7 @@ module _ (own : ℕ → Owner) (owner : Owner) where
       subst (λ (s : Skel). AllIn own owner (nodes s)) same (front (nodes p) (all_nodes ps) h)
   param_stays (more_skels p ps) (suc n) q h e = param_stays ps n q (back (nodes p) (all_nodes ps) h) e
 
+-- where the variables of a skeleton stay within an owner, so do its contents, its result and its parameters
 pub parts_stay : AllPartsStay
 parts_stay own owner (flat v k) h =
     record { contents_in = h; read_in = h; result_in = h; param_in = λ n q e. absurd cc }

@@ -54,6 +54,7 @@ module _ (own : ℕ → Owner) (owner : Owner) where
 
 -- skeletons are numbered one behind the other
 
+-- each skeleton numbered from n on has a first number of at least n
 first_behind : (starts : List Start) (n : ℕ) (it : Numbered) → Contains (numbered_from n starts) it → n ≤ it.first
 first_behind [] n it c = absurd (omega (arith, c.1))
 first_behind (start ∷ starts) n it (zero, less, is) =
@@ -101,6 +102,7 @@ module _ (functions : List Place) where
       ∙ (past start starts (k - size start.type)
       ∙ owned starts (n + size start.type) it c (k - size start.type) (omega arith) (omega arith))
 
+-- the variables of each skeleton have the owner with which it begins
 pub skeletons_are_owned : SkeletonsAreOwned
 skeletons_are_owned functions starts it c =
     nodes_owned (λ v. unwrap_or (slice_get (owners_among functions starts) v) Nobody)

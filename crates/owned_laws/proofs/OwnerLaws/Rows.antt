@@ -48,6 +48,7 @@ pub record Flows : Type 0 where
 
 -- what is no skeleton
 
+-- a skeleton of nothing is empty
 nothing_is_empty : (s : Skel) → is_nothing s ≡ true → is_empty s ≡ true
 nothing_is_empty (flat v kinds.Nothing) e = refl
 nothing_is_empty (flat v kinds.Void) e = absurd cc
@@ -71,12 +72,14 @@ last_true : (a b : Bool) → b ≡ true → (a || b) ≡ true
 last_true true b e = refl
 last_true false b e = e
 
+-- the parts of a skeleton of nothing are inside any owner
 parts_of_nothing : (sys : System) (owner : Owner) (s : Skel) → is_nothing s ≡ true → PartsInside sys owner s
 parts_of_nothing sys owner (flat v k) e =
     record { contents_in = inl e; read_in = inl e; result_in = inl e; param_in = λ n q is. absurd cc }
 parts_of_nothing sys owner (ref v s) e = absurd cc
 parts_of_nothing sys owner (fun v ps r e) is = absurd cc
 
+-- the parts of a skeleton are inside where it is
 pub parts_inside : AllPartsInside
 parts_inside sys owner s (inl e) = parts_of_nothing sys owner s e
 parts_inside sys owner s (inr h) =
@@ -460,6 +463,7 @@ module _ (law : Flows) (sys : System) (owner : Owner) (w : World) where
           inr (staying_fits sys owner (all_lattices w) where_ (unsmash (root list) t)
           (law.unsmashed (owner_of sys) owner (root list) t (root_in (owner_of sys) owner list h) k))
 
+-- the constraints of each form fit where the skeletons of its parts are inside one owner
 pub rows_fit : Flows → RowsFit
 rows_fit law sys owner w = record {
   annotations = λ t s. annotations_fit sys w (annotated w t s);

@@ -22,6 +22,7 @@ use Rattle.owned_laws.proofs.OwnerLaws.Intervals.{skeletons_are_owned}
 pub place_itself : (p : Place) → is_place p p ≡ true
 place_itself p = rw (eq-eqb p.0 p.0 refl, eq-eqb p.1 p.1 refl) refl
 
+-- places that compare as one are equal
 pub place_is : (p q : Place) → is_place p q ≡ true → p ≡ q
 place_is p q e =
     let both = and_parts (nat_eq p.0 q.0) (nat_eq p.1 q.1) e in
@@ -30,6 +31,7 @@ place_is p q e =
     pair : ℕ → ℕ → Place
     pair m n = (m, n)
 
+-- the number of a place among others, counted from one more, is one more
 number_suc : (places : List Place) (n : ℕ) (p : Place) → number_among (suc n) places p ≡ suc (number_among n places p)
 number_suc [] n p = refl
 number_suc (q ∷ places) n p = by (is_place q p) (number_suc places (suc n) p)
@@ -40,6 +42,7 @@ number_suc (q ∷ places) n p = by (is_place q p) (number_suc places (suc n) p)
     by true e = refl
     by false e = e
 
+-- a skeleton that is numbered is one of those that were numbered
 in_starts : (starts : List Start) (n : ℕ) (it : Numbered) → Contains (numbered_from n starts) it →
     Contains starts it.start
 in_starts [] n it c = absurd (omega (arith, c.1))
@@ -51,6 +54,7 @@ in_starts (start ∷ starts) n it (suc k, less, is) =
 
 -- the place of an instance is one of the sites' places
 
+-- a place that is among the sites behind a skeleton is among them with the site of it, if it is one, in front
 has_there : (head : Start) (called : Option Place) (places : List Place) (p : Place) →
     has_place places p ≡ true → has_place (place_of head called ++ places) p ≡ true
 has_there head None places p e = e
@@ -60,12 +64,14 @@ has_there head (Some f) places p e = by (is_place head.at p)
     by true = refl
     by false = e
 
+-- a skeleton that calls a function has its own place among the sites
 has_here : (head : Start) (f : Place) (places : List Place) → head.calls ≡ Some f →
     has_place (place_of head head.calls ++ places) head.at ≡ true
 has_here head f places is =
     ap (λ (called : Option Place). has_place (place_of head called ++ places) head.at) is
     ∙ ap (λ (b : Bool). if b then true else has_place places head.at) (place_itself head.at)
 
+-- the place of each skeleton that calls a function is among the sites
 has_site : (starts : List Start) (start : Start) (f : Place) → Contains starts start → start.calls ≡ Some f →
     has_place (site_places starts) start.at ≡ true
 has_site [] start f c is = absurd (omega (arith, c.1))
@@ -133,11 +139,13 @@ module _ (functions : List Place) where
 
 -- flows between a function and its instance
 
+-- the law: the flows between a function and its instance lead by the site from owner to owner
 abbrev pub Crossings : Type 0
 Crossings =
     (own : ℕ → Owner) (outer inner : Owner) (site : ℕ) (a b : Skel) → AllOwned own inner (nodes a) →
     AllOwned own outer (nodes b) → AllLead own outer inner site (cross site a b)
 
+-- calls and returns lead between an instance and its function by the site of the instance's number
 pub calls_lead : Crossings → CallsLead
 calls_lead crossings functions starts it of f different there is known own = record {
   site = is_site functions starts it.start f different (in_starts starts 0 it there) is;

@@ -38,6 +38,7 @@ use Rattle.owned_laws.proofs.ScopeLaws.Places.{not_same, last_or_before, tail_ha
 
 -- declarations
 
+-- a place where nothing is declared stays so behind one declaration more that is not there
 none_more : (ds : List Declared) (d : Declared) (q : Place) → declared_at ds q ≡ None → is_place d.at q ≡ false →
     declared_at (ds ++ d ∷ []) q ≡ None
 none_more [] d q e k = ap (λ (b : Bool). if b then Some d else None) k
@@ -49,6 +50,7 @@ none_more (x ∷ ds) d q e k = by (is_place x.at q) e (λ h. none_more ds d q h 
     by true e next = absurd cc
     by false e next = next e
 
+-- where nothing is declared at a place, the first declaration is not there
 not_head : (x : Declared) (ds : List Declared) (q : Place) → declared_at (x ∷ ds) q ≡ None → is_place x.at q ≡ false
 not_head x ds q e = by (is_place x.at q) e
   where
@@ -56,6 +58,7 @@ not_head x ds q e = by (is_place x.at q) e
     by true e = absurd cc
     by false e = refl
 
+-- where nothing is declared at a place, nothing is behind the first declaration either
 not_tail : (x : Declared) (ds : List Declared) (q : Place) → declared_at (x ∷ ds) q ≡ None → declared_at ds q ≡ None
 not_tail x ds q e = by (is_place x.at q) e
   where
@@ -63,6 +66,7 @@ not_tail x ds q e = by (is_place x.at q) e
     by true e = absurd cc
     by false e = e
 
+-- declarations at different places differ with one more at a place where nothing is declared
 differ_more : (ds : List Declared) (d : Declared) → Differ ds → declared_at ds d.at ≡ None → Differ (ds ++ d ∷ [])
 differ_more [] d h e = (refl, tt)
 differ_more (x ∷ ds) d h e =
@@ -162,6 +166,7 @@ module _ {keys fresh : List Place} {ds : List Declared} where
 
 -- names that are read
 
+-- the places of the names that are read and not declared yet
 abbrev opened : Spelling → List (Option Named) → List Place
 opened u [] = []
 opened u (None ∷ xs) = opened u xs
@@ -429,6 +434,7 @@ abbrev fresh_among : List Source → List Place
 fresh_among [] = []
 fresh_among (it ∷ sources) = fresh_places it.spelling (tape_of it.items) ++ fresh_among sources
 
+-- declarations and fresh skeletons keep to the places of the units, where these all differ
 sources_kept : (sources : List Source) (keys fresh : List Place) (s : Names) → Kept keys fresh s.declared [] →
     AreDifferent (keys ++ keys_among sources) →
     Kept (keys ++ keys_among sources) (fresh ++ fresh_among sources)
@@ -453,6 +459,7 @@ sources_kept (it ∷ sources) keys fresh s h d =
     next : Names
     next = (run u (tape_of it.items) (with_names (unit_begun u.unit s))).names
 
+-- before the first unit there are no places and no declarations
 nothing_kept : Kept [] [] [] []
 nothing_kept = record {
   differ = tt;
@@ -465,6 +472,7 @@ nothing_kept = record {
   fresh_open = λ p e. refl;
 }
 
+-- where no fresh place of any unit is one of a declaration, expressions and declarations are apart in each
 all_apart : (s : Names) (sources : List Source) →
     ((p : Place) → has_place (fresh_among sources) p ≡ true → declared_at s.declared p ≡ None) → AllApart s sources
 all_apart s [] h = tt

@@ -88,6 +88,7 @@ module _ {U : NameUse → Type 0} {D : Declared → Type 0} where
     declared_are = every_joined D g.more h.more g.declared_are h.declared_are;
   }
 
+-- what is added with some properties is added with weaker ones
 pub adds_map : {U V : NameUse → Type 0} {D E : Declared → Type 0} {us us2 : List NameUse} {ds ds2 : List Declared} →
     ((it : NameUse) → U it → V it) → ((d : Declared) → D d → E d) → Adds U D us ds us2 ds2 → Adds V E us ds us2 ds2
 adds_map {U} {V} {D} {E} f g h = record {

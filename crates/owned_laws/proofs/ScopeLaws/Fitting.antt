@@ -200,11 +200,13 @@ pub owns_kept : (ps : List OpenParameters) (ts : List CType) →
 owns_kept [] ts = refl
 owns_kept (p ∷ ps) ts = refl
 
+-- whether own parameters have a function: where parameters are own, there is one
 abbrev pub OwnIs : Bool → Option Place → Type 0
 OwnIs false own = Unit {0}
 OwnIs true None = ⊥
 OwnIs true (Some p) = Unit {0}
 
+-- each list of own parameters that is open has a function, by the marks and the owners of the lists
 abbrev pub Owning : List Mark → List (Option Place) → Type 0
 Owning [] ps = Unit {0}
 Owning (in_params own ∷ m) [] = ⊥
@@ -227,6 +229,7 @@ HasName None name = Unit {0}
 HasName (Some token) None = ⊥
 HasName (Some token) (Some it) = Unit {0}
 
+-- whether a declaration is there, where a name was declared last
 abbrev pub HasLast : Option ℕ → List Declared → Type 0
 HasLast None ds = Unit {0}
 HasLast (Some token) [] = ⊥
@@ -237,6 +240,7 @@ abbrev pub HasLastIn : List Mark → Option ℕ → List Declared → Type 0
 HasLastIn [] last ds = HasLast last ds
 HasLastIn (x ∷ m) last ds = Unit {0}
 
+-- a name that was declared last is still there behind further declarations
 last_more : (m : List Mark) (last : Option ℕ) (ds more : List Declared) → HasLastIn m last ds
     → HasLastIn m last (ds ++ more)
 last_more (x ∷ m) last ds more h = tt

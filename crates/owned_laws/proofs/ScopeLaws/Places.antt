@@ -9,6 +9,7 @@ use Rattle.row_laws.specs.KeyLaws.Keys.{op_key, key_place, key_places}
 use Rattle.name_rules.proofs.MeaningLaws.Lists.{place_itself, place_is}
 pub use Rattle.name_rules.proofs.MeaningLaws.Lists.{declared_place}
 
+-- a place that is in neither of two lists is not in both together
 pub has_not : (xs ys : List Place) (p : Place) → has_place xs p ≡ false → has_place ys p ≡ false →
     has_place (xs ++ ys) p ≡ false
 has_not [] ys p e d = d
@@ -20,6 +21,7 @@ has_not (x ∷ xs) ys p e d = by (is_place x p) e (λ h. has_not xs ys p h d)
     by true e more = absurd cc
     by false e more = more e
 
+-- a place that is not in two lists in a row is not in the first
 pub has_not_left : (xs ys : List Place) (p : Place) → has_place (xs ++ ys) p ≡ false → has_place xs p ≡ false
 has_not_left [] ys p e = refl
 has_not_left (x ∷ xs) ys p e = by (is_place x p) e (has_not_left xs ys p)
@@ -29,6 +31,7 @@ has_not_left (x ∷ xs) ys p e = by (is_place x p) e (has_not_left xs ys p)
     by true e more = absurd cc
     by false e more = more e
 
+-- a place that is not in two lists in a row is not in the second
 pub has_not_right : (xs ys : List Place) (p : Place) → has_place (xs ++ ys) p ≡ false → has_place ys p ≡ false
 has_not_right [] ys p e = e
 has_not_right (x ∷ xs) ys p e = by (is_place x p) e (has_not_right xs ys p)
@@ -46,6 +49,7 @@ pub differ_right : (xs ys : List Place) → AreDifferent (xs ++ ys) → AreDiffe
 differ_right [] ys h = h
 differ_right (x ∷ xs) ys h = differ_right xs ys h.1
 
+-- where all places of two lists differ, a place of the first is not in the second
 pub differ_apart : (xs ys : List Place) (p : Place) → AreDifferent (xs ++ ys) → has_place xs p ≡ true →
     has_place ys p ≡ false
 differ_apart [] ys p h e = absurd cc
@@ -60,6 +64,7 @@ differ_apart (x ∷ xs) ys p h e =
 pub has_itself : (p : Place) (ys : List Place) → has_place (p ∷ ys) p ≡ true
 has_itself p ys = ap (λ (b : Bool). if b then true else has_place ys p) (place_itself p)
 
+-- where all places of two lists differ, a place of the second is not in the first
 pub differ_before : (xs ys : List Place) (p : Place) → AreDifferent (xs ++ ys) → has_place ys p ≡ true →
     has_place xs p ≡ false
 differ_before xs ys p h e = by (has_place xs p) refl
@@ -68,6 +73,7 @@ differ_before xs ys p h e = by (has_place xs p) refl
     by false d = refl
     by true d = let none = differ_apart xs ys p h d in absurd cc
 
+-- a place of the second of two lists is in both together
 pub has_right : (xs ys : List Place) (p : Place) → has_place ys p ≡ true → has_place (xs ++ ys) p ≡ true
 has_right xs ys p e = by (has_place (xs ++ ys) p) refl
   where
@@ -75,6 +81,7 @@ has_right xs ys p e = by (has_place (xs ++ ys) p) refl
     by true d = refl
     by false d = let none = has_not_right xs ys p d in absurd cc
 
+-- a place of the first of two lists is in both together
 pub has_left : (xs ys : List Place) (p : Place) → has_place xs p ≡ true → has_place (xs ++ ys) p ≡ true
 has_left xs ys p e = by (has_place (xs ++ ys) p) refl
   where
@@ -82,6 +89,7 @@ has_left xs ys p e = by (has_place (xs ++ ys) p) refl
     by true d = refl
     by false d = let none = has_not_left xs ys p d in absurd cc
 
+-- two lists of different places that have none in common are different together
 pub differ_joined : (xs ys : List Place) → AreDifferent xs → AreDifferent ys →
     ((p : Place) → has_place xs p ≡ true → has_place ys p ≡ false) → AreDifferent (xs ++ ys)
 differ_joined [] ys h k apart = k
@@ -94,6 +102,7 @@ differ_joined (x ∷ xs) ys h k apart = (
     more p true e = refl
     more p false e = e
 
+-- a place in a list is another than one that is not in it
 pub not_same : (p q : Place) (xs : List Place) → has_place xs p ≡ true → has_place xs q ≡ false → is_place p q ≡ false
 not_same p q xs h k = by (is_place p q) (place_is p q)
   where
@@ -102,6 +111,7 @@ not_same p q xs h k = by (is_place p q) (place_is p q)
         let there : has_place xs q ≡ true = subst (λ (x : Place). has_place xs x ≡ true) (is refl) h in absurd cc
     by false is = refl
 
+-- a place in a list with one more at its end is in the list or is that one
 pub last_or_before : (xs : List Place) (p q : Place) → has_place (xs ++ p ∷ []) q ≡ true →
     (has_place xs q ≡ true) ⊎ (p ≡ q)
 last_or_before [] p q e = by (is_place p q) (place_is p q) e
@@ -117,6 +127,7 @@ last_or_before (x ∷ xs) p q e = by (is_place x q) e (last_or_before xs p q)
     by true e next = inl refl
     by false e next = next e
 
+-- a place of a list is in the list with one more in front
 pub tail_has : (p q : Place) (xs : List Place) → has_place xs q ≡ true → has_place (p ∷ xs) q ≡ true
 tail_has p q xs e = by (is_place p q)
   where
@@ -133,6 +144,7 @@ head_has_not p q xs e k = ap (λ (b : Bool). if b then true else has_place xs q)
 
 -- of the ops of joined tapes
 
+-- the places of ops along two tapes in a row are those of the first, then those of the second
 pub keys_joined : (u : Spelling) (xs ys : List Op) → key_places u (xs ++ ys) ≡ key_places u xs ++ key_places u ys
 keys_joined u [] ys = refl
 keys_joined u (op ∷ xs) ys =

@@ -37,6 +37,7 @@ use Rattle.owned_laws.proofs.TapeLaws.Turns.{quiet_was, tag_was, scope_was, Decl
 use Rattle.owned_laws.proofs.ScopeLaws.Fitting.{Around, AtTop, HasLastIn, last_in, owns_same, params_left, scope_left, body_left, Keeps, keeps_some, body_ends_alone, body_around, owns, owns_kept, OwnIs, Owning, owning_top, HasName, HasLast, NameIn, Reading, reading_more, reading_top, reading_with, reading_own}
 use Rattle.owned_laws.proofs.ScopeLaws.Changes.{adds_then, adds_none, Fit, Fits, AddsTo, Goes, enumerator_goes, param_goes, member_goes, unnamed_goes, use_goes, tag_used_goes, tag_begun_goes, untagged_goes, some_goes, old_goes}
 
+-- where a name was declared last, there is a last declaration
 last_some : (token : ℕ) (ds : List Declared) → HasLast (Some token) ds → (d : Declared) × (last_or None ds ≡ Some d)
 last_some token [] h = absurd h
 last_some token (d ∷ ds) h = some d ds
@@ -58,6 +59,7 @@ last_declared m u untagged (Some token) (Some it) words t s h =
     let adds = adds_some u untagged (Some it) words t s in
     last_in m (Some token) _ (subst (HasLast (Some token)) (sym adds.2) (last_new token s.declared adds.0))
 
+-- a list of own parameters that begins has a function, where a name is read before it
 own_begun : (u : Spelling) (own : Bool) (name : Option Named) (s : Names) →
     (own ≡ true → (token : ℕ) × HasName (Some token) name) → OwnIs own (own_where own (linked_some u name s))
 own_begun u false name s h = tt

@@ -46,12 +46,14 @@ abbrev SomeSource : List Source → (List Place → Type 0) → Type 0
 SomeSource [] F = ⊥
 SomeSource (it ∷ sources) F = SomeItem it.spelling it.items F ⊎ SomeSource sources F
 
+-- what holds of the places of some item still holds where it is weakened for all lists of places
 item_map : (u : Spelling) (items : List Item) (F G : List Place → Type 0) → ((keys : List Place) → F keys → G keys) →
     SomeItem u items F → SomeItem u items G
 item_map u [] F G f h = h
 item_map u (item ∷ items) F G f (inl h) = inl (f (key_places u (item_tape item)) h)
 item_map u (item ∷ items) F G f (inr h) = inr (item_map u items F G f h)
 
+-- what holds of the places of some item of the sources still holds where it is weakened for all lists of places
 source_map : (sources : List Source) (F G : List Place → Type 0) → ((keys : List Place) → F keys → G keys) →
     SomeSource sources F → SomeSource sources G
 source_map [] F G f h = h
@@ -176,6 +178,7 @@ module _ (S : Names) (differ : Differ S.declared) where
 
 -- what is found is among all
 
+-- a place whose use means something is that of a use among them, with its property
 use_found : (U : NameUse → Type 0) (uses : List NameUse) (p q : Place) → Every U uses → use_at uses p ≡ means q →
     (it : NameUse) × U it × (it.at ≡ p) × (it.use_of ≡ means q)
 use_found U [] p q h e = absurd cc
@@ -187,6 +190,7 @@ use_found U (it ∷ uses) p q h e = by (is_place it.at p) (place_is it.at p) e (
     by true is e next = (it, h.0, is refl, e)
     by false is e next = next e
 
+-- the first declaration at a place has the property that all have
 declared_found : (D : Declared → Type 0) (ds : List Declared) (p : Place) (d : Declared) → Every D ds →
     declared_at ds p ≡ Some d → D d
 declared_found D [] p d h e = absurd cc
@@ -293,6 +297,7 @@ module _ (S : Names) where
       later : List Place
       later = keys_among sources
 
+-- what names mean stays in the item or is of the file, where each place is that of one op alone
 pub names_stay : NamesOfTapes → ItemsAreBracketed → NamesStay
 names_stay named bracketed sources sound apart =
     subst (λ (it : Names). SourcesStay it sources) (named sources sound)

@@ -33,6 +33,7 @@ pub record Declares (t n d : Option ℕ) (own : Bool) (m : List Mark) (tape : Li
   pub last : Option ℕ
   pub goes : Passes t (in_declaration n d own ∷ m) tape (in_declaration name last own ∷ m)
 
+-- a list of parameters begins in a declaration, an own one only in that of the item's function
 begun : (t : Option ℕ) (own : Bool) (m : List Mark) (n d : Option ℕ) (o : Bool) →
     (own ≡ true → (m ≡ []) × (is_token n t ≡ true)) →
     turn t (in_declaration n d o ∷ m) (ops.Declr (declrs.ParamsBegin own))

@@ -41,6 +41,7 @@ behind own (abs_params d opening ps dots closing) o = o
 behind own (identifiers d opening names closing) o = behind own d o
 behind own (base_name token) o = o
 
+-- a declarator that is not own leaves as it was whether own parameters were there
 none_behind : (d : Declr) (o : Bool) → behind false d o ≡ o
 none_behind (pointer star words d) o = none_behind d o
 none_behind (declr_name token name) o = refl
@@ -95,6 +96,7 @@ round_read (abs_params d opening ps dots closing) above n e = absurd cc
 round_read (identifiers d opening names closing) above n e = absurd cc
 round_read (base_name token) above n e = absurd cc
 
+-- the name of a declarator that is no more than a name is the one that was read last
 bare_read : (d : Declr) (n : Option ℕ) → is_name d ≡ true → is_token (read (name_token d) n) (name_token d) ≡ true
 bare_read (pointer star words d) n e = absurd cc
 bare_read (declr_name token name) n e = same_token token
@@ -125,6 +127,7 @@ abbrev TakesAuto : List Mark → Type 0
 TakesAuto m = (n d : Option ℕ) (o : Bool) →
     auto_ended (in_part ∷ (in_declaration n d o ∷ m)) ≡ Some (in_declaration None n o ∷ m)
 
+-- a name with the type of its initialiser may be declared in an open scope, in a body or in the file
 open_takes : (m : List Mark) → is_open m ≡ true → TakesAuto m
 open_takes [] e n d o = refl
 open_takes (marks.in_scope ∷ m) e n d o = refl
@@ -587,6 +590,7 @@ own_read (abs_array d opening words size closing) n e = absurd cc
 own_read (abs_params d opening ps dots closing) n e = absurd cc
 own_read (base_name token) n e = absurd cc
 
+-- the tape of an item that declares its function ends all that it begins
 item_passes : (item : Item) → DeclaresIts item → Passes (function_token item) [] (item_tape item) []
 item_passes (function_item extensions ws d attrs opening items closing) its =
     join (join (join (join (join (join (join (specs_pass (words_pass ws false))

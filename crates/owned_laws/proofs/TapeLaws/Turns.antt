@@ -9,6 +9,7 @@ use Rattle.c_tree.specs.Unit.{Item, function_item, old_function_item, decl_item,
 use Rattle.c_tape.specs.Tests.{is_name}
 use Rattle.owned_laws.specs.TapeLaws.Marks.{Mark, in_declaration, in_params, in_tag, in_scope, in_quiet, in_part, in_body, is_open, is_token, quiet_ended, tag_ended, scope_ended, params_ended, body_ended, declaration_ended, named, params_begun, param_ended, declared, member_declared, part_ended, auto_ended, identified, old_declared, body_begun, lists_own, DeclaresIts}
 
+-- an optional token that is the same as another one is there, and so is the other
 token_is : (n t : Option ℕ) → is_token n t ≡ true → (token : ℕ) × (n ≡ Some token) × (t ≡ Some token)
 token_is None t e = absurd cc
 token_is (Some n) None e = absurd cc
@@ -43,17 +44,20 @@ pub record Declaring (m : List Mark) : Type 0 where
   pub outer : List Mark
   pub is : m ≡ in_declaration name last own ∷ outer
 
+-- what ends a declaration was in one, and leaves what is outside it
 pub declaration_was : (m n : List Mark) → declaration_ended m ≡ Some n → (d : Declaring m) × (n ≡ d.outer)
 declaration_was (in_declaration name last own ∷ m) n e =
     (record { name = name; last = last; own = own; outer = m; is = refl }, cc)
 declaration_was m n e = absurd cc
 
+-- a name that is read was in a declaration, which has it then
 pub named_was : (token : ℕ) (m n : List Mark) → named token m ≡ Some n →
     (d : Declaring m) × (n ≡ in_declaration (Some token) d.last d.own ∷ d.outer)
 named_was token (in_declaration name last own ∷ m) n e =
     (record { name = name; last = last; own = own; outer = m; is = refl }, cc)
 named_was token m n e = absurd cc
 
+-- a name that is declared was in a declaration with an open scope outside it, and is its last name then
 pub declared_was : (m n : List Mark) → declared m ≡ Some n →
     (d : Declaring m) × (n ≡ in_declaration None d.name d.own ∷ d.outer) × (is_open d.outer ≡ true)
 declared_was (in_declaration name last own ∷ m) n e = by (is_open m) refl e
@@ -83,6 +87,7 @@ pub record AutoEnding (m n : List Mark) : Type 0 where
   pub is : n ≡ in_declaration None declaring.name declaring.own ∷ declaring.outer
   pub takes : (is_open declaring.outer ≡ true) ⊎ ((outer : List Mark) × (declaring.outer ≡ in_params true ∷ outer))
 
+-- the end of a declaration by its initialiser was in a part of one, which has declared its name then
 pub auto_was : (m n : List Mark) → auto_ended m ≡ Some n → AutoEnding m n
 auto_was (in_part ∷ (in_declaration name last own ∷ (in_params true ∷ m))) n e = record {
   inner = in_declaration name last own ∷ (in_params true ∷ m);
@@ -96,12 +101,14 @@ auto_was (in_part ∷ m) n e =
     record { inner = m; was = refl; declaring = was.0; is = was.1; takes = inl was.2 }
 auto_was m n e = absurd cc
 
+-- a member that is declared was in a declaration, whose name is gone then
 pub member_was : (m n : List Mark) → member_declared m ≡ Some n →
     (d : Declaring m) × (n ≡ in_declaration None d.last d.own ∷ d.outer)
 member_was (in_declaration name last own ∷ (in_tag ∷ m)) n e =
     (record { name = name; last = last; own = own; outer = in_tag ∷ m; is = refl }, cc)
 member_was m n e = absurd cc
 
+-- a parameter that ends was in a declaration in a list of parameters, which stays
 pub param_was : (m n : List Mark) → param_ended m ≡ Some n →
     (d : Declaring m) × (own : Bool) × (rest : List Mark) × (d.outer ≡ in_params own ∷ rest) × (n ≡ in_params own ∷ rest)
 param_was (in_declaration name last b ∷ (in_params own ∷ m)) n e =
@@ -114,6 +121,7 @@ pub record Beginning (t : Option ℕ) (own : Bool) (m n : List Mark) : Type 0 wh
   pub is : n ≡ in_params own ∷ m
   pub named : own ≡ true → (token : ℕ) × (declaring.name ≡ Some token) × (t ≡ Some token)
 
+-- a list of parameters that begins was in a declaration; an own one has the name of the item's function
 pub begun_was : (t : Option ℕ) (own : Bool) (m n : List Mark) → params_begun t own m ≡ Some n → Beginning t own m n
 begun_was t false (in_declaration name last own ∷ m) n e = record {
   declaring = record { name = name; last = last; own = own; outer = m; is = refl };
@@ -142,6 +150,7 @@ pub record Ending (m n : List Mark) : Type 0 where
   pub was : m ≡ in_params params ∷ (in_declaration name last own ∷ outer)
   pub is : n ≡ in_declaration name last (if params then true else own) ∷ outer
 
+-- the end of a list of parameters was in one in a declaration, which has own parameters then where they were own
 pub params_were : (m n : List Mark) → params_ended m ≡ Some n → Ending m n
 params_were (in_params true ∷ (in_declaration name last own ∷ m)) n e =
     record { params = true; name = name; last = last; own = own; outer = m; was = refl; is = cc }
@@ -170,6 +179,7 @@ pub body_was : (m n : List Mark) → body_ended m ≡ Some n → (name last : Op
 body_was (in_body ∷ (in_declaration name last own ∷ m)) n e = (name, last, own, m, refl, cc)
 body_was m n e = absurd cc
 
+-- a declarator that is a bare name is a name
 bare_is_name : (d : Declr) → is_bare_name d ≡ true → is_name d ≡ true
 bare_is_name (declr_name token name) e = refl
 bare_is_name (declr_paren opening attrs d closing) e = bare_is_name d e

@@ -20,17 +20,20 @@ use Rattle.path_checker.specs.ReportChecks.Checks.{StepsHold, IsBad, ComesTo}
 cases : (a b : ℕ) → (a < b) ⊎ (b ≤ a)
 cases a b = grind arith
 
+-- a place of a list that has an item is below its length
 within_of : {A : Type 0} → (xs : List A) (k : ℕ) (x : A) → slice_get xs k ≡ Some x → k < length xs
 within_of [] k x is = absurd cc
 within_of (y ∷ ys) zero x is = omega arith
 within_of (y ∷ ys) (suc k) x is = let deeper = within_of ys k x is in omega (arith, deeper)
 
+-- an item of a list stands at the same place where another list is behind it
 get_of_longer : {A : Type 0} → (xs ys : List A) (k : ℕ) (x : A) → slice_get xs k ≡ Some x
     → slice_get (xs ++ ys) k ≡ Some x
 get_of_longer [] ys k x is = absurd cc
 get_of_longer (y ∷ xs) ys zero x is = is
 get_of_longer (y ∷ xs) ys (suc k) x is = get_of_longer xs ys k x is
 
+-- an item before a place is one of the first so many
 get_of_front : {A : Type 0} → (xs : List A) (j k : ℕ) (x : A) → j < k → slice_get xs j ≡ Some x
     → slice_get (take k xs) j ≡ Some x
 get_of_front [] j k x below is = absurd cc

@@ -18,6 +18,7 @@ pub same_kind : (word : Keyword) → tests.tag_kind word ≡ names.tag_kind word
 same_kind keywords.Union = refl
 same_kind word = refl
 
+-- the token of a qualifier is the same by the tree's rule and by the rule of types
 pub same_qual : (q : Qual) → tokens.qual_token q ≡ trees.qual_token q
 same_qual (quals.Word word) = refl
 same_qual (quals.Element token) = refl
@@ -26,6 +27,7 @@ same_qual (quals.Index token) = refl
 same_enum : (e : EnumType) → tokens.enum_token e ≡ trees.enum_token e
 same_enum (enum_of keyword attrs tag body) = refl
 
+-- the first token of a specifier is the same by the tree's rule and by the rule of types
 same_word : (word : SpecWord) → tokens.word_token word ≡ trees.word_token word
 same_word (storage word) = refl
 same_word (thread token) = refl
@@ -46,6 +48,7 @@ pub same_first : (ws : SpecWords) → tokens.first_word ws ≡ trees.first_word 
 same_first no_words = refl
 same_first (more_words word ws) = same_word word
 
+-- a specifier adds nothing to `void` by the test of tapes where it leaves `void` no parameter by the rule of types
 same_bare_word : (word : SpecWord) → tests.is_bare_word word ≡ trees.leaves_void word
 same_bare_word (storage word) = refl
 same_bare_word (thread token) = refl
@@ -66,12 +69,14 @@ same_bare : (ws : SpecWords) → tests.is_bare ws ≡ trees.leave_void ws
 same_bare no_words = refl
 same_bare (more_words word ws) = rw (same_bare_word word, same_bare ws)
 
+-- a parameter list is `(void)` by the test of tapes where it is by the rule of types
 pub same_none : (ps : Params) → tests.says_none ps ≡ trees.says_none ps
 same_none no_params = refl
 same_none (more_params ws no_declr attrs no_params) = same_bare ws
 same_none (more_params ws no_declr attrs (more_params ws2 d attrs2 ps)) = refl
 same_none (more_params ws (some_declr d) attrs ps) = refl
 
+-- a declarator is no more than a name, in parentheses or not, by the test of tapes where it is by the rule of types
 pub same_name : (d : Declr) → tests.is_name d ≡ trees.is_bare d
 same_name (declr_name token name) = refl
 same_name (declr_paren opening attrs d closing) = same_name d
@@ -89,6 +94,7 @@ same_bodiless : (body : SomeBody) → tests.is_bodiless body ≡ names.is_bodile
 same_bodiless no_body = refl
 same_bodiless (some_body opening items closing) = refl
 
+-- a specifier is a struct without a body, or says nothing, by the test of tapes where it is by the rule of names
 same_lone_word : (word : SpecWord) → tests.is_lone_word word ≡ names.is_lone_word word
 same_lone_word (storage word) = refl
 same_lone_word (thread token) = refl
@@ -113,6 +119,7 @@ pub same_alone : (ws : SpecWords) (ds : InitDeclrs) → tests.declares_tag ws ds
 same_alone ws no_init_declrs = same_lone ws
 same_alone ws (more_init_declrs attrs d asm_label attrs2 init ds) = refl
 
+-- an initialiser is an expression by the test of tapes where it is by the rule of types
 same_value : (init : SomeInit) → tests.has_value init ≡ trees.has_value init
 same_value no_init = refl
 same_value (some_init equal (init_value e)) = refl

@@ -65,6 +65,7 @@ abbrev pub untagged_body : TagKind → Option Identifier → SomeBody → Bool �
 untagged_body kind tag no_body b = b
 untagged_body kind tag (some_body opening items closing) b = untagged_begins kind tag b
 
+-- of a specifier: a struct or union that has a body and no tag makes the flag true, all others leave it
 abbrev pub untagged_word : SpecWord → Bool → Bool
 untagged_word (storage word) b = b
 untagged_word (thread token) b = b

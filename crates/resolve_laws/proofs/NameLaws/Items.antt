@@ -33,6 +33,7 @@ use Rattle.resolve_laws.proofs.NameLaws.Forms.{storage_behind, untagged_behind, 
 use Rattle.resolve_laws.proofs.NameLaws.Identified.{bare_same, old_pieces_make, old_law}
 use Rattle.resolve_laws.proofs.NameLaws.Whole.{specs_law, declr_law, decl_law, block_items_law}
 
+-- words that hold no `typedef` fail the test for it
 pub no_typedef : (words : List Keyword) → ¬ Contains words keywords.Typedef → has_word keywords.Typedef words ≡ false
 no_typedef [] h = refl
 no_typedef (keywords.Typedef ∷ words) h =
@@ -54,6 +55,7 @@ name_of (abs_params d opening ps dots closing) above h = absurd cc
 name_of (identifiers d opening names closing) above h = absurd cc
 name_of (base_name token) above h = absurd cc
 
+-- a declarator that is no more than a name, in parentheses or not, declares one
 bare_name_of : (d : Declr) → is_bare_name d ≡ true → (it : Named) × (declared_name d ≡ Some it)
 bare_name_of (declr_name token name) h = (record { token = token; name = name }, refl)
 bare_name_of (declr_paren opening attrs d closing) h = bare_name_of d h

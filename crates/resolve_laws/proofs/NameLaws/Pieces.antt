@@ -61,6 +61,7 @@ pub applied_push : (ps : List Piece) (p : Piece) (t : CType) → applied (ps ++ 
 applied_push [] p t = refl
 applied_push (q ∷ ps) p t = ap (piece_of q) (applied_push ps p t)
 
+-- one piece more of a declarator: its parameter list comes before those of the pieces before it
 pub lists_push : (ps : List Piece) (p : Piece) (finished : List (List CType))
     → lists_of (ps ++ p ∷ []) finished ≡ lists_of (p ∷ []) (lists_of ps finished)
 lists_push [] p finished = refl

@@ -66,6 +66,7 @@ pub arriving : {u : Spelling} {ops : List Op} {st after other : State} → Goes 
 arriving {ops = ops} p e = record { is = λ passed. p.is passed ∙ ap (heard (passed ++ ops)) e }
 
 infixl 20 ◌▸◌
+-- steps that lead over one part of a tape and on over the next lead over both
 pub ◌▸◌ : {u : Spelling} {ops others : List Op} {st between after : State} → Goes u ops st between
     → Goes u others between after → Goes u (ops ++ others) st after
 ◌▸◌ {u = u} {ops = ops} {others = others} {st = st} {after = after} p q =

@@ -19,6 +19,7 @@ one_source : NamesAreSteps → (it : Source) (s : Names) → IsSound it
     → tape_named (tape_of_source it) s ≡ items_named it.spelling it.items s
 one_source steps it s (all, unit) = ap (λ (st : State). st.names) (steps it.spelling all it.items s unit)
 
+-- where the steps over a unit's tape name as its tree does, those over sound sources' tapes name as the sources do
 all_sources : NamesAreSteps → (sources : List Source) (s : Names) → All IsSound sources
     → tapes_named (map tape_of_source sources) s ≡ sources_named sources s
 all_sources steps [] s h = refl

@@ -13,6 +13,7 @@ use Rattle.name_rules.specs.NameSteps.Steps.{untagged_by}
 use Rattle.type_rules.specs.Naming.{tag_kind, said_words, has_untagged}
 use Rattle.resolve_laws.proofs.NameLaws.Forms.{storage_behind, untagged_word, untagged_behind}
 
+-- the storage words of specifiers, collected behind others, are the others and then theirs
 said_behind : (ws : SpecWords) (words : List Keyword) → storage_behind ws words ≡ words ++ said_words ws
 said_behind no_words words = sym (append-nil words)
 said_behind (more_words (storage w) ws) words =
@@ -35,6 +36,7 @@ said_behind (more_words (auto_word token) ws) words = said_behind ws words
 pub same_said : (ws : SpecWords) → said_words ws ≡ storage_behind ws []
 same_said ws = sym (said_behind ws [])
 
+-- the storage words together with `inline` hold `typedef` where the storage words do
 said_typedef : (ws : SpecWords)
     → has_word keywords.Typedef (said_words ws) ≡ has_word keywords.Typedef (storage_words ws)
 said_typedef no_words = refl
@@ -60,6 +62,7 @@ same_typedef ws = ap (has_word keywords.Typedef) (said_behind ws []) ∙ said_ty
 
 -- structs without a tag
 
+-- the flag of a struct without a tag, once true, stays true behind any kind of tag
 stays_untagged : (kind : TagKind) → untagged_by kind true ≡ true
 stays_untagged tags.Struct = refl
 stays_untagged tags.Union = refl
@@ -69,6 +72,7 @@ is_untagged : (keyword : Keyword) (b : Bool) → untagged_by (tag_kind keyword) 
 is_untagged keywords.Union b = refl
 is_untagged keyword b = refl
 
+-- the flag of a struct without a tag, once true, stays true behind any specifier
 word_stays : (word : SpecWord) → untagged_word word true ≡ true
 word_stays (storage w) = refl
 word_stays (thread token) = refl
@@ -91,6 +95,7 @@ words_stay : (ws : SpecWords) → untagged_behind ws true ≡ true
 words_stay no_words = refl
 words_stay (more_words word ws) = ap (untagged_behind ws) (word_stays word) ∙ words_stay ws
 
+-- specifiers have a struct without a tag where the flag, false before them, is true behind them
 pub same_untagged : (ws : SpecWords) → has_untagged ws ≡ untagged_behind ws false
 same_untagged no_words = refl
 same_untagged (more_words (storage w) ws) = same_untagged ws

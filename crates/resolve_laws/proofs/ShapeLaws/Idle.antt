@@ -122,6 +122,7 @@ module _ (k : Over) where
 
 -- tokens and counts
 
+-- the token of a qualifier on a tape is its token by the rules of types
 same_qual : (q : Qual) → tape_tokens.qual_token q ≡ rule_tokens.qual_token q
 same_qual (quals.Word word) = refl
 same_qual (quals.Element token) = refl
@@ -130,6 +131,7 @@ same_qual (quals.Index token) = refl
 same_enum : (e : EnumType) → tape_tokens.enum_token e ≡ rule_tokens.enum_token e
 same_enum (enum_of keyword attrs tag body) = refl
 
+-- the first token of a specifier on a tape is its token by the rules of types
 same_word : (word : SpecWord) → tape_tokens.word_token word ≡ rule_tokens.word_token word
 same_word (storage word) = refl
 same_word (thread token) = refl

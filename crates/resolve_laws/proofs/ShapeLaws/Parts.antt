@@ -31,6 +31,7 @@ use Rattle.resolve_laws.proofs.ShapeLaws.Rules.{list_rule_goes, list_split}
 
 -- what is read from a place of a struct is of the struct's type
 
+-- reading a value changes the type of no member of it
 same_member : (all : List Aggregate) (t : Option CType) (name : ℕ) → member_type all (some_read_from t) name ≡
     member_type all t name
 same_member all None name = refl
@@ -40,6 +41,7 @@ same_member all (Some (struct ws n)) name = refl
 same_member all (Some (pointer ws t)) name = refl
 same_member all (Some (function ws ps r e)) name = refl
 
+-- reading a value does not change whether its type lacks a member
 same_lack : (all : List Aggregate) (t : Option CType) (name : ℕ) → lacks_member all (some_read_from t) name ≡
     lacks_member all t name
 same_lack all None name = refl

@@ -17,6 +17,7 @@ use Rattle.resolve_laws.proofs.ShapeLaws.Goes.{Over}
 
 -- lists
 
+-- where an item comes first behind some items, what comes behind one more is all behind that item
 pub drop_one_more : {A : Type 0} (n : ℕ) (xs : List A) (y : A) (ys : List A) → drop n xs ≡ y ∷ ys → drop (suc n) xs ≡ ys
 drop_one_more zero [] y ys e = absurd cc
 drop_one_more zero (x ∷ xs) y ys e = cc

@@ -26,6 +26,7 @@ state_behind : (k : Over) (tape : List Op) (it : Sum) → (behind k tape it).sta
 state_behind k [] it = refl
 state_behind k (op ∷ tape) it = state_behind k tape (behind_op k op it)
 
+-- the weight behind a tape is that before it and the weight of all faults found along the tape
 weight_behind : (k : Over) (tape : List Op) (it : Sum) → (behind k tape it).weight ≡
     it.weight + total k.weight (faults_found k.spelling k.names it.state tape)
 weight_behind k [] it = omega arith
@@ -102,6 +103,7 @@ faults_are_found u s items f = same_faults _ _ (unit_totals u s items) f
 append_totals : (fs gs hs is : List Fault) → SameTotals fs gs → SameTotals hs is → SameTotals (fs ++ hs) (gs ++ is)
 append_totals fs gs hs is first second w = let e = first w in let e2 = second w in omega (arith, total_append w)
 
+-- what is found along the tapes of sources weighs as much as the faults by the definitions on trees
 found_totals : (sources : List Source) (s : Names) → SameTotals (found_on sources s) (judged sources s)
 found_totals [] s = λ w. refl
 found_totals (it ∷ sources) s =
@@ -109,6 +111,7 @@ found_totals (it ∷ sources) s =
     (found_on sources s) (judged sources s)
     (unit_totals it.spelling s it.items) (found_totals sources s)
 
+-- what is found of a whole program weighs as much as its faults by the definitions
 program_totals : (sources : List Source) → SameTotals (all_found sources) (faults_of sources)
 program_totals sources =
     append_totals (names_of sources).faults (names_of sources).faults _ _ (λ w. refl)
@@ -119,6 +122,7 @@ same_first : (fs gs : List Fault) → SameTotals fs gs → (f : Fault) → IsFir
 same_first fs gs e f first =
     record { there = (same_faults fs gs e f).0 first.there; first = λ g c. first.first g ((same_faults fs gs e g).1 c) }
 
+-- a fault is first among those found along the tapes where it is the first fault of the program
 pub first_fault_is_found : FirstFaultIsFound
 first_fault_is_found sources f = (
   same_first (all_found sources) (faults_of sources) (program_totals sources) f,
@@ -126,6 +130,7 @@ first_fault_is_found sources f = (
       (all_found sources) (λ w. sym (program_totals sources w)) f,
 )
 
+-- nothing is found along the tapes just where the program has no fault
 pub none_is_found : NoneIsFound
 none_is_found sources = (
   no_faults (all_found sources) (faults_of sources) (program_totals sources),

@@ -5,6 +5,7 @@ use Rattle.std.specs.Prelude.{◌&&◌, if◌then◌else◌, length}
 use Rattle.name_rules.specs.Faults.{Rule, undeclared, not_pointer, not_function, no_member, argument_count, not_place, defined_twice, type_too_large, no_type, number, Fault}
 use Rattle.resolve_laws.proofs.ShapeLaws.Goes.{total}
 
+-- the rule that has a number; beyond the numbers that are given it is the last rule
 rule_of : ℕ → Rule
 rule_of zero = undeclared
 rule_of (suc zero) = undeclared
@@ -47,6 +48,7 @@ same_itself f = rw (eq-eqb f.at.0 f.at.0 refl, eq-eqb f.at.1 f.at.1 refl, eq-eqb
 abbrev fault : ℕ → ℕ → Rule → Fault
 fault unit token r = record { at = (unit, token); rule = r }
 
+-- faults that pass the test for being the same are equal
 same_is : (f g : Fault) → is_same f g ≡ true → f ≡ g
 same_is f g e =
     let first : nat_eq f.at.0 g.at.0 ≡ true = left (nat_eq f.at.0 g.at.0) _ e in
@@ -64,6 +66,7 @@ same_is f g e =
 abbrev weight_of : Fault → Fault → ℕ
 weight_of f g = if is_same f g then 1 else 0
 
+-- a list that holds a fault has at least one by the weight that counts it
 weighed : (f : Fault) (fs : List Fault) → Contains fs f → 1 ≤ total (weight_of f) fs
 weighed f [] c = absurd (omega (arith, c.1))
 weighed f (g ∷ fs) (zero, less, is) =
@@ -72,6 +75,7 @@ weighed f (g ∷ fs) (zero, less, is) =
 weighed f (g ∷ fs) (suc n, less, is) = let others : 1 ≤ total (weight_of f) fs = weighed f fs (n, omega arith, is) in
     omega arith
 
+-- a list whose weight for a fault is at least one holds it first, or behind the first where the rest's weight tells so
 first_or : (f g : Fault) (fs : List Fault) (b : Bool) → is_same f g ≡ b → 1 ≤ weight_of f g + total (weight_of f) fs →
     (1 ≤ total (weight_of f) fs → Contains fs f) → Contains (g ∷ fs) f
 first_or f g fs true e h others = (0, omega arith, sym (same_is f g e))
@@ -86,6 +90,7 @@ held f (g ∷ fs) h = first_or f g fs (is_same f g) refl h (held f fs)
 abbrev pub SameTotals : List Fault → List Fault → Type 0
 SameTotals fs gs = (w : Fault → ℕ) → total w fs ≡ total w gs
 
+-- lists of the same total by every weight hold the same faults
 pub same_faults : (fs gs : List Fault) → SameTotals fs gs → (f : Fault) → Contains fs f ↔ Contains gs f
 same_faults fs gs same f = (
   (λ c. let e = same (weight_of f) in let h = weighed f fs c in held f gs (omega arith)),

@@ -29,6 +29,7 @@ none_added : (b : Bool) (m : ℕ) → b ≡ false → m ≡ 0 → (if b then 1 e
 none_added true m h e = absurd cc
 none_added false m h e = omega (arith, e)
 
+-- a number that no token has is counted 0 times
 absent : (n : ℕ) (k : List Lexeme) → has_number n k ≡ false → numbered n k ≡ 0
 absent n [] h = refl
 absent n (it ∷ k) h =
@@ -39,6 +40,7 @@ one_at_most : (b : Bool) (m : ℕ) → (b ≡ true → m ≡ 0) → m ≤ 1 → 
 one_at_most true m none h = let e = none refl in omega (arith, e)
 one_at_most false m none h = omega (arith, h)
 
+-- each number is counted at most once among tokens of different numbers
 once : (n : ℕ) (all : List Lexeme) → AreNumbered all → numbered n all ≤ 1
 once n [] h = omega arith
 once n (it ∷ k) h =
@@ -51,6 +53,7 @@ abbrev counted_keys : ℕ → List Op → ℕ
 counted_keys n [] = 0
 counted_keys n (op ∷ tape) = added n (op_key op) + counted_keys n tape
 
+-- an op counts a number no more often as its key than as its token
 is_token : (n : ℕ) (op : Op) → added n (op_key op) ≤ added n (op_token op)
 is_token n (ops.Expr (exprs.Name is_called token name)) = omega arith
 is_token n (ops.Expr (exprs.Number token)) = omega arith
@@ -90,6 +93,7 @@ not_here : (a b c : Bool) → b ≡ false → c ≡ false → (if a && b then tr
 not_here true b c e h = rw e h
 not_here false b c e h = h
 
+-- a token that is the key of no op of a tape has its place not among those of the keys
 no_place : (u : Spelling) (token : ℕ) (tape : List Op) → counted_keys token tape ≡ 0 →
     has_place (key_places u tape) (place u token) ≡ false
 no_place u token [] h = refl
@@ -107,6 +111,7 @@ no_more : (b : Bool) (m : ℕ) → b ≡ true → (if b then 1 else 0) + m ≤ 1
 no_more true m e h = omega (arith, h)
 no_more false m e h = absurd cc
 
+-- where each token is the key of one op of a tape at most, the places of the keys differ
 keys_of_one : (u : Spelling) (tape : List Op) → ((n : ℕ) → counted_keys n tape ≤ 1) → AreDifferent (key_places u tape)
 keys_of_one u [] h = tt
 keys_of_one u (op ∷ tape) h = by_key (op_key op) h (keys_of_one u tape (λ n. (let e = h n in omega (arith, e))))
@@ -123,6 +128,7 @@ abbrev AreApart : List Place → List Place → Type 0
 AreApart [] qs = Unit {0}
 AreApart (p ∷ ps) qs = (has_place qs p ≡ false) × AreApart ps qs
 
+-- a place that is in neither of two lists is not in both together
 has_none : (p : Place) (ps qs : List Place) → has_place ps p ≡ false → has_place qs p ≡ false
     → has_place (ps ++ qs) p ≡ false
 has_none p [] qs h i = i
@@ -133,6 +139,7 @@ differ : (ps qs : List Place) → AreDifferent ps → AreDifferent qs → AreApa
 differ [] qs h i apart = i
 differ (p ∷ ps) qs h i apart = (has_none p ps qs h.0 apart.0, differ ps qs h.1 i apart.1)
 
+-- places of keys are apart from a list that has the place of no token of their unit
 apart_from : (u : Spelling) (tape : List Op) (qs : List Place) → ((token : ℕ) → has_place qs (place u token) ≡ false) →
     AreApart (key_places u tape) qs
 apart_from u [] qs h = tt
@@ -142,6 +149,7 @@ apart_from u (op ∷ tape) qs h = by_key (op_key op) (apart_from u tape qs h)
     by_key None rest = rest
     by_key (Some token) rest = (h token, rest)
 
+-- a place of another unit is not among those of the keys of a tape
 other_unit : (u : Spelling) (tape : List Op) (p : Place) → nat_eq u.unit p.0 ≡ false
     → has_place (key_places u tape) p ≡ false
 other_unit u [] p h = refl
@@ -152,6 +160,7 @@ other_unit u (op ∷ tape) p h = by_key (op_key op) (other_unit u tape p h)
     by_key None rest = rest
     by_key (Some token) rest = rw h rest
 
+-- a place of a unit that none of the sources is is not among the places of their keys
 no_unit : (sources : List Source) (p : Place) → has_unit p.0 sources ≡ false → has_place (keys_among sources) p ≡ false
 no_unit [] p h = refl
 no_unit (it ∷ sources) p h =
@@ -159,6 +168,7 @@ no_unit (it ∷ sources) p h =
     has_none p (key_places it.spelling (tape_of it.items)) (keys_among sources)
     (other_unit it.spelling (tape_of it.items) p parts.0) (no_unit sources p parts.1)
 
+-- each token of a source that was read is that of one op of its tape at most
 pub tokens_are_once : TokensAreOnce
 tokens_are_once it read n =
     let end : List Lexeme = record { kind = kinds.End; at = read.tokens.last } ∷ [] in
@@ -171,6 +181,7 @@ keys_once : (it : Source) → IsRead it → (n : ℕ) → counted_keys n (tape_o
 keys_once it read n =
     let a = are_tokens n (tape_of it.items) in let b = tokens_are_once it read n in omega (arith, a, b)
 
+-- the places of all keys differ, where the tokens of each source and the units differ in number
 pub keys_differ : KeysDiffer
 keys_differ [] reads units = tt
 keys_differ (it ∷ sources) reads units =

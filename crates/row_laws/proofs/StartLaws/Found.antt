@@ -42,12 +42,14 @@ pub run_append : (k : Over) (xs ys : List Op) (st : State) →
 run_append k [] ys st = refl
 run_append k (op ∷ xs) ys st = run_append k xs ys (step k.spelling k.names st op)
 
+-- the rounds behind two tapes in a row are those behind the second, from the state and the rounds behind the first
 pub rounds_append : (k : Over) (xs ys : List Op) (st : State) (r : Rounds) →
     rounds_behind k st r (xs ++ ys) ≡ rounds_behind k (behind k st xs) (rounds_behind k st r xs) ys
 rounds_append k [] ys st r = refl
 rounds_append k (op ∷ xs) ys st r =
     rounds_append k xs ys (step k.spelling k.names st op) (round_step st.declarations r op)
 
+-- skeletons found along two tapes in a row are those of the first, then those of the second from behind it
 pub found_append : (k : Over) (xs ys : List Op) (st : State) (r : Rounds) →
     found k st r (xs ++ ys) ≡ found k st r xs ++ found k (behind k st xs) (rounds_behind k st r xs) ys
 found_append k [] ys st r = refl
@@ -188,6 +190,7 @@ pub of_three : {k : Over} {h : Having} {tape : List Op} (f g i : Around → List
     Finds k h tape (λ a. (f a ++ g a) ++ i a) → Finds k h tape (λ a. f a ++ (g a ++ i a))
 of_three {k} f g i p = same p (λ r. append_assoc (f (at k r)) (g (at k r)) (i (at k r)))
 
+-- four groups of skeletons that are found along a tape are found there in the other grouping
 pub of_four : {k : Over} {h : Having} {tape : List Op} (f g i j : Around → List Start) →
     Finds k h tape (λ a. ((f a ++ g a) ++ i a) ++ j a) → Finds k h tape (λ a. f a ++ (g a ++ (i a ++ j a)))
 of_four {k} f g i j p =

@@ -166,6 +166,7 @@ module _ (k : Over) where
 
 -- what is said in two ways
 
+-- whether a declarator is a bare name is the same by tapes and by rules
 pub same_bare : (d : Declr) → is_name d ≡ is_bare d
 same_bare (pointer star words d) = refl
 same_bare (declr_name token name) = refl
@@ -179,6 +180,7 @@ same_bare (abs_params d opening ps dots closing) = refl
 same_bare (identifiers d opening names closing) = refl
 same_bare (base_name token) = refl
 
+-- whether a statement has a value is the same by tapes and by rules
 same_value : (t : Stmt) → tape_tests.is_value t ≡ starts.is_value_stmt t
 same_value (block opening items closing) = refl
 same_value (expr_stmt no_expr semi) = refl
@@ -200,6 +202,7 @@ same_value (asm_stmt keyword words group semi) = refl
 same_value (case_range keyword e dots e2 colon t) = refl
 same_value (goto_value keyword star e semi) = refl
 
+-- whether a block ends in a value is the same by tapes and by rules
 pub same_end : (items : BlockItems) → tape_tests.ends_in_value items ≡ starts.ends_in_value items
 same_end no_block_items = refl
 same_end (more_block_items (block_decl d) no_block_items) = refl
@@ -217,6 +220,7 @@ right_of : (a b : Bool) → (a && b) ≡ true → b ≡ true
 right_of true b e = e
 right_of false b e = absurd cc
 
+-- no skeleton begins in a word of specifiers that has no body and no type by parentheses
 bare_word : (a : Around) (word : SpecWord) → is_bare_word word ≡ true → word_starts a word ≡ []
 bare_word a (storage word) e = refl
 bare_word a (thread token) e = refl
@@ -233,6 +237,7 @@ bare_word a (typeof_type word opening ws d closing) e = absurd cc
 bare_word a (align attr) e = refl
 bare_word a (auto_word token) e = refl
 
+-- no skeletons begin in words of specifiers of which none has a body or a type by parentheses
 bare_words : (a : Around) (ws : SpecWords) → tape_tests.is_bare ws ≡ true → words_starts a ws ≡ []
 bare_words a no_words e = refl
 bare_words a (more_words word ws) e =
@@ -240,6 +245,7 @@ bare_words a (more_words word ws) e =
     (bare_word a word (left_of (is_bare_word word) (tape_tests.is_bare ws) e))
     ∙ bare_words a ws (right_of (is_bare_word word) (tape_tests.is_bare ws) e)
 
+-- no skeleton begins in a list of parameters that says that there are none
 pub none_said : (a : Around) (h : Having) (ps : Params) → says_none ps ≡ true → params_starts a h ps ≡ []
 none_said a h no_params e = refl
 none_said a h (more_params ws no_declr attrs no_params) e =

@@ -54,6 +54,7 @@ sizeof_finds token p =
     enclosed (ops.Stmt stmts.Quiet) (ops.Form (forms.Sizeof token)) silenced quiet (λ a. fresh a token (base []))
     (λ st r. refl) (λ st r. refl) (λ r. refl) (λ r. refl) (λ st r. refl) (λ ds r. refl) p
 
+-- along an `offsetof` the skeletons of what is in it are found, then a fresh one of a base type
 pub offset_finds : {k : Over} {h : Having} {tape : List Op} {f : Around → List Start} (token : ℕ) →
     Finds k with_skeleton tape f →
     Finds k h (ops.Stmt stmts.Quiet ∷ (tape ++ ops.Form (forms.Offset token) ∷ []))
@@ -77,6 +78,7 @@ compat_finds token p =
     enclosed (ops.Stmt stmts.Quiet) (ops.Form (forms.Compat token)) silenced quiet (λ a. fresh a token (base []))
     (λ st r. refl) (λ st r. refl) (λ r. refl) (λ r. refl) (λ st r. refl) (λ ds r. refl) p
 
+-- along a body, be it of a tag or of none, the skeletons of its members are found
 pub body_finds : {k : Over} {h : Having} {tape : List Op} {f : Around → List Start} (kind : TagKind) (keyword : ℕ)
     (tag : Option Identifier) → Finds k with_skeleton tape f →
     Finds k h (body_tape kind keyword tag ++ tape ++ spec specs.BodyEnd) f
@@ -89,6 +91,7 @@ body_finds kind keyword (Some tag) p =
 
 -- names of types
 
+-- along the name of a type the skeletons of its words are found, then those of its declarator
 pub type_name_finds : {k : Over} {h : Having} {words d : List Op} {f g : Around → List Start} (first : ℕ) →
     Finds k h words f → Finds k h d g → Finds k h (type_name_with words d first) (λ a. f a ++ g a)
 type_name_finds first p q =
@@ -251,6 +254,7 @@ pub record FindsParams (k : Over) (h : Having) (tape : List Op) (f : Around → 
 pub no_param : {k : Over} {h : Having} → FindsParams k h [] (λ a. [])
 no_param = record { finds = λ st r n q e. refl; ends = λ st r n q. refl }
 
+-- the next parameter of a list has the skeleton that the one before it has
 next_has : (k : Over) (n : Naming) →
     naming_has k.spelling k.names (next_naming n) ≡ naming_has k.spelling k.names n
 next_has k a_name = refl
@@ -258,6 +262,7 @@ next_has k (own_param f n) = refl
 next_has k other_param = refl
 next_has k (identified_param f) = refl
 
+-- an identifier of a list has the skeleton that its naming has
 identified_has : (k : Over) (n : Naming) →
     naming_has k.spelling k.names (identified_naming n) ≡ naming_has k.spelling k.names n
 identified_has k a_name = refl
@@ -284,6 +289,7 @@ in_list p = record {
   ends = λ st r n q. ap left (p.stays st (with_round n q r));
 }
 
+-- along a list of parameters the skeletons of the first are found, then those of the others
 pub one_param : {k : Over} {h : Having} {xs ys : List Op} {f g : Around → List Start} → Finds k h xs f →
     FindsParams k h ys g → FindsParams k h (xs ++ ops.Declr declrs.Param ∷ [] ++ ys) (λ a. f a ++ g a)
 one_param {k} {h} {xs} {ys} {f} {g} p q = record {
@@ -313,6 +319,7 @@ one_param {k} {h} {xs} {ys} {f} {g} p q = record {
   before st r n b e = found_append k xs (ops.Declr declrs.Param ∷ []) st (with_round n b r)
       ∙ (append-nil (found k st (with_round n b r) xs) ∙ p.finds st (with_round n b r) e)
 
+-- three groups of skeletons that are found along parameters are found there in the other grouping
 pub params_grouped : {k : Over} {h : Having} {tape : List Op} (f g i : Around → List Start) →
     FindsParams k h tape (λ a. (f a ++ g a) ++ i a) → FindsParams k h tape (λ a. f a ++ (g a ++ i a))
 params_grouped {k} f g i p = record {
@@ -341,6 +348,7 @@ list_found {k} {list = list} own p st r e =
     ∙ (append-nil (found k st (with_round (params_naming own st.declarations) (is_quiet r) r) list)
     ∙ p.finds st r (params_naming own st.declarations) (is_quiet r) e)
 
+-- a list of parameters leaves the rounds as they were before it
 pub list_stays : {k : Over} {h : Having} {list : List Op} {f : Around → List Start} (own : Bool) →
     FindsParams k h list f → (st : State) (r : Rounds) →
     rounds_behind k st r (ops.Declr (declrs.ParamsBegin own) ∷ (list ++ ops.Declr declrs.ParamsEnd ∷ [])) ≡ r
@@ -386,6 +394,7 @@ pub own_plain : {k : Over} {h : Having} {tape : List Op} {f : Around → List St
 own_plain p =
     record { finds = λ n st r e. p.finds (declaring None n st) r e; stays = λ n st r. p.stays (declaring None n st) r }
 
+-- skeletons of a function's declarator, then those of a tape behind it, are found along both together
 pub own_joined : {k : Over} {h : Having} {xs ys : List Op} {f g : Around → List Start} → OwnFinds k h xs f
     → Finds k h ys g →
     OwnFinds k h (xs ++ ys) (λ a. f a ++ g a)

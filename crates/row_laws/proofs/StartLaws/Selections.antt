@@ -53,6 +53,7 @@ record Selects (k : Over) (tape : List Op) (all : List Selection) : Type 0 where
 nothing : {k : Over} → Selects k [] []
 nothing = record { are = λ st. refl }
 
+-- selections along two tapes in a row are those of the first, then those of the second from the state behind it
 selections_append : (k : Over) (xs ys : List Op) (st : State) → selections_found k.spelling k.names st (xs ++ ys) ≡
     selections_found k.spelling k.names st xs ++ selections_found k.spelling k.names (behind k st xs) ys
 selections_append k [] ys st = refl
@@ -62,6 +63,7 @@ selections_append k (op ∷ xs) ys st =
     ∙ sym (append_assoc (op_selections k.spelling st op) (selections_found k.spelling k.names (step k.spelling k.names st op) xs)
     (selections_found k.spelling k.names (behind k (step k.spelling k.names st op) xs) ys))
 
+-- two tapes with their selections are, joined, a tape with the selections of both
 join : {k : Over} {xs ys : List Op} {f g : List Selection} → Selects k xs f → Selects k ys g
     → Selects k (xs ++ ys) (f ++ g)
 join {k} {xs} {ys} {f} {g} p q = record {
@@ -735,6 +737,7 @@ selections_are_found shaped addressed olds u s items =
 
 -- programs
 
+-- the selections on the tapes of sources are those that the rules find on their trees
 sources_select : SelectionsAreFound → (s : Names) (sources : List Source)
     → selections_on s sources ≡ selections_among s sources
 sources_select law s [] = refl

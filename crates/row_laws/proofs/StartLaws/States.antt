@@ -30,6 +30,7 @@ use Rattle.row_laws.proofs.StartLaws.Found.{Over, behind, run_append}
 
 -- tokens said in two ways
 
+-- the token of a word or element as a qualifier is the same by the tape and by the rules of shapes
 same_qual : (q : Qual) → tape_tokens.qual_token q ≡ rule_tokens.qual_token q
 same_qual (quals.Word word) = refl
 same_qual (quals.Element token) = refl
@@ -38,6 +39,7 @@ same_qual (quals.Index token) = refl
 same_enum : (e : EnumType) → tape_tokens.enum_token e ≡ rule_tokens.enum_token e
 same_enum (enum_of keyword attrs tag body) = refl
 
+-- the token of a word of specifiers is the same by the tape and by the rules of shapes
 same_word : (word : SpecWord) → tape_tokens.word_token word ≡ rule_tokens.word_token word
 same_word (storage word) = refl
 same_word (thread token) = refl
@@ -58,6 +60,7 @@ same_first : (ws : SpecWords) → first_word ws ≡ rule_tokens.first_word ws
 same_first no_words = refl
 same_first (more_words word ws) = same_word word
 
+-- dropping one element more than before an element of the stack leaves those behind that
 drop_one_more : {A : Type 0} (n : ℕ) (xs : List A) (y : A) (ys : List A) → drop n xs ≡ y ∷ ys → drop (suc n) xs ≡ ys
 drop_one_more zero [] y ys e = absurd cc
 drop_one_more zero (x ∷ xs) y ys e = cc

@@ -61,6 +61,7 @@ plain_starts a no_init_declrs = refl
 plain_starts a (more_init_declrs attrs d asm_label attrs2 init ds) =
     ap (λ (starts : List Start). declr_starts a with_skeleton without_skeleton d ++ (some_init_starts a init ++ starts)) (plain_starts a ds)
 
+-- declarators whose type is that of an initialiser are one such declarator, as in a well-formed declaration
 auto_is : (ws : SpecWords) (ds : InitDeclrs) → are_auto ws ds ≡ true → IsAutoWhere (has_auto ws) ws ds
     → IsAutoDeclr ws ds
 auto_is ws ds is where_auto =
@@ -71,6 +72,7 @@ auto_is ws ds is where_auto =
     first_of true b e = refl
     first_of false b e = e
 
+-- the five groups of skeletons of a test of types, in the grouping of its tape
 compat_groups : (xs ys zs us vs : List Start) → ((xs ++ ys) ++ (zs ++ us)) ++ vs ≡ xs ++ (ys ++ (zs ++ (us ++ vs)))
 compat_groups xs ys zs us vs =
     append_assoc (xs ++ ys) (zs ++ us) vs
@@ -86,6 +88,7 @@ own_grouped : {k : Over} {h : Having} {f : Around → List Start} {tape other : 
     OwnFinds k h other f
 own_grouped {k} {h} {f} p e = subst (λ (tape : List Op). OwnFinds k h tape f) e p
 
+-- a tape with parts between two ops is the one that is grouped from the left
 listed_groups : (xs ys zs : List Op) (first last : Op) →
     xs ++ (first ∷ ((ys ++ zs) ++ last ∷ [])) ≡ (((xs ++ first ∷ []) ++ ys) ++ zs) ++ last ∷ []
 listed_groups xs ys zs first last =

@@ -204,6 +204,7 @@ module _ (access : Bool) (k : Over) (all : List Lexeme) where
       ∙ ap (λ (starts : List Start). item_starts access k.spelling k.names item ++ starts)
       (items_find items (All-tail (IsItem all) item items w) (behind k st (item_tape item)))))
 
+-- along the tape of a unit the skeletons begin that begin on its tree, in their order
 pub starts_are_found : ShapesAreLeft → AddressedAreLeft → OldNamesAreLeft → StartsAreFound
 starts_are_found shaped addressed named access u s all items unit =
     items_find access (record { spelling = u; names = s; shaped = shaped; addressed = addressed; named = named }) all items unit.parts
@@ -211,6 +212,7 @@ starts_are_found shaped addressed named access u s all items unit =
 
 -- programs
 
+-- the skeletons on the tapes of sources are those that begin on their trees
 sources_find : StartsAreFound → (access : Bool) (s : Names) (sources : List Source) → All IsSound sources →
     found_on access s sources ≡ starts_among access s sources
 sources_find law access s [] h = refl

@@ -21,6 +21,7 @@ pub taken_more : {A : Type 0} (xs : List A) (n : ℕ) (d : A) → n < length xs 
     reverse (take (n + 1) xs) ≡ get_or xs n d ∷ reverse (take n xs)
 taken_more {A} xs n d lt = ap reverse (take_more xs n d lt) ∙ reverse-append (take n xs) (get_or xs n d ∷ [])
 
+-- a stack that is cut to no elements is empty
 pub none_kept : {A : Type 0} (xs : List A) → drop (length xs - 0) xs ≡ []
 none_kept xs = gone xs (length xs - 0) (omega arith) where
   gone : {A : Type 0} (xs : List A) (n : ℕ) → length xs ≤ n → drop n xs ≡ []
@@ -34,6 +35,7 @@ none_kept xs = gone xs (length xs - 0) (omega arith) where
 abbrev unknown : Operand
 unknown = operands.NamedType None
 
+-- the operand at a depth of the stack is the first of the state's operands from that depth on
 pub operand_found : (t : Tables) (os : List Operand) (n : ℕ) →
     operand_in t (get_or os n unknown) ≡ states.first_operand (drop n (map (operand_in t) os))
 operand_found t [] zero = refl
@@ -108,6 +110,7 @@ pub dropped_viewed : (t : Tables) (n : ℕ) (st : Stacked) (os : List Operand) �
 dropped_viewed t n st os e = ap (λ (os : List Operand). state_in t (record st { operands = os })) e ∙
     ap (λ (os : List states.Operand). record (state_in t st) { operands = os }) (drop_viewed t n st.operands)
 
+-- an operand put in place of n others is so in the state
 pub put_viewed : (t : Tables) (n : ℕ) (st : Stacked) (it : Operand) (os : List Operand) → os ≡
     it ∷ drop n st.operands → state_in t (record st { operands = os }) ≡
     states.operand_put n (operand_in t it) (state_in t st)
@@ -118,6 +121,7 @@ put_viewed t n st it os e =
 
 -- an initialiser in braces is gone through
 
+-- operands of the state in reverse are those of the reversed stack
 reverse_viewed : (t : Tables) (os : List Operand) → map (operand_in t) (reverse os) ≡ reverse (map (operand_in t) os)
 reverse_viewed t [] = refl
 reverse_viewed t (it ∷ os) =
@@ -126,6 +130,7 @@ reverse_viewed t (it ∷ os) =
     ∙ ap (λ (xs : List states.Operand). xs ++ (operand_in t it ∷ [])) (reverse_viewed t os)
     ∙ sym (reverse-append (operand_in t it ∷ []) (map (operand_in t) os))
 
+-- the operands within an initialiser are those of the stack above where it began, in their order
 within_viewed : (t : Tables) (st : Stacked) (n : ℕ) → n ≡ states.depth_below (state_in t st) →
     map (operand_in t) (reverse (take n st.operands)) ≡ states.operands_within (state_in t st)
 within_viewed t st n e =
@@ -133,6 +138,7 @@ within_viewed t st n e =
     ∙ ap reverse (sym (take-map (operand_in t) n st.operands))
     ∙ ap (λ (n : ℕ). reverse (take n (map (operand_in t) st.operands))) e
 
+-- an initialiser that is gone through has its operands as leaves and its target as the whole, as in the state
 pub gone_viewed : (t : Tables) (st : Stacked) (n : ℕ) (ls : List Operand) (bs : List Braces) (target : Option ℕ) →
     ls ≡ reverse (take n st.operands) → n ≡ states.depth_below (state_in t st) →
     bs ≡ braces.Whole target ∷ st.braces →
@@ -145,6 +151,7 @@ gone_viewed t st n ls bs target l e b =
 
 -- an initialiser in braces ends
 
+-- the operands below an initialiser are those of the stack down from where it began
 below_viewed : (t : Tables) (st : Stacked) →
     map (operand_in t) (drop (length st.operands - get_or st.bases 0 0) st.operands) ≡
     states.operands_below (state_in t st)
@@ -157,6 +164,7 @@ below_viewed t st =
 abbrev left : Stacked → List Operand → List ℕ → List Braces → List Operand → Stacked
 left st os ns bs ls = record st { operands = os; bases = ns; braces = bs; leaves = ls }
 
+-- an initialiser that is left drops its operands, its braces and where it began, as in the state
 pub left_viewed : (t : Tables) (st : Stacked) (os : List Operand) (ns : List ℕ) (bs : List Braces) (ls : List Operand)
     → os ≡
     drop (length st.operands - get_or st.bases 0 0) st.operands → ns ≡ drop 1 st.bases → bs ≡ drop 1 st.braces → ls ≡ [] →

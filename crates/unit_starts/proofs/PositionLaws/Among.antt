@@ -14,6 +14,7 @@ use Rattle.unit_starts.proofs.PositionLaws.Paths.{get_left, get_right, counted, 
 abbrev position : Place → List Step → PositionView
 position at p = record { unit = at.0; token = at.1; path = p }
 
+-- the n-th of the positions at a place has the n-th of their paths
 get_position : (at : Place) (ps : List (List Step)) (n : ℕ) (p : List Step) → slice_get ps n ≡ Some p
     → slice_get (positions_at at ps) n ≡ Some (position at p)
 get_position at [] n p e = absurd cc
@@ -24,6 +25,7 @@ positions_length : (at : Place) (ps : List (List Step)) → length (positions_at
 positions_length at [] = refl
 positions_length at (p ∷ ps) = ap suc (positions_length at ps)
 
+-- there is a position for each variable of the skeletons
 pub all_counted : PositionsAreCounted
 all_counted [] = refl
 all_counted (start ∷ starts) =
@@ -41,6 +43,7 @@ record IsAmong (starts : List Start) (m v : ℕ) (at : PositionView) : Type 0 wh
   is : v ≡ m + index
   there : slice_get (positions_of starts) index ≡ Some at
 
+-- a path to a variable of a numbered skeleton gives the position of this variable among those of all
 among : (starts : List Start) (m k : ℕ) (it : Numbered) → slice_get (numbered_from m starts) k ≡ Some it
     → (v : ℕ) (p : List Step) → IsAt (paths it.start.type) it.first v p → IsAmong starts m v (position it.start.at p)
 among [] m k it e v p at = absurd cc
@@ -64,6 +67,7 @@ among (start ∷ starts) m (suc k) it e v p at =
       there = get_right (positions_at start.at (paths start.type)) (positions_of starts) later.index ∙ later.there;
     }
 
+-- where a position of the table leads to a variable, it is in the list of positions under its number
 pub stand : PositionsStand
 stand rows starts those p v it =
     let one : IsOneOf rows (numbered_from 0 starts) it.top (p.unit, p.token) = those it.top (p.unit, p.token) it.mark in

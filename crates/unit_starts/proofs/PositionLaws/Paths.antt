@@ -9,17 +9,20 @@ use Rattle.unit_starts.specs.PositionLaws.Positions.{behind, ellipsis_paths, pat
 
 -- lists
 
+-- an element of a list keeps its index in the list with others behind it
 pub get_left : {A : Type 0} (xs ys : List A) (n : ℕ) (x : A) → slice_get xs n ≡ Some x → slice_get (xs ++ ys) n ≡ Some x
 get_left [] ys n x e = absurd cc
 get_left (y ∷ xs) ys zero x e = e
 get_left (y ∷ xs) ys (suc n) x e = get_left xs ys n x e
 
+-- behind the length of the first of two lists stand the elements of the second
 pub get_right : {A : Type 0} (xs ys : List A) (n : ℕ) → slice_get (xs ++ ys) (length xs + n) ≡ slice_get ys n
 get_right [] ys n = let e : 0 + n ≡ n = omega arith in ap (λ (m : ℕ). slice_get ys m) e
 get_right (y ∷ xs) ys n =
     let e : length (y ∷ xs) + n ≡ suc (length xs + n) = omega arith in
     ap (λ (m : ℕ). slice_get (y ∷ (xs ++ ys)) m) e ∙ get_right xs ys n
 
+-- the n-th of paths with one step before each is the n-th path with this step before it
 pub get_behind : (step : Step) (ps : List (List Step)) (n : ℕ) (p : List Step) → slice_get ps n ≡ Some p
     → slice_get (behind step ps) n ≡ Some (step ∷ p)
 get_behind step [] n p e = absurd cc
@@ -90,6 +93,7 @@ inside_at step ps n v p it = record { offset = it.offset; is = it.is; there = ge
 left_at : (ps qs : List (List Step)) (n v : ℕ) (p : List Step) → IsAt ps n v p → IsAt (ps ++ qs) n v p
 left_at ps qs n v p it = record { offset = it.offset; is = it.is; there = get_left ps qs it.offset p it.there }
 
+-- a path that is at a variable in the second of two lists is so in both together, numbered behind the first
 right_at : (ps qs : List (List Step)) (n m v : ℕ) (p : List Step) → m ≡ n + length ps → IsAt qs m v p
     → IsAt (ps ++ qs) n v p
 right_at ps qs n m v p e it =
@@ -99,6 +103,7 @@ right_at ps qs n m v p e it =
       there = get_right ps qs it.offset ∙ it.there;
     }
 
+-- a path to the variable of further arguments is the one path of an ellipsis
 ellipsis_at : (e : Option Words) (p : List Step) (n v : ℕ) → ended p (numbered_ellipsis e n) ≡ Some v
     → IsAt (ellipsis_paths e) n v (steps.Ellipsis ∷ p)
 ellipsis_at None [] n v e = absurd cc

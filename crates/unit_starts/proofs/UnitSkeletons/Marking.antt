@@ -9,6 +9,7 @@ use Rattle.row_rules.specs.Worlds.{Numbered, numbered_from}
 use Rattle.unit_starts.specs.PositionLaws.Positions.{IsOneOf}
 use Rattle.unit_starts.specs.UnitSkeletons.Found.{AreMarked}
 
+-- a numbered skeleton keeps its index in the list with others behind it
 there_front : (xs ys : List Numbered) (n : ℕ) (x : Numbered) → slice_get xs n ≡ Some x → slice_get (xs ++ ys) n ≡ Some x
 there_front [] ys n x is = absurd cc
 there_front (x ∷ xs) ys zero y is = is
@@ -18,11 +19,13 @@ there_behind : (xs ys : List Numbered) (x : Numbered) → slice_get (xs ++ (x �
 there_behind [] ys x = refl
 there_behind (y ∷ xs) ys x = there_behind xs ys x
 
+-- a row of the table with a mark is within the table
 below_table : (rows : List Row) (n : ℕ) (mark : ℕ × ℕ) → mark_of rows n ≡ Some mark → n < length rows
 below_table [] n mark is = absurd cc
 below_table (row ∷ rows) zero mark is = omega arith
 below_table (row ∷ rows) (suc n) mark is = let lt = below_table rows n mark is in omega (arith, lt)
 
+-- of two numbers one is below the other, or they are equal
 order : (n m : ℕ) → (n < m) ⊎ ((n ≡ m) ⊎ (m < n))
 order zero zero = inr (inl refl)
 order zero (suc m) = inl (omega arith)

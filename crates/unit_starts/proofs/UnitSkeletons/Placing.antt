@@ -18,16 +18,19 @@ count_seen : (n : ℕ) (rows : List Row) → length (all_seen n rows) ≡ length
 count_seen n [] = refl
 count_seen n (row ∷ rows) = ap suc (count_seen (n + 1) rows)
 
+-- past the end nothing of a table is seen
 past_seen : (seen : List Seen) (n : ℕ) → length seen ≤ n → seen_at seen n ≡ nothing
 past_seen [] n le = refl
 past_seen (it ∷ seen) zero le = absurd (omega arith)
 past_seen (it ∷ seen) (suc n) le = past_seen seen n (omega arith)
 
+-- past the end of a table its skeleton is nothing
 past_table : (rows : List Row) (n : ℕ) → length rows ≤ n → skel_of rows n ≡ nothing.tree
 past_table rows n le =
     ap (λ (it : Seen). it.tree)
     (past_seen (all_seen 0 rows) n (let e = count_seen 0 rows in omega arith))
 
+-- the skeleton at the number of a place is the one found by the index, in a table that is not full
 pub found_all : (rows : List Row) (index : PlaceIndex) (p : Place) → length rows ≤ 16777216
     → skel_of rows (number_or_none (number_at index p)) ≡ found_with rows index [] p
 found_all rows index p few = by_value (number_at index p)
@@ -36,6 +39,7 @@ found_all rows index p few = by_value (number_at index p)
     by_value None = past_table rows 4294967295 (omega arith)
     by_value (Some n) = refl
 
+-- a type has at least one constructor
 some_size : (t : CType) → 1 ≤ size t
 some_size (base ws) = omega arith
 some_size (void ws) = omega arith
@@ -102,6 +106,7 @@ one_left f [] i x lt is = absurd (omega arith)
 one_left f (y ∷ xs) zero x lt is = ap (λ z. f z ∷ map f xs) (sym is)
 one_left f (y ∷ xs) (suc i) x lt is = let e : suc i + 1 ≡ suc (i + 1) = omega arith in rw e (one_left f xs i x (omega arith) is)
 
+-- past its end nothing of a list of skeletons is left
 pub none_left : (starts : List code.Start) (i : ℕ) → length starts ≤ i → drop i starts ≡ []
 none_left [] zero le = refl
 none_left [] (suc i) le = refl

@@ -9,18 +9,21 @@ use Rattle.name_tables.specs.declared.place_map.map.PlaceMap.{PlaceMap}
 use Rattle.name_tables.specs.PlaceMap.Values.{value_at, or_else}
 use Rattle.unit_system.specs.SourceMarks.Marks.{mark_at, mark_in, mark_before, mark_there, IsMarked}
 
+-- a number that is below another compares as below
 below_true : (k n : ℕ) → k < n → nat_lt k n ≡ true
 below_true k n lt = elim (leb_tells (suc k) n) [
   | inl a ↦ a.0
   | inr b ↦ absurd (let h = b.1 in omega arith)
 ]
 
+-- a number that is not below another does not compare as below
 below_false : (k n : ℕ) → n ≤ k → nat_lt k n ≡ false
 below_false k n le = elim (leb_tells (suc k) n) [
   | inl a ↦ absurd (let h = a.1 in omega arith)
   | inr b ↦ b.0
 ]
 
+-- past its end a list has no element
 past : {A : Type 0} (xs : List A) (n : ℕ) → length xs ≤ n → slice_get xs n ≡ None
 past [] n le = refl
 past (x ∷ xs) zero le = absurd (omega arith)

@@ -19,6 +19,7 @@ run_more : (w : World) (st : State) (xs ys : List Op) → run w st (xs ++ ys) �
 run_more w st [] ys = refl
 run_more w st (x ∷ xs) ys = run_more w (step w st x) xs ys
 
+-- rows found along two tapes in a row are those of the first, then those of the second from the state behind it
 rows_more : (w : World) (st : State) (xs ys : List Op) →
     rows_found w st (xs ++ ys) ≡ rows_found w st xs ++ rows_found w (run w st xs) ys
 rows_more w st [] ys = refl
@@ -34,6 +35,7 @@ pub record Reached (w : World) (old now : System) (st : State) (ops : List Op) :
 pub at_first : (w : World) (old : System) (st : State) → st ≡ nothing → Reached w old old st []
 at_first w old st e = record { rows = with_none old; state = e }
 
+-- behind one op more the graph has its row too, and the state is its step
 pub at_next : (w : World) (old now new : System) (st after : State) (ops : List Op) (op : Op)
     → Reached w old now st ops →
     new ≡ with now (op_row w st op) → after ≡ step w st op → Reached w old new after (ops ++ (op ∷ []))
@@ -49,6 +51,7 @@ at_next w old now new st after ops op so row next = record {
       next ∙ ap (λ (s : State). step w s op) so.state ∙ sym (run_more w nothing ops (op ∷ []));
 }
 
+-- the rows along a tape are those before an op, the row of the op, and those behind it
 rows_split : (w : World) (ops rest : List Op) (op : Op) (st : State) → st ≡ run w nothing ops →
     rows_found w nothing (ops ++ (op ∷ rest)) ≡ rows_found w nothing ops ++ (op_row w st op ++ rows_found w (step w st op) rest)
 rows_split w ops rest op st e =
@@ -63,6 +66,7 @@ at_refused w old now new fault st ops rest tape op so split stop =
     stops_within old now new fault (rows_found w nothing ops) (op_row w st op) (rows_found w (step w st op) rest)
     (rows_found w nothing tape) so.rows (ap (rows_found w nothing) split ∙ rows_split w ops rest op st so.state) stop
 
+-- where a whole list was added and memory is wanting then, it was a part of the list that was added
 all_added : (new now : System) (list : List Constraint) → new ≡ with now list → StopsEarly now new NoMemory list
 all_added new now list e = record {
   added = length list;
@@ -82,6 +86,7 @@ at_want w old now new fault st ops rest tape op so split row e =
     at_refused w old now new fault st ops rest tape op so split
     (subst (λ (f : GraphFault). StopsEarly now new f (op_row w st op)) (sym e) (all_added new now (op_row w st op) row))
 
+-- a tape is its front before an index, the op there, and the ops behind
 pub split_at : (tape : List Op) (i : ℕ) (op : Op) → op ≡ get_or tape i op → i < length tape →
     tape ≡ take i tape ++ (op ∷ drop (suc i) tape)
 split_at [] i op is lt = absurd (omega arith)
@@ -93,6 +98,7 @@ pub one_more : (tape : List Op) (i : ℕ) (op : Op) → op ≡ get_or tape i op 
 one_more tape i op is lt =
     sym (take_more tape i op lt ∙ ap (λ (x : Op). take i tape ++ (x ∷ [])) (sym is))
 
+-- at its end or past it the front of a tape is the tape
 pub all_taken : (tape : List Op) (i : ℕ) → length tape ≤ i → take i tape ≡ tape
 all_taken [] zero le = refl
 all_taken [] (suc i) le = refl

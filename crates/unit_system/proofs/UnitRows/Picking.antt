@@ -67,6 +67,7 @@ no_row w token all b fails is = none_picked w (own w token) (span w token token)
 abbrev pub one_where : World → ℕ → ℕ → ℕ → State → List Candidate
 one_where w token i n st = if w.candidate (at w token) i then candidate_at (twice n) st ∷ [] else []
 
+-- the candidates from an association on are it, where it is one, and those from the next association on
 left_at : (w : World) (token i count : ℕ) (st : State) → i < count →
     selected w token i (count - i) st ≡ one_where w token i (count - suc i) st ++ selected w token (i + 1) (count - (i + 1)) st
 left_at w token i count st lt =
@@ -81,11 +82,13 @@ pub record Picked (w : World) (token count i : ℕ) (st : State) (old now : Syst
   pub rows : now ≡ with old (picking_row w token all)
   pub left : all ++ selected w token i (count - i) st ≡ selected w token 0 count st
 
+-- before the first association no candidate was picked, and the graph is as it was
 pub at_begin : (w : World) (token count : ℕ) (st : State) (old : System) → Picked w token count 0 st old old
 at_begin w token count st old =
     let none : count - 0 ≡ count = omega arith in
     record { all = []; rows = with_none old; left = ap (λ (n : ℕ). selected w token 0 n st) none }
 
+-- behind one association more the graph has the row of it where it is a candidate
 pub at_one_more : (w : World) (token count i : ℕ) (st : State) (old now new : System) (is : Bool) (depth : ℕ)
     → i < count →
     is ≡ w.candidate (at w token) i → depth ≡ twice (count - suc i) → Picked w token count i st old now →
@@ -104,6 +107,7 @@ at_one_more w token count i st old now new is depth lt is_it depth_is so row =
           ap (λ (cs : List Candidate). so.all ++ cs) (sym (left_at w token i count st lt)) ∙ so.left;
     }
 
+-- behind the last association the graph has the rows of all candidates of the selection
 pub at_end : (w : World) (token count i : ℕ) (st : State) (old now : System) → count ≤ i
     → Picked w token count i st old now →
     now ≡ with old (picking_row w token (selected w token 0 count st))

@@ -27,6 +27,7 @@ pub row_added : {T : Type 0} (r : Result T GraphFault) (k : Known) (old new : Sy
 row_added r k old new rows others same added =
     on_ok_weaker r (λ a w shows. a w shows ∙ ap (with old) (same w shows)) added
 
+-- an adding that halts in some rows halts in rows that are the same in each world shown
 pub row_halted : {T : Type 0} (r : Result T GraphFault) (k : Known) (old new : System) (rows others : World → List Constraint) →
     Same k rows others → IfErr r (λ fault. Halts k old new fault rows) → IfErr r (λ fault. Halts k old new fault others)
 row_halted r k old new rows others same halted =
@@ -80,6 +81,7 @@ pub rows_added : {T : Type 0} (r : Result T GraphFault) (k : Known) (old now new
 rows_added r k old now new first second one other =
     on_ok_weaker r (λ a w shows. a w shows ∙ ap (λ (sys : System). with sys (second w)) (one w shows) ∙ with_more old (first w) (second w)) other
 
+-- where first rows were added and second ones halt, the two in a row halt
 pub rows_halted : {T : Type 0} (r : Result T GraphFault) (k : Known) (old now new : System) (first second : World → List Constraint) →
     Adds k old now first → IfErr r (λ fault. Halts k now new fault second) →
     IfErr r (λ fault. Halts k old new fault (λ w. first w ++ second w))
@@ -93,6 +95,7 @@ pub first_halted : (k : Known) (old new : System) (fault : GraphFault) (first se
 first_halted k old new fault first second h = λ w shows.
     stops_within old old new fault [] (first w) (second w) (first w ++ second w) (with_none old) refl (h w shows)
 
+-- where memory is wanting before anything was added, the graph stays, whatever was to be added
 pub none_halts : (sys : System) (list : List Constraint) → StopsEarly sys sys NoMemory list
 none_halts sys list = record {
   added = 0;
@@ -104,6 +107,7 @@ none_halts sys list = record {
   nothing_taken [] = refl
   nothing_taken (x ∷ xs) = refl
 
+-- where the rows are empty in each world shown, the graph that stays has them
 pub none_added : (k : Known) (graph : System) (rows : World → List Constraint) →
     ((w : World) → Shows k w → rows w ≡ []) → Adds k graph graph rows
 none_added k graph rows none = λ w shows.

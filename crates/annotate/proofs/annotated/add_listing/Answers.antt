@@ -7,6 +7,7 @@ use Rattle.annotate.specs.Comments.{begun_with}
 use Rattle.annotate.proofs.Annotating.{none_more, no_item, other_unit, other_token, one_more}
 use Rattle.annotate.proofs.annotated.add_listing.Goals as goal
 
+-- an element of a variable past the table leaves the comments as they were
 pub returns-then-number-count-clause-added : goal.returns-then-number-count-clause-added
 returns-then-number-count-clause-added c =
     λ s shows before.
@@ -15,6 +16,7 @@ returns-then-number-count-clause-added c =
     (λ token within. no_item s c.args.unit token c.args.listing.now _
     (slice_get_past s.positions c.args.listing.now.var (omega (arith, count))))
 
+-- an element of a variable in another unit leaves the comments as they were
 pub returns-then-ne-clause-added : goal.returns-then-ne-clause-added
 returns-then-ne-clause-added c =
     λ s shows before.
@@ -25,6 +27,7 @@ returns-then-ne-clause-added c =
     (λ token within. other_unit s c.args.unit token c.args.listing.now _ position found
     (λ (same : c.in_ok-position.position.unit ≡ c.args.unit). grind arith))
 
+-- an element of a variable at a token past the comments leaves them as they were
 pub returns-then-token-len-clause-added : goal.returns-then-token-len-clause-added
 returns-then-token-len-clause-added c =
     λ s shows before.
@@ -35,6 +38,7 @@ returns-then-token-len-clause-added c =
     (λ token within. other_token s c.args.unit token c.args.listing.now _ position found
     (λ (same : c.in_ok-position.position.token ≡ token). grind arith))
 
+-- an element of a variable at a token of the unit adds its item to the comment of this token
 pub returns-clause-added : goal.returns-clause-added
 returns-clause-added c =
     λ s shows before.

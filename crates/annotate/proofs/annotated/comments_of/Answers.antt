@@ -8,6 +8,7 @@ use Rattle.annotate.proofs.annotated.comments_of.Goals as goal
 pub loop-listing-init : goal.loop-listing-init
 loop-listing-init c = (c.in_ok-comments.ensures.0, λ s shows. c.in_ok-comments.ensures.1)
 
+-- one element more keeps the comments those of the elements so far
 pub loop-listing-preserved : goal.loop-listing-preserved
 loop-listing-preserved c = (
   c.in_ok-add_listing.ensures.count ∙ c.loop-listing.invariant.0,
@@ -18,6 +19,7 @@ loop-listing-preserved c = (
       (c.loop-listing.invariant.1 s shows)),
 )
 
+-- behind the last element the comments are those of all that is listed
 pub returns : goal.returns
 returns c = (
   c.loop-listing.invariant.0,

@@ -4,11 +4,13 @@ use Rattle.annotate.specs.Comments.{HoldComments}
 use Rattle.annotate.proofs.Annotating.{hold_one_more, hold_none}
 use Rattle.annotate.proofs.annotated.empty_texts.Goals as goal
 
+-- at first there is no text
 pub loop-init : goal.loop-init
 loop-init c =
     let Hold : List (Vec ℕ Global) → Type 0 = λ texts. (length texts ≡ 0) × HoldComments (λ token. []) texts in
     subst Hold (sym c.new-texts.ensures.items) hold_none
 
+-- one empty text more keeps all texts empty
 pub loop-preserved : goal.loop-preserved
 loop-preserved c =
     let Hold : List (Vec ℕ Global) → Type 0 = λ texts. (length texts ≡ c.loop.counter + 1) × HoldComments (λ token. []) texts in

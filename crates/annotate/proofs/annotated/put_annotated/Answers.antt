@@ -7,6 +7,7 @@ use Rattle.annotate.specs.Comments.{AreComments, HoldComments}
 use Rattle.annotate.proofs.SceneLemmas.{unit_is}
 use Rattle.annotate.proofs.annotated.put_annotated.Goals as goal
 
+-- the line `annotated`, and the pieces of the unit with their comments behind it, are the annotated source
 pub returns : goal.returns
 returns c = record {
   is = λ s shows.

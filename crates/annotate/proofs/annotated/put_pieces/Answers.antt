@@ -6,12 +6,14 @@ use Rattle.annotate.specs.Comments.{closed}
 use Rattle.annotate.proofs.Annotating.{first_pieces, next_piece, last_piece}
 use Rattle.annotate.proofs.annotated.put_pieces.Goals as goal
 
+-- before the first token the pieces still to come are those of all bytes
 pub loop-n-init : goal.loop-n-init
 loop-n-init c =
     λ items hold. first_pieces items (behind c.args.tokens.now)
     (length c.args.tokens.now.tokens) c.unit_bytes-left.result.now c.args.tokens.now.bytes c.args.out.now.items
     c.unit_bytes-left.ensures
 
+-- the piece of one token more keeps the text that is written and still to come that of the whole unit
 pub loop-n-preserved : goal.loop-n-preserved
 loop-n-preserved c =
     λ items hold.
@@ -36,6 +38,7 @@ loop-n-preserved c =
     ∙ hold c.loop-n.n comment there)
     ∙ c.loop-n.invariant items hold
 
+-- behind the last token the bytes that are left end the text of the unit
 pub returns : goal.returns
 returns c =
     on_ok_weaker c.put.result (λ put items hold.

@@ -3,6 +3,7 @@ use Rattle.annotate.specs.Annotated.{behind, pieces_from, with_comments}
 use Rattle.annotate.specs.Comments.{HoldComments}
 use Rattle.annotate.proofs.annotated.put_pieces.Given as goal
 
+-- invariant of the loop: what is written, with the pieces still to come, is the text with all comments
 abbrev pub invariant-loop-n : goal.invariant-loop-n
 invariant-loop-n l =
     (items : ℕ → List (List ℕ)) → HoldComments items l.comments →

@@ -8,6 +8,7 @@ use Rattle.annotate.proofs.ReportLemmas.{over_is_refuted}
 use Rattle.annotate.proofs.Counting.{none_counted, over_counted}
 use Rattle.annotate.proofs.judging.count_errors.Goals as goal
 
+-- where no first exceeded bound is found, the program is accepted
 pub returns-clause-accepted : goal.returns-clause-accepted
 returns-clause-accepted c =
     let Solved : List Solved → Type 0 = λ solutions. AreSolutions c.args.graph.now c.args.scene.now.lattices.now solutions in
@@ -17,12 +18,14 @@ returns-clause-accepted c =
     subst Accepted (sym shows.lattices)
     (accepted_all c.args.graph.now c.args.scene.now.lattices.now c.deref.result.now solved c.in-None.ensures.kept)
 
+-- where no first exceeded bound is found, the count of errors is 0
 pub returns-clause-count : goal.returns-clause-count
 returns-clause-count c =
     λ s shows.
     none_counted s c.args.graph.now (length c.args.graph.now.constraints) c.exceeded_is_refuted.ensures
     (returns-clause-accepted c refl s shows)
 
+-- where a first exceeded bound is found, the count is not 0
 pub returns-in-Some-clause-accepted : goal.returns-in-Some-clause-accepted
 returns-in-Some-clause-accepted c =
     λ none s shows.
@@ -32,6 +35,7 @@ returns-in-Some-clause-accepted c =
     first.within (first.over s shows) in
     absurd (omega (arith, none, some))
 
+-- where a first exceeded bound is found, the program is not accepted
 pub returns-in-Some-clause-rejected : goal.returns-in-Some-clause-rejected
 returns-in-Some-clause-rejected c =
     λ some s shows accepted.

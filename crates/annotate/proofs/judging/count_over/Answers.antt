@@ -5,6 +5,7 @@ use Rattle.annotate.proofs.Counting.{one_more, none_more}
 use Rattle.annotate.proofs.judging.count_over.Goals.{then-is_some, else-is_some}
 use Rattle.annotate.proofs.judging.count_over.Goals as goal
 
+-- below the first exceeded bound no constraint is counted
 pub loop-n-init : goal.loop-n-init
 loop-n-init c = record {
   counted = λ s shows.
@@ -13,6 +14,7 @@ loop-n-init c = record {
   most = omega arith;
 }
 
+-- one constraint more is counted where it is an exceeded bound, and only there
 pub loop-n-preserved : goal.loop-n-preserved
 loop-n-preserved c =
     let before = c.loop-n.invariant in

@@ -7,6 +7,7 @@ pub first_exceeded-found-requires-clause-solved : goal.first_exceeded-found-requ
 first_exceeded-found-requires-clause-solved c =
     (c.requires.solutions.each c.new-number.result c.solved_of-solved.result.now c.solved_of-solved.ensures).solved
 
+-- the constraints name elements of the lattice of each solution
 pub first_exceeded-found-requires-clause-named : goal.first_exceeded-found-requires-clause-named
 first_exceeded-found-requires-clause-named c =
     let own = c.requires.solutions.each c.new-number.result c.solved_of-solved.result.now c.solved_of-solved.ensures in
@@ -16,6 +17,7 @@ first_exceeded-found-requires-clause-named c =
 pub loop-n-init : goal.loop-n-init
 loop-n-init c = none_first c.args.scene.now c.args.graph.now c.args.solutions.now
 
+-- the first exceeded bound of one lattice more keeps what is found the first of those so far
 pub loop-n-preserved : goal.loop-n-preserved
 loop-n-preserved c =
     let own = c.requires.solutions.each c.new-number.result c.solved_of-solved.result.now c.solved_of-solved.ensures in
@@ -28,11 +30,13 @@ loop-n-preserved c =
     (own.lattice_is ∙ c.new-number.ensures)
     (c.first_exceeded-found.ensures.first c.requires.owned) (c.first_exceeded-found.ensures.kept c.requires.owned))
 
+-- what is found behind the last lattice is the first exceeded bound of all
 pub returns-clause-over : goal.returns-clause-over
 returns-clause-over c =
     let past = c.loop-n-test.false in let count = c.len-n-end.ensures.count in
     first_of_all c.args.scene.now c.args.graph.now c.args.solutions.now c.loop-n.n c.loop-n.first (omega arith) c.loop-n.invariant
 
+-- where none is found behind the last lattice, all solutions are kept
 pub returns-clause-kept : goal.returns-clause-kept
 returns-clause-kept c =
     let past = c.loop-n-test.false in let count = c.len-n-end.ensures.count in

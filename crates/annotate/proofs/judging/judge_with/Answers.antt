@@ -4,6 +4,7 @@ use Rattle.annotate.specs.Solutions.{AreKept}
 use Rattle.annotate.specs.Reports.{RejectedWith}
 use Rattle.annotate.proofs.judging.judge_with.Goals as goal
 
+-- where no bound is exceeded, all solutions are kept, as `accepted` requires
 pub accepted-requires-clause-kept : goal.accepted-requires-clause-kept
 accepted-requires-clause-kept c =
     let Kept : List Solved → Type 0 = λ solutions. AreKept c.args.graph.now c.args.scene.now.lattices.now solutions in

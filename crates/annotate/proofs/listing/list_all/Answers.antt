@@ -5,12 +5,14 @@ use Rattle.annotate.specs.Reports.{Listings, NoVar}
 use Rattle.annotate.proofs.ReportLemmas.{next_listed}
 use Rattle.annotate.proofs.listing.list_all.Goals as goal
 
+-- before the first variable nothing is listed
 pub loop-var-init : goal.loop-var-init
 loop-var-init c =
     let Of : List Listing → Type 0 = λ list. Listings c.args.scene.now.lattices.now c.args.graph.now
     (take 0 c.args.scene.now.listed.now) list in
     subst Of (sym c.new-list.ensures.items) NoVar
 
+-- what is listed of one variable more comes behind that of those so far
 pub loop-var-preserved : goal.loop-var-preserved
 loop-var-preserved c =
     let lattices = c.args.scene.now.lattices.now in
@@ -21,6 +23,7 @@ loop-var-preserved c =
     c.in_ok-list_var.ensures.here (omega arith) (sym c.var-item.is) c.loop-var.invariant
     c.in_ok-list_var.ensures.is)
 
+-- behind the last variable what is listed is that of all
 pub returns : goal.returns
 returns c =
     let Of : List _ → Type 0 = λ vars. Listings c.args.scene.now.lattices.now c.args.graph.now vars c.loop-var.list.items in

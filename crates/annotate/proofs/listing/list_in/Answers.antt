@@ -4,6 +4,7 @@ use Rattle.annotate.proofs.LatticeLemmas.{order_there}
 use Rattle.annotate.proofs.ReportLemmas.{adds_none, not_listed, one_listed}
 use Rattle.annotate.proofs.listing.list_in.Goals as goal
 
+-- a variable whose least element is the bottom is not listed in the lattice
 pub returns-then-eq : goal.returns-then-eq
 returns-then-eq c =
     let lattices = c.args.scene.now.lattices.now in
@@ -14,6 +15,7 @@ returns-then-eq c =
     c.requires.lattice (c.requires.kept view c.get-lattice.ensures) c.law.ensures.lattice
     (c.bottom.ensures.element, c.bottom.ensures.least) c.value-elem.ensures (grind arith))
 
+-- a variable whose least element is another than the bottom is listed with it
 pub returns : goal.returns
 returns c =
     let lattices = c.args.scene.now.lattices.now in

@@ -7,6 +7,7 @@ use Rattle.annotate.proofs.listing.list_var.Goals as goal
 pub loop-n-init : goal.loop-n-init
 loop-n-init c = adds_none c.args.list.now.items (VarListings c.args.scene.now.lattices.now c.args.graph.now c.args.var 0) NoLattice
 
+-- what is listed of one lattice more comes behind that of those so far
 pub loop-n-preserved : goal.loop-n-preserved
 loop-n-preserved c =
     let lattices = c.args.scene.now.lattices.now in

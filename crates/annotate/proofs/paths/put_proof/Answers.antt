@@ -6,6 +6,7 @@ use Rattle.annotate.specs.Texts.{line, subs_text, steps_text}
 use Rattle.annotate.proofs.Writing.{on_ok, fixed, then_both, same_text}
 use Rattle.annotate.proofs.paths.put_proof.Goals as goal
 
+-- the lines of a path proof are those of its sub-paths and of its main path
 pub returns : goal.returns
 returns c =
     let proof = c.args.proof.now in

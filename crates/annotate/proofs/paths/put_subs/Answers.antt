@@ -9,6 +9,7 @@ use Rattle.annotate.proofs.paths.put_subs.Goals as goal
 pub loop-n-init : goal.loop-n-init
 loop-n-init c = nothing c.args.scene.now c.args.out.now.items (λ s. subs_text s c.args.graph.now 1 (steps_of (take 0 c.args.subs.now))) (λ s shows. refl)
 
+-- the heading and the steps of one sub-path more come behind those so far
 pub loop-n-preserved : goal.loop-n-preserved
 loop-n-preserved c =
     record {
@@ -18,6 +19,7 @@ loop-n-preserved c =
           _ _ refl c.deref.ensures.value (c.loop-n.invariant.is s shows) c.in_ok-put_heading.ensures (c.in_ok-put_steps.ensures.is s shows);
     }
 
+-- behind the last sub-path the lines are those of all, counted from 1
 pub returns : goal.returns
 returns c =
     same_text (λ s. subs_text s c.args.graph.now 1 (steps_of c.args.subs.now)) c.loop-n.invariant

@@ -7,6 +7,7 @@ use Rattle.annotate.proofs.Writing.{on_ok, fixed, then_both, same_text}
 use Rattle.annotate.proofs.SubsLemmas.{walk_lines}
 use Rattle.annotate.proofs.paths.put_walk.Goals as goal
 
+-- the lines of a walk are those of its sub-paths, of what it goes on from, of its steps and of what it leads to
 pub returns : goal.returns
 returns c =
     let walk = c.args.walk.now in

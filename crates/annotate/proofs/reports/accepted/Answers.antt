@@ -9,6 +9,7 @@ use Rattle.annotate.proofs.LatticeLemmas.{accepted_all, at_once_all}
 use Rattle.annotate.proofs.ReportLemmas.{accepted_with}
 use Rattle.annotate.proofs.reports.accepted.Goals as goal
 
+-- what is listed, and the annotated source behind it, are the text of the accepted program
 pub returns : goal.returns
 returns c =
     λ s shows.

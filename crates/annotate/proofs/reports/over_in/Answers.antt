@@ -8,12 +8,14 @@ pub exceeded-requires-clause-solved : goal.exceeded-requires-clause-solved
 exceeded-requires-clause-solved c =
     (c.requires.solutions.each c.in-Some.lattice c.solved_of-solved.result.now c.solved_of-solved.ensures).solved
 
+-- the constraints name elements of the lattice of a bound, as `exceeded` requires
 pub exceeded-requires-clause-named : goal.exceeded-requires-clause-named
 exceeded-requires-clause-named c =
     let own = c.requires.solutions.each c.in-Some.lattice c.solved_of-solved.result.now c.solved_of-solved.ensures in
     let In : ℕ → Type 0 = λ l. NamesElementsIn c.args.graph.now l c.get-named.result.now.order in
     subst In (sym own.lattice_is) (c.requires.named c.in-Some.lattice c.get-named.result.now c.get-named.ensures)
 
+-- a bound that its lattice finds exceeded is over in the solution of that lattice
 pub returns-in-Some-exceeded-clause-found : goal.returns-in-Some-exceeded-clause-found
 returns-in-Some-exceeded-clause-found c =
     let own = c.requires.solutions.each c.in-Some.lattice c.solved_of-solved.result.now c.solved_of-solved.ensures in
@@ -28,6 +30,7 @@ returns-in-Some-exceeded-clause-found c =
       exceeds = c.in-Some-exceeded.ensures.element;
     }
 
+-- a bound that its lattice finds exceeded is over in the scene
 pub returns-in-Some-exceeded-clause-over : goal.returns-in-Some-exceeded-clause-over
 returns-in-Some-exceeded-clause-over c =
     let own = c.requires.solutions.each c.in-Some.lattice c.solved_of-solved.result.now c.solved_of-solved.ensures in
@@ -42,6 +45,7 @@ returns-in-Some-exceeded-clause-over c =
       exceeded = subst In own.lattice_is ((c.in-Some-exceeded.ensures.exceeded c.requires.owned).0 refl);
     }
 
+-- a bound that its lattice does not find exceeded is over in no lattice
 pub returns-in-None-clause-none : goal.returns-in-None-clause-none
 returns-in-None-clause-none c =
     let own = c.requires.solutions.each c.in-Some.lattice c.solved_of-solved.result.now c.solved_of-solved.ensures in

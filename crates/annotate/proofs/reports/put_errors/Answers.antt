@@ -4,6 +4,7 @@ use Rattle.annotate.proofs.Firsts.{no_errors}
 use Rattle.annotate.proofs.Writing.{none_of, then_some}
 use Rattle.annotate.proofs.reports.put_errors.Goals as goal
 
+-- below the first exceeded bound no constraint gives an error, and no search is kept
 pub loop-n-init : goal.loop-n-init
 loop-n-init c = record {
   kept = c.new-reaches.ensures c.args.graph.now;
@@ -13,6 +14,7 @@ loop-n-init c = record {
       (λ n lt. c.requires.first.before s shows n (let is = c.number-n.ensures in omega arith)));
 }
 
+-- what is written of one constraint more comes behind the errors of those so far
 pub loop-n-preserved : goal.loop-n-preserved
 loop-n-preserved c = record {
   kept = c.in_ok-put_error_of.ensures.kept;

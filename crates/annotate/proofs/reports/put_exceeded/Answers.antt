@@ -14,27 +14,32 @@ use Rattle.annotate.proofs.reports.put_exceeded.Goals as goal
 pub show-requires-clause-lattice : goal.show-requires-clause-lattice
 show-requires-clause-lattice c = let e = c.requires.exceeds in slice_get_within c.args.scene.now.lattices.now c.args.solved.now.solver.lattice e.view e.there
 
+-- the constraints name elements of the bound's lattice, as `show` requires
 pub show-requires-clause-named : goal.show-requires-clause-named
 show-requires-clause-named c =
     let e = c.requires.exceeds in
     in_lattice c.args.scene.now.lattices.now c.args.solved.now.solver.lattice e.view e.there (NamesElementsIn c.args.graph.now c.args.solved.now.solver.lattice) e.named
 
+-- the bound is exceeded in the order of its lattice, as `show` requires
 pub show-requires-clause-exceeded : goal.show-requires-clause-exceeded
 show-requires-clause-exceeded c =
     let e = c.requires.exceeds in
     in_lattice c.args.scene.now.lattices.now c.args.solved.now.solver.lattice e.view e.there (λ order. IsExceededBySome c.args.graph.now c.args.solved.now.solver order c.args.bound) (e.elem, e.exceeds)
 
+-- the path of the proof begins with a constraint, as `first_edge` requires
 pub first_edge-requires : goal.first_edge-requires
 first_edge-requires c =
     let b = c.in_ok-proof.ensures.begins c.requires.exceeds.view c.requires.exceeds.there in
     (b.number, 0, ap first_of c.deref.ensures.value ∙ b.first)
 
+-- the constraint with which the path begins is one of the graph
 pub constraint-start-requires : goal.constraint-start-requires
 constraint-start-requires c =
     let b = c.in_ok-proof.ensures.begins c.requires.exceeds.view c.requires.exceeds.there in
     let edge = c.first_edge.ensures b.number 0 (ap first_of c.deref.ensures.value ∙ b.first) in
     edge_within c.args.graph.now c.args.solved.now.solver c.requires.exceeds.view.order c.args.bound c.in_ok-proof.proof b c.first_edge.result edge
 
+-- the constraint with which the path begins is a constant, as `elem_of` requires
 pub elem_of-elem-requires : goal.elem_of-elem-requires
 elem_of-elem-requires c =
     let b = c.in_ok-proof.ensures.begins c.requires.exceeds.view c.requires.exceeds.there in
@@ -45,6 +50,7 @@ elem_of-elem-requires c =
       start_link c.args.graph.now c.args.solved.now.solver c.requires.exceeds.view.order c.args.bound c.in_ok-proof.proof b c.first_edge.result edge c.constraint-start.result c.constraint-start.ensures.there,
     )
 
+-- the constraint is a bound of the lattice, and so has a limit
 pub unwrap-limit-requires : goal.unwrap-limit-requires
 unwrap-limit-requires c =
     let e = c.requires.exceeds in
@@ -52,6 +58,7 @@ unwrap-limit-requires c =
     let At : ℕ → Type 0 = λ lattice. c.constraint-constraint.result.link ≡ Bound e.exceeds.var lattice e.exceeds.limit in
     bound_found c.constraint-constraint.result.link c.lattice-lattice.result e.exceeds.var e.exceeds.limit _ c.bound_in.result (subst At (sym c.lattice-lattice.ensures) link) c.bound_in.ensures
 
+-- the line of the element that exceeds the bound and the path from its constant are the error
 pub returns-clause-error : goal.returns-clause-error
 returns-clause-error c =
     let e = c.requires.exceeds in

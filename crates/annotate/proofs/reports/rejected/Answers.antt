@@ -3,6 +3,7 @@ use Rattle.annotate.specs.Texts.{line}
 use Rattle.annotate.proofs.ReportLemmas.{rejected_report}
 use Rattle.annotate.proofs.reports.rejected.Goals as goal
 
+-- the line `rejected` and the errors are the report of a program with an exceeded bound
 pub returns : goal.returns
 returns c =
     λ s shows.

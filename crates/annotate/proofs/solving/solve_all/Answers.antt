@@ -3,6 +3,7 @@ use Rattle.annotate.specs.Solutions.{IsSolution}
 use Rattle.annotate.proofs.SolutionLemmas.{next_first}
 use Rattle.annotate.proofs.solving.solve_all.Goals as goal
 
+-- what is found of one lattice more comes behind what is found of those so far
 pub loop-n-preserved : goal.loop-n-preserved
 loop-n-preserved c =
     let Own : ℕ → Type 0 = λ l. IsSolution c.args.graph.now l c.in_ok-solve.field-0 in

@@ -2,6 +2,7 @@ use Rattle.std.proofs.Common.{codes}
 use Rattle.annotate.proofs.Writing.{fixed, then_both}
 use Rattle.annotate.proofs.texts.put_bound.Goals as goal
 
+-- the text of a bound is the variable, the word and the name of the element
 pub returns : goal.returns
 returns c =
     let lent = c.args.scene.now in

@@ -6,6 +6,7 @@ use Rattle.annotate.proofs.Writing.{on_ok, fixed, nothing, same_text}
 use Rattle.annotate.proofs.SceneLemmas.{unit_is}
 use Rattle.annotate.proofs.texts.put_bytes.Goals as goal
 
+-- the bytes of a token are those of the unit of its number
 pub returns-in-Some : goal.returns-in-Some
 returns-in-Some c =
     let lent = c.args.scene.now in
@@ -14,6 +15,7 @@ returns-in-Some c =
     (fixed lent c.args.out.now.items c.put.new.out.items (bytes_in (Some (unit_of c.in-Some.found)) c.args.token) (put ∙ ap (λ (t : List ℕ). c.args.out.now.items ++ t) c.bytes_of.ensures))
     (λ s shows. ap (λ (u : Option UnitText). bytes_in u c.args.token) (unit_is lent s shows c.args.unit c.unit_at.result (Some c.in-Some.found) c.in-Some.is (c.unit_at.ensures shows.apart))))
 
+-- a token of a unit that is not there has no bytes
 pub returns-in-None : goal.returns-in-None
 returns-in-None c =
     let lent = c.args.scene.now in

@@ -2,6 +2,7 @@ use Rattle.std.proofs.Common.{codes}
 use Rattle.annotate.proofs.Writing.{on_ok, fixed, then_both}
 use Rattle.annotate.proofs.texts.put_const.Goals as goal
 
+-- the text of a constant is the word, the name of the element and the variable
 pub returns : goal.returns
 returns c =
     let lent = c.args.scene.now in

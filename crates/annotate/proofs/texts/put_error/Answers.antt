@@ -2,6 +2,7 @@ use Rattle.std.proofs.Common.{[], ◌∷◌, codes}
 use Rattle.annotate.proofs.Writing.{fixed, then_both}
 use Rattle.annotate.proofs.texts.put_error.Goals as goal
 
+-- the line of an error is the element that exceeds, the limit and the place of the bound
 pub returns : goal.returns
 returns c =
     let lent = c.args.scene.now in

@@ -2,6 +2,7 @@ use Rattle.std.proofs.Common.{codes}
 use Rattle.annotate.proofs.Writing.{on_ok, fixed, then_both}
 use Rattle.annotate.proofs.texts.put_flow.Goals as goal
 
+-- the text of a flow is its word and the two variables
 pub returns : goal.returns
 returns c =
     let lent = c.args.scene.now in

@@ -2,6 +2,7 @@ use Rattle.std.proofs.Common.{codes}
 use Rattle.annotate.proofs.Writing.{on_ok, fixed, then_both}
 use Rattle.annotate.proofs.texts.put_name.Goals as goal
 
+-- the text of a name is its bytes and its place
 pub returns : goal.returns
 returns c =
     on_ok c.put_place.result c.put_place.ensures (λ put.

@@ -3,6 +3,7 @@ use Rattle.std.specs.Fmt.{decimal}
 use Rattle.annotate.proofs.Writing.{fixed, then_both}
 use Rattle.annotate.proofs.texts.put_number.Goals as goal
 
+-- the number of a constraint is written in decimals, with its place behind it
 pub returns : goal.returns
 returns c =
     let lent = c.args.scene.now in

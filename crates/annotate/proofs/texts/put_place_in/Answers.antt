@@ -5,6 +5,7 @@ use Rattle.annotate.proofs.Writing.{on_ok}
 use Rattle.annotate.proofs.SceneLemmas.{place_there}
 use Rattle.annotate.proofs.texts.put_place_in.Goals as goal
 
+-- the place of a token in its unit is the name of the file, the line and the column
 pub returns : goal.returns
 returns c =
     let unit = c.args.unit.now in

@@ -2,6 +2,7 @@ use Rattle.std.proofs.Common.{[], ◌∷◌, codes}
 use Rattle.annotate.proofs.Writing.{fixed, then_both}
 use Rattle.annotate.proofs.texts.put_value.Goals as goal
 
+-- the line of a value is the variable and the name of its element
 pub returns : goal.returns
 returns c =
     let lent = c.args.scene.now in

@@ -6,11 +6,13 @@ use Rattle.annotate.proofs.Writing.{fixed, nothing, then_both, same_text}
 use Rattle.annotate.proofs.SceneLemmas.{no_var, var_is}
 use Rattle.annotate.proofs.texts.put_var.Goals as goal
 
+-- a variable past the table has no text
 pub returns-then-number-count : goal.returns-then-number-count
 returns-then-number-count c =
     let lent = c.args.scene.now in
     nothing lent c.args.out.now.items (λ s. var_text s c.args.var) (λ s shows. no_var lent s shows c.args.var (omega arith))
 
+-- the text of a variable is the name where it stands, and the steps to it
 pub returns : goal.returns
 returns c =
     let lent = c.args.scene.now in

@@ -13,6 +13,7 @@ use Rattle.bounds_below.proofs.Links.{low_of, one_link}
 use Rattle.bounds_below.proofs.Reaching.{reach_here}
 use Rattle.bounds_below.proofs.flows.begin.Goals as goal
 
+-- the variable of a bound has a set
 pub gain-requires : goal.gain-requires
 gain-requires c =
     let link : Link = Bound c.in-Bound.at c.in-Bound.named c.in-Bound.elem in
@@ -20,6 +21,7 @@ gain-requires c =
     low_of c.args.flows.now.graph.now c.args.flows.now.lattice c.args.edge c.constraint-link.result link c.constraint-link.ensures.there c.in-Bound.is _ c.requires.below in
     omega arith
 
+-- a variable leads to its own bound, so its set stays sound with the bound's element
 pub returns-then-eq-clause-sound : goal.returns-then-eq-clause-sound
 returns-then-eq-clause-sound c =
     let sys = c.args.flows.now.graph.now in
@@ -32,6 +34,7 @@ returns-then-eq-clause-sound c =
     subst (λ (d : ℕ). Reaches sys lattice c.in-Bound.at d) (sym (only_in c.in-Bound.elem b (subst (λ (set : ℕ). bit_at set b ≡ 1) c.only.ensures has)))
     (reach_here sys lattice c.args.edge c.in-Bound.at c.in-Bound.elem st)) all) c.gain.ensures.sound
 
+-- the element of a bound of the lattice is in the set of its variable afterwards
 pub returns-then-eq-clause-begun : goal.returns-then-eq-clause-begun
 returns-then-eq-clause-begun c =
     let sys = c.args.flows.now.graph.now in

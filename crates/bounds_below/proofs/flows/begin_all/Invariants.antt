@@ -4,6 +4,7 @@ use Rattle.flow_graph.specs.System.{Stands}
 use Rattle.bounds_below.specs.Carrying.{AreSound, Gains, Has}
 use Rattle.bounds_below.proofs.flows.begin_all.Given as goal
 
+-- the sets gain, stay sound, and have the bounds before this constraint
 abbrev pub invariant-loop-n : goal.invariant-loop-n
 invariant-loop-n l = record {
   gains : Gains l.fn.work l.work;

@@ -14,11 +14,13 @@ loop-edge-init c = record { gains = gains_same _; sound = λ lead all. all; carr
 pub follow-requires-clause-ready : goal.follow-requires-clause-ready
 follow-requires-clause-ready c = system_same c.args.flows.now _ _ c.loop-edge.invariant.gains.size c.requires
 
+-- each constraint of the row leads to the variable
 pub follow-requires-clause-leads : goal.follow-requires-clause-leads
 follow-requires-clause-leads c =
     (c.requires.indexed.into c.args.at).only c.edge-item.result
     (subst (λ (row : List ℕ). Contains row c.edge-item.result) c.into-edge-items.ensures (c.loop-edge.edge-index, c.loop-edge-test.true, sym c.edge-item.is))
 
+-- following one more constraint back keeps those before it carried
 pub loop-edge-preserved : goal.loop-edge-preserved
 loop-edge-preserved c =
     let sys = c.args.flows.now.graph.now in
@@ -44,6 +46,7 @@ loop-edge-preserved c =
 pub returns-clause-sound : goal.returns-clause-sound
 returns-clause-sound c = λ all. c.loop-edge.invariant.sound (λ b has. all c.args.at b (subst (λ (set : ℕ). bit_at set b ≡ 1) c.set-had.ensures has)) all
 
+-- each constraint is carried: it is one of the row, or it does not lead to the variable
 pub returns-clause-carried : goal.returns-clause-carried
 returns-clause-carried c = λ n.
     let sys = c.args.flows.now.graph.now in

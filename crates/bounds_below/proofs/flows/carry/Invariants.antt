@@ -2,6 +2,7 @@ use Rattle.std.proofs.Common.{ℕ, ◌<◌, get_or}
 use Rattle.bounds_below.specs.Carrying.{AllReach, AreSound, Gains, IsCarried}
 use Rattle.bounds_below.proofs.flows.carry.Given as goal
 
+-- the sets gain and stay sound, and the constraints of the row before this one were carried
 abbrev pub invariant-loop-edge : goal.invariant-loop-edge
 invariant-loop-edge l = record {
   gains : Gains l.fn.work l.work;

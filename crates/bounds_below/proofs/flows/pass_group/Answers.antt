@@ -13,6 +13,7 @@ use Rattle.bounds_below.proofs.flows.pass_group.Goals as goal
 some_number : {x y : ℕ} → Some x ≡ Some y → x ≡ y
 some_number e = cc
 
+-- the variable where the `Enter` of a group begins has a set
 pub gain-requires : goal.gain-requires
 gain-requires c =
     let link : Link = Enter c.in-Enter.field-0 c.in-Enter.from c.in-Enter.to in
@@ -20,6 +21,7 @@ gain-requires c =
     low_of c.args.flows.now.graph.now c.args.flows.now.lattice c.args.other c.constraint-constraint.result link c.constraint-constraint.ensures.there c.in-Enter.is _ c.requires.ready.below in
     omega arith
 
+-- where a group begins leads to all bounds that its end leads to
 pub returns-then-joins-clause-sound : goal.returns-then-joins-clause-sound
 returns-then-joins-clause-sound c =
     let sys = c.args.flows.now.graph.now in
@@ -35,6 +37,7 @@ returns-then-joins-clause-sound c =
     (λ step lead all. step sys lattice (λ b has.
     reach_group sys lattice c.args.other c.args.edge back.site path.0 c.in-Enter.from c.in-Enter.to back.from back.to b enter path.1 c.requires.back (lead b has)) all) c.gain.ensures.sound
 
+-- a group inside which nothing and no summary leads to the `Leave` has nothing to bring back
 pub returns-else-joins-clause-passed : goal.returns-else-joins-clause-passed
 returns-else-joins-clause-passed c = λ u a st leads one.
     let sys = c.args.flows.now.graph.now in

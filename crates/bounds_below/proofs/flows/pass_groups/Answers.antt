@@ -13,6 +13,7 @@ loop-other-init c = record { gains = gains_same _; sound = λ lead all. all; pas
 pub pass_group-requires-clause-ready : goal.pass_group-requires-clause-ready
 pass_group-requires-clause-ready c = system_same c.args.flows.now _ _ c.loop-other.invariant.gains.size c.requires.ready
 
+-- one more constraint of the site keeps the groups of those before it passed
 pub loop-other-preserved : goal.loop-other-preserved
 loop-other-preserved c =
     let sys = c.args.flows.now.graph.now in
@@ -35,6 +36,7 @@ loop-other-preserved c =
       ];
     }
 
+-- each group that ends with the `Leave` is passed: its `Enter` is one of the constraints of the site
 pub returns-clause-passed : goal.returns-clause-passed
 returns-clause-passed c = λ m.
     let sys = c.args.flows.now.graph.now in

@@ -2,6 +2,7 @@ use Rattle.std.proofs.Common.{ℕ, ◌<◌, get_or}
 use Rattle.bounds_below.specs.Carrying.{AllReach, AreSound, Gains, IsPassed}
 use Rattle.bounds_below.proofs.flows.pass_groups.Given as goal
 
+-- the sets gain and stay sound, and the groups of the constraints of the site before this one were passed
 abbrev pub invariant-loop-other : goal.invariant-loop-other
 invariant-loop-other l = record {
   gains : Gains l.fn.work l.work;

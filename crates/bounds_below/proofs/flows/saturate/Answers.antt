@@ -8,6 +8,7 @@ use Rattle.bounds_below.proofs.Carried.{agreed_below, empty_agrees, turn_agrees}
 use Rattle.bounds_below.proofs.Gaining.{system_same, taken_less}
 use Rattle.bounds_below.proofs.flows.saturate.Goals as goal
 
+-- at first each variable waits or has an empty set, with which all constraints agree
 pub loop-at-init : goal.loop-at-init
 loop-at-init c =
     let start = c.in_ok-begin_all.ensures in
@@ -25,12 +26,14 @@ loop-at-init c =
 pub carry-requires : goal.carry-requires
 carry-requires c = system_same c.args.flows.now _ _ (ap length c.take.ensures.sets ∙ c.loop-at.invariant.size) c.requires.ready
 
+-- taking a variable and carrying what it has makes the room and those that wait fewer together
 pub loop-at-smaller : goal.loop-at-smaller
 loop-at-smaller c =
     let taken = taken_less c.loop-at.work c.take.new.self c.in-Some.at c.in-Some.ensures.taken c.take.ensures.sets in
     let less : left_in c.carry.new.work < left_in c.loop-at.work = omega (arith, taken, c.in_ok-carry.ensures.gains.left) in
     less
 
+-- carrying back what a variable has makes the constraints agree there, or it waits again
 pub loop-at-preserved : goal.loop-at-preserved
 loop-at-preserved c =
     let sys = c.args.flows.now.graph.now in
@@ -46,6 +49,7 @@ loop-at-preserved c =
           so_far.settled;
     }
 
+-- when no variable waits, the sets have just the bounds that each variable leads to
 pub returns : goal.returns
 returns c =
     let sys = c.args.flows.now.graph.now in

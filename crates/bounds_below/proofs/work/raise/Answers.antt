@@ -3,6 +3,7 @@ use Rattle.std.proofs.lemmas.List.{get_or_read}
 use Rattle.bounds_below.proofs.Rooms.{room-set}
 use Rattle.bounds_below.proofs.work.raise.Goals as goal
 
+-- a union that is another than the set leaves less room
 pub returns-clause-grown : goal.returns-clause-grown
 returns-clause-grown c =
     let items = c.args.sets.now.items in

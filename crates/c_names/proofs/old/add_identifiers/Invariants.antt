@@ -6,6 +6,7 @@ use Rattle.name_state.specs.UnitNames.Shown.{names_of}
 use Rattle.c_names.specs.Shown.{old_of}
 use Rattle.c_names.proofs.old.add_identifiers.Given as goal
 
+-- names and types so far, with what the identifiers left add, are as with what all of them add at first
 abbrev pub invariant-loop-it : goal.invariant-loop-it
 invariant-loop-it l = record {
   names : (t : ℕ → CType)

@@ -9,6 +9,7 @@ use Rattle.c_names.specs.Identifiers.{number_in}
 use Rattle.c_names.proofs.Olds.{known_is, new_is}
 use Rattle.c_names.proofs.old.add_old.Goals as goal
 
+-- a second identifier of a name is at fault, and is not added
 pub returns-in-Some : goal.returns-in-Some
 returns-in-Some c =
     let u = spelling_of c.args.spelling.now in
@@ -18,6 +19,7 @@ returns-in-Some c =
     (sym c.in-Some.is ∙ c.number.ensures ∙ ap (λ k. number_in k ids) c.key-key.ensures)
     (done t ∙ ap (λ at. with_faults (fault_where true at defined_twice) (names_of t c.args.names.now)) c.place.ensures)) c.blame.ensures
 
+-- an identifier of a new name is added behind the others
 pub returns-in-None : goal.returns-in-None
 returns-in-None c =
     let u = spelling_of c.args.spelling.now in

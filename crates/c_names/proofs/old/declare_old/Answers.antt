@@ -11,6 +11,7 @@ use Rattle.c_names.specs.Identifiers.{number_in, is_typed_in}
 use Rattle.c_names.proofs.Olds.{declared_is, undeclared_is}
 use Rattle.c_names.proofs.old.declare_old.Goals as goal
 
+-- a name that is an identifier of the list gets its type, with a fault where it has one, and is declared
 pub returns-in_ok-blame-in-Some : goal.returns-in_ok-blame-in-Some
 returns-in_ok-blame-in-Some c =
     let u = spelling_of c.args.spelling.now in
@@ -27,6 +28,7 @@ returns-in_ok-blame-in-Some c =
     ∙ ap (λ (at : Place). with_faults (fault_where (is_typed_in (slice_get ids c.in-Some.number)) at defined_twice) (names_of t c.args.names.now)) c.place-at.ensures)))
     c.declare_parameter.ensures
 
+-- a name that is no identifier of the list is at fault as undeclared
 pub returns-in-None : goal.returns-in-None
 returns-in-None c =
     let u = spelling_of c.args.spelling.now in

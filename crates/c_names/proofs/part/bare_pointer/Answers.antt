@@ -3,6 +3,7 @@ use Rattle.type_table.specs.Types.{pointer}
 use Rattle.type_table.specs.Rows.{type_of}
 use Rattle.c_names.proofs.part.bare_pointer.Goals as goal
 
+-- the type made is the bare type of a pointer to the given type
 pub returns-clause-made : goal.returns-clause-made
 returns-clause-made c =
     let rows = c.pointer.new.self in

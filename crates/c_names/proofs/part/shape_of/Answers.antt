@@ -6,6 +6,7 @@ use Rattle.unit_shapes.specs.Views.{names_in}
 use Rattle.c_names.proofs.Ending.{shapes_on}
 use Rattle.c_names.proofs.part.shape_of.Goals as goal
 
+-- the shapes along the ops left stay those along all ops, where a step is made over one op more
 pub loop-op-preserved : goal.loop-op-preserved
 loop-op-preserved c =
     let rows = c.args.types.now in

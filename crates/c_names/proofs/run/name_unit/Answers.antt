@@ -8,6 +8,7 @@ use Rattle.c_names.specs.Shown.{state_of, passed_by}
 use Rattle.c_names.proofs.Low.{knows_before}
 use Rattle.c_names.proofs.run.name_unit.Goals as goal
 
+-- the state before a unit's tape, with its file scope begun, is shown alike by all tables grown from this one
 pub run-requires-clause-shown : goal.run-requires-clause-shown
 run-requires-clause-shown c = record {
   shown = with_names (unit_begun c.args.spelling.now.unit c.requires.shown.shown);

@@ -10,6 +10,7 @@ use Rattle.c_names.proofs.run.resolve_names.Goals as goal
 pub name_unit-requires-clause-shown : goal.name_unit-requires-clause-shown
 name_unit-requires-clause-shown c = record { shown = no_names; alike = λ t knows. c.in_ok-names.ensures t }
 
+-- the names of a unit that is resolved alone are those along its tape from no names
 pub returns-clause-named : goal.returns-clause-named
 returns-clause-named c =
     λ t knows.

@@ -9,6 +9,7 @@ use Rattle.c_parser.proofs.Numbering.{numbered_from_zero}
 use Rattle.c_parser.proofs.TapeOfItems.{taped_unit, whole, fails_alike}
 use Rattle.c_parser.proofs.parsing.parse_tape.Goals as goal
 
+-- a tape that is made from the lexemes is that of the one well-formed unit of the tokens
 pub returns-in-Ok-unit_tape-clause-tape : goal.returns-in-Ok-unit_tape-clause-tape
 returns-in-Ok-unit_tape-clause-tape c =
     let same : c.as_slice.result.now ≡ lexemes_of c.args.tokens.now = c.as_slice.ensures.value ∙ c.in-Ok.ensures in
@@ -21,6 +22,7 @@ returns-in-Ok-unit_tape-clause-tape c =
       taped = found.2;
     }
 
+-- an error of `parse_tape` is that with which the reader refuses the tokens' lexemes
 pub refusal-requires : goal.refusal-requires
 refusal-requires c =
     let same : c.as_slice.result.now ≡ lexemes_of c.args.tokens.now = c.as_slice.ensures.value ∙ c.in-Ok.ensures in

@@ -13,6 +13,7 @@ not_read : (wide : Bool) (read : Read (List Item)) (items : List Item) (refusal 
     → read ≡ Ok (unit_found wide items) → ⊥
 not_read wide read items refusal refused found = cc
 
+-- a refusal other than for memory names the first bad token, with a code that is allowed there
 pub returns : goal.returns
 returns c =
     λ reason.

@@ -3,6 +3,7 @@ use Rattle.c_reading.specs.Reading.{run}
 use Rattle.c_parser.specs.Taping.{tape_turn}
 use Rattle.c_parser.proofs.taping.tapes.Given as goal
 
+-- what is read from here on, behind the ops of the items so far, is what the whole loop over items gives
 abbrev pub invariant-loop-ops : goal.invariant-loop-ops
 invariant-loop-ops g l =
     run (tape_turn l.depth l.room) l.ops.items l.place.scopes l.place.rest.now

@@ -5,6 +5,7 @@ use Rattle.name_rules.specs.NameSteps.Units.{Tape}
 use Rattle.c_types.specs.SourceSpelling.Tokens.{spelling_behind}
 use Rattle.c_types.proofs.tapes.unit_tape.Goals as goal
 
+-- the tape of a source is that which the rules give it behind the earlier units
 pub returns : goal.returns
 returns c =
     λ units are.

@@ -7,6 +7,7 @@ use Rattle.c_types.specs.declared.source.Source.{Source}
 use Rattle.c_types.proofs.Sources.{tapes_from, tapes_on}
 use Rattle.c_types.proofs.tapes.unit_tapes.Goals as goal
 
+-- at first there are no units before, and the tapes still to be made are all
 pub loop-number-init : goal.loop-number-init
 loop-number-init c =
     record {
@@ -15,6 +16,7 @@ loop-number-init c =
       rest = ap (λ (us : List UnitTape). tapes_of us ++ tapes_from [] c.args.sources.now) c.new-units.ensures.items;
     }
 
+-- one source more: its tape joins those made, and its names the earlier ones, unless it is the last
 pub loop-number-preserved : goal.loop-number-preserved
 loop-number-preserved c =
     let sources = c.args.sources.now in
@@ -36,6 +38,7 @@ loop-number-preserved c =
           ∙ was.rest;
     }
 
+-- once no source is left, the tapes made are those of all sources
 pub returns : goal.returns
 returns c =
     let sources = c.args.sources.now in

@@ -7,6 +7,7 @@ use Rattle.c_types.specs.Sources.{sources_of}
 use Rattle.c_types.proofs.Sources.{tapes_from}
 use Rattle.c_types.proofs.tapes.unit_tapes.Given as goal
 
+-- the tapes made, with those of the sources that are left behind the earlier units, are those of all sources
 abbrev pub invariant-loop-number : goal.invariant-loop-number
 invariant-loop-number l =
     record {

@@ -6,6 +6,7 @@ use Rattle.c_types.specs.Units.{all_but_last}
 use Rattle.c_types.proofs.Joined.{last_behind}
 use Rattle.c_types.proofs.units.name_last.Goals as goal
 
+-- where there is a last unit, the names of all units but the last become the names of all
 pub returns-in-Some : goal.returns-in-Some
 returns-in-Some c =
     on_ok_weaker c.push.result

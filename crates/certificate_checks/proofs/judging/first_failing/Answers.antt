@@ -7,6 +7,7 @@ use Rattle.flow_laws.proofs.Leads.{names_in_each}
 use Rattle.certificate_checks.proofs.Checked.{order_there, all_orders, as_many, part_of, next_first, all_obey, all_accepted}
 use Rattle.certificate_checks.proofs.judging.first_failing.Goals as goal
 
+-- there is a certificate for each lattice
 pub part_of-requires : goal.part_of-requires
 part_of-requires c =
     let all = all_orders c.args.lattices.now in
@@ -16,16 +17,19 @@ part_of-requires c =
     let before = c.loop-at-test.true in
     omega (arith, all, many, count, at, before)
 
+-- the graph names elements of this lattice alone, as it does of each
 pub check_part-requires-clause-named : goal.check_part-requires-clause-named
 check_part-requires-clause-named c =
     names_in_each c.args.graph.now (orders_of c.args.lattices.now) c.new-lattice.result c.get.result.now.order c.requires.named
     (order_there c.args.lattices.now c.new-lattice.result c.get.result.now c.get.ensures)
 
+-- the certificate of this lattice is a part of the graph, as each is that was read
 pub check_part-requires-clause-part : goal.check_part-requires-clause-part
 check_part-requires-clause-part c =
     part_of c.args.graph.now (orders_of c.args.lattices.now) c.args.parts.now c.new-lattice.result c.get.result.now.order c.part_of.result.now c.requires.parts
     (order_there c.args.lattices.now c.new-lattice.result c.get.result.now c.get.ensures) c.part_of.ensures
 
+-- a lattice that breaks a rule, behind such as obey them, is the first that fails
 pub returns-in-Err-clause-first : goal.returns-in-Err-clause-first
 returns-in-Err-clause-first c =
     let sys = c.args.graph.now in
@@ -44,6 +48,7 @@ returns-in-Err-clause-first c =
       before = λ m below. c.loop-at.invariant.obey m (let at = c.from.ensures in omega (arith, below, at));
     }
 
+-- a lattice whose certificate obeys the rules joins those before it
 pub loop-at-preserved : goal.loop-at-preserved
 loop-at-preserved c =
     let sys = c.args.graph.now in
@@ -59,6 +64,7 @@ loop-at-preserved c =
     (subst Of same c.part_of.ensures)
     (subst Own same (c.in_default.ensures.holds.0 refl)) (subst In same c.in_default.ensures.accepted) c.loop-at.invariant
 
+-- when no lattice is left, each certificate obeys the rules
 pub returns-clause-first : goal.returns-clause-first
 returns-clause-first c =
     let all = all_orders c.args.lattices.now in
@@ -67,6 +73,7 @@ returns-clause-first c =
     let most = c.loop-at.auto.at-end in
     all_obey c.args.graph.now (orders_of c.args.lattices.now) c.args.parts.now c.loop-at.at (omega (arith, all, count, past, most)) c.loop-at.invariant
 
+-- where no certificate breaks a rule, the program is accepted in all lattices
 pub returns-clause-accepted : goal.returns-clause-accepted
 returns-clause-accepted c = λ none.
     let all = all_orders c.args.lattices.now in

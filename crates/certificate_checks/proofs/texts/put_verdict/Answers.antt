@@ -3,6 +3,7 @@ use Rattle.certificate_checks.specs.declared.judging.Verdict.{Verdict}
 use Rattle.certificate_checks.specs.Texts.{bad_text, verdict_text}
 use Rattle.certificate_checks.proofs.texts.put_verdict.Goals as goal
 
+-- the text of an unread verdict names the line, counted from 1, and the code
 pub returns-in-Unread : goal.returns-in-Unread
 returns-in-Unread c =
     let put = c.put_bad-in-Unread in

@@ -8,16 +8,19 @@ use Rattle.flow_laws.proofs.Leads.{names_in_each}
 use Rattle.certificate_maker.proofs.FirstParts.{of_found, order_there, all_orders, next_first, accepted_of_all}
 use Rattle.certificate_maker.proofs.all.all_parts.Goals as goal
 
+-- the graph names elements of this lattice alone, as it does of each
 pub part_in-requires-clause-named : goal.part_in-requires-clause-named
 part_in-requires-clause-named c =
     names_in_each c.args.graph.now (orders_of c.args.lattices.now) c.new-at.result c.get.result.now.order c.requires.named
     (order_there c.args.lattices.now c.new-at.result c.get.result.now c.get.ensures)
 
+-- a program that is not accepted in one lattice is not accepted in all
 pub returns-in-None-clause-rejected : goal.returns-in-None-clause-rejected
 returns-in-None-clause-rejected c = λ none accepted.
     c.in_ok-part.ensures.rejected c.in-None.is
     (accepted c.new-at.result c.get.result.now.order (order_there c.args.lattices.now c.new-at.result c.get.result.now c.get.ensures))
 
+-- the certificate of one more lattice joins those of the lattices before it
 pub loop-n-preserved : goal.loop-n-preserved
 loop-n-preserved c =
     let sys = c.args.graph.now in
@@ -33,6 +36,7 @@ loop-n-preserved c =
     (subst In c.new-at.ensures (of_found (λ (part : Part). IsAcceptedIn sys c.new-at.result order) c.in_ok-part.field-0 c.in-Some.part c.in-Some.is c.in_ok-part.ensures.accepted))
     c.loop-n.invariant
 
+-- with a certificate for each lattice, the program is accepted in all of them
 pub returns-clause-accepted : goal.returns-clause-accepted
 returns-clause-accepted c =
     let all = all_orders c.args.lattices.now in

@@ -8,6 +8,7 @@ use Rattle.certificate_maker.proofs.Written.{pairs_below, pairs_say, sets_of, se
 use Rattle.certificate_maker.proofs.Solved.{first_exact, second_exact}
 use Rattle.certificate_maker.proofs.maker.certificate.Goals as goal
 
+-- the pairs are the joined ones, and the sets have just what leads to each variable
 pub returns-clause-written : goal.returns-clause-written
 returns-clause-written c =
     let sys = c.args.graph.now in
@@ -23,6 +24,7 @@ returns-clause-written c =
           (λ e v path. path) (second_exact sys lattice solution c.requires.lattice c.requires.solved);
     }
 
+-- the lists are a certificate of the graph: their pairs ascend and their sets are of the lattice
 pub returns-clause-part : goal.returns-clause-part
 returns-clause-part c = λ order named.
     let sys = c.args.graph.now in
@@ -42,6 +44,7 @@ returns-clause-part c = λ order named.
       below = subst (λ (n : ℕ). AreBelow n c.in_ok-pairs.pairs.items) same (pairs_below sys lattice vars below c.in_ok-pairs.pairs.items c.in_ok-pairs.ensures.joined);
     }
 
+-- of an accepted, well owned program the certificate obeys the rules
 pub returns-clause-holds : goal.returns-clause-holds
 returns-clause-holds c = λ order owned is_order accepted.
     c.accepted_is_certified.ensures c.args.graph.now c.args.lattice order

@@ -5,6 +5,7 @@ use Rattle.certificate_reader.proofs.Decimals.{digit_bounds}
 use Rattle.certificate_reader.proofs.FrontLemmas.{digit_more}
 use Rattle.certificate_reader.proofs.fronts.numeral.Goals as goal
 
+-- one more digit of the text is read behind the number so far, which stays within 64 bits
 pub loop-at-preserved : goal.loop-at-preserved
 loop-at-preserved c =
     let ds = c.args.text.now in

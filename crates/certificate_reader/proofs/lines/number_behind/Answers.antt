@@ -4,6 +4,7 @@ use Rattle.std.specs.Char.{is_ascii_digit}
 use Rattle.certificate_reader.proofs.Numerals.{capped, number_behind-capped, number_behind-digit}
 use Rattle.certificate_reader.proofs.lines.number_behind.Goals as goal
 
+-- one more digit is read behind the number so far, up to the greatest number of 128 bits
 pub loop-digit-preserved : goal.loop-digit-preserved
 loop-digit-preserved c =
     let ds = c.args.digits.now in

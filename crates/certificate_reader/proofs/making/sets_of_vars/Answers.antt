@@ -4,6 +4,7 @@ use Rattle.certificate_text.specs.declared.putting.SetLine.{SetLine}
 use Rattle.certificate_reader.proofs.PartLemmas.{fill_more, var_there}
 use Rattle.certificate_reader.proofs.making.sets_of_vars.Goals as goal
 
+-- one more set line fills the two sets of its variable
 pub loop-set-preserved : goal.loop-set-preserved
 loop-set-preserved c =
     let sys = c.args.graph.now in

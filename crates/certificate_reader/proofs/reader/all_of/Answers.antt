@@ -3,6 +3,7 @@ use Rattle.std.proofs.lemmas.Nat.Bits.{ones_shr}
 use Rattle.lattice_core.specs.Order.{size}
 use Rattle.certificate_reader.proofs.reader.all_of.Goals as goal
 
+-- the ones below the size of a lattice are the set of all its elements
 pub returns-clause-set : goal.returns-clause-set
 returns-clause-set c =
     let order = c.args.lattice.now.order in

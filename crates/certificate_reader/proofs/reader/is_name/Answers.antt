@@ -5,6 +5,7 @@ use Rattle.certificate_reader.specs.Grammar.{names_at}
 use Rattle.certificate_reader.proofs.Places.{get_none, not_below}
 use Rattle.certificate_reader.proofs.reader.is_name.Goals as goal
 
+-- an end past all constraints is the name of no variable
 pub returns-else-end-ends : goal.returns-else-end-ends
 returns-else-end-ends c =
     let sys = c.args.scene.now.graph.now in

@@ -12,11 +12,13 @@ read_lines-requires-clause-names c = subst (λ (t : List (Option ℕ)). AreNames
 pub read_lines-requires-clause-few : goal.read_lines-requires-clause-few
 read_lines-requires-clause-few c = few_alls c.args.lattices.now c.as_slice-2.result.now (c.as_slice-2.ensures.value ∙ c.in-Ok-all_sets.ensures.sets) c.all_sets.ensures.few
 
+-- what is read is the certificates of all lattices, whose text is that of the bytes
 pub returns-clause-reads : goal.returns-clause-reads
 returns-clause-reads c =
     let are : c.as_slice-2.result.now ≡ alls_of (orders_of c.args.lattices.now) = c.as_slice-2.ensures.value ∙ c.in-Ok-all_sets.ensures.sets in
     IfOk-weaker c.read_lines.result _ _ (λ parts is. reads_as c.args.graph.now (orders_of c.args.lattices.now) c.as_slice-2.result.now are c.args.bytes.now parts.items is) c.read_lines.ensures.reads
 
+-- where the answer is a fault but want of memory, the text reads as no certificates
 pub returns-clause-whole : goal.returns-clause-whole
 returns-clause-whole c =
     let are : c.as_slice-2.result.now ≡ alls_of (orders_of c.args.lattices.now) = c.as_slice-2.ensures.value ∙ c.in-Ok-all_sets.ensures.sets in
@@ -24,6 +26,7 @@ returns-clause-whole c =
     (bounded_of c.args.graph.now c.args.lattices.now c.law.ensures.few c.all_sets.ensures.few c.in-Ok-all_sets.ensures.small)
     (faults_placed c.args.graph.now (orders_of c.args.lattices.now) c.as_slice-2.result.now are c.args.bytes.now c.read_lines.result c.read_lines.ensures.fault)
 
+-- the fault that is answered is at the line where it should be
 pub returns-clause-fault : goal.returns-clause-fault
 returns-clause-fault c =
     let are : c.as_slice-2.result.now ≡ alls_of (orders_of c.args.lattices.now) = c.as_slice-2.ensures.value ∙ c.in-Ok-all_sets.ensures.sets in

@@ -4,6 +4,7 @@ use Rattle.certificate_reader.specs.Reader.{IsReadAs}
 use Rattle.certificate_reader.proofs.HeldLemmas.{takes_here, fails_here, reads_whole, none_left, both_ok}
 use Rattle.certificate_reader.proofs.reader.read_lines.Goals as goal
 
+-- a line that fails behind such as were taken is the first fault of the text
 pub returns-in_err-take_line-clause-fault : goal.returns-in_err-take_line-clause-fault
 returns-in_err-take_line-clause-fault c =
     let sys = c.args.scene.now.graph.now in
@@ -13,6 +14,7 @@ returns-in_err-take_line-clause-fault c =
     (fails_here sys alls c.law.ensures.few c.requires.few c.args.bytes.now c.lines.reader c.lines.number c.lines.rest.now c.in-Some.behind.now c.in-Some.line _ c.lines.invariant.stands c.in-Some.ensures
     c.in_err-take_line.ensures.err)
 
+-- a line that is taken leads to the state behind it, one line further
 pub lines-preserved : goal.lines-preserved
 lines-preserved c =
     let sys = c.args.scene.now.graph.now in
@@ -23,6 +25,7 @@ lines-preserved c =
       few = omega (arith, c.in-Some.ensures.shorter, c.lines.invariant.few);
     }
 
+-- where the last line was taken and all lattices have begun, the text is that of the certificates
 pub returns-clause-reads : goal.returns-clause-reads
 returns-clause-reads c =
     let sys = c.args.scene.now.graph.now in

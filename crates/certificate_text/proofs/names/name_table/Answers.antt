@@ -3,6 +3,7 @@ use Rattle.certificate_text.specs.Names.{ends_in, first_from}
 use Rattle.certificate_text.proofs.EndLemmas.{ends_length, drop_all, known_before, set_length}
 use Rattle.certificate_text.proofs.names.name_table.Goals as goal
 
+-- at first there is no end behind the last, so no variable has a name
 pub ends-init : goal.ends-init
 ends-init c =
     let all : drop c.ends-end.result (ends_in c.args.graph.now) ≡ [] = drop_all (ends_in c.args.graph.now) c.ends-end.result
@@ -13,6 +14,7 @@ ends-init c =
       known = λ v. c.in_ok-names.ensures.nameless v ∙ ap (λ xs. first_from c.ends-end.result xs v) (sym all);
     }
 
+-- naming the variable at one end before makes it the first end of that variable
 pub ends-preserved : goal.ends-preserved
 ends-preserved c =
     let table = c.ends.names.items in

@@ -4,6 +4,7 @@ use Rattle.std.proofs.lemmas.List.Sorted.{Contains-permutation, IsPermutation-sy
 use Rattle.certificate_text.proofs.Pairs.{pair_total, pair_equiv, pair_tied, pair_same}
 use Rattle.certificate_text.proofs.order.put_in_order.Goals as goal
 
+-- sorted pairs without repetition ascend, and are the ones that were there
 pub returns : goal.returns
 returns c =
     let is = dedup_is _ _ _ c.dedup.ensures.filtered in

@@ -5,6 +5,7 @@ use Rattle.certificate_text.proofs.Rising.{Among, among_contained, contained_amo
 use Rattle.certificate_text.proofs.Written.{written_is, names_pair, pair_names_has}
 use Rattle.certificate_text.proofs.text.put_named_pairs.Goals as goal
 
+-- the names of the pairs, put in order, have the text of the pairs in the order of names
 pub returns : goal.returns
 returns c =
     let sys = c.args.graph.now in

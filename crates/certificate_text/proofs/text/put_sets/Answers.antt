@@ -5,6 +5,7 @@ use Rattle.certificate_text.proofs.EndLemmas.{ends_length}
 use Rattle.certificate_text.proofs.Setting.{sets_from, sets_step, put_more, end_there, sets_none}
 use Rattle.certificate_text.proofs.text.put_sets.Goals as goal
 
+-- putting the sets at one end leaves those from the next end on to put
 pub ends-preserved : goal.ends-preserved
 ends-preserved c =
     let sys = c.args.graph.now in
@@ -15,6 +16,7 @@ ends-preserved c =
     (sets_from sys part (c.ends.end + 1)) (sets_from sys part c.ends.end) c.ends.invariant (sets_step sys part c.ends.end there.0 there.1)
     (c.in_ok-put_set_at.ensures there.0 there.1)
 
+-- when no end is left, the text has the set line of each named variable
 pub returns : goal.returns
 returns c =
     let sys = c.args.graph.now in

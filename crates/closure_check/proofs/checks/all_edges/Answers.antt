@@ -5,6 +5,7 @@ use Rattle.closure_check.specs.Checking.{AsksEdge}
 use Rattle.closure_check.proofs.Turns.{item_keyed, keyed, keyed_item, turn_more, turns_all}
 use Rattle.closure_check.proofs.checks.all_edges.Goals as goal
 
+-- each constraint of the row begins at the end of the pair
 pub is_edge_met-requires-clause-edge : goal.is_edge_met-requires-clause-edge
 is_edge_met-requires-clause-edge c =
     item_keyed c.args.given.now.graph.now link_begins c.args.to _ c.out-edge-items.result.now c.loop-edge.edge-index c.edge-item.result
@@ -13,11 +14,13 @@ is_edge_met-requires-clause-edge c =
 pub returns-then-not-is_edge_met : goal.returns-then-not-is_edge_met
 returns-then-not-is_edge_met c = (λ (no : false ≡ true). absurd cc, λ all. sym c.if-not-is_edge_met.true ∙ c.is_edge_met.ensures.1 (all c.edge-item.result))
 
+-- a constraint that is met joins those before it in the row
 pub loop-edge-preserved : goal.loop-edge-preserved
 loop-edge-preserved c =
     turn_more (λ (n : ℕ). AsksEdge c.args.given.now c.args.rule c.args.from c.args.to n) c.out-edge-items.result.now c.loop-edge.edge-index c.edge-item.result
     c.loop-edge-test.true c.edge-item.is c.loop-edge.invariant (c.is_edge_met.ensures.0 c.if-not-is_edge_met.false)
 
+-- a pair is met by each constraint: those of its row were asked, and no other begins at its end
 pub returns : goal.returns
 returns c = (
   λ yes n.

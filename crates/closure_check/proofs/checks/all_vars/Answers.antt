@@ -7,6 +7,7 @@ use Rattle.closure_check.proofs.checks.all_vars.Goals as goal
 pub loop-n-preserved : goal.loop-n-preserved
 loop-n-preserved c = below_more _ _ c.loop-n.invariant (subst (λ (v : ℕ). AsksVar c.args.given.now v) c.new.ensures (c.is_nested.ensures.0 c.if-not-is_nested.false))
 
+-- when no variable is left, A2 asks nothing more: past the last one the sets are empty
 pub returns : goal.returns
 returns c = (
   λ yes v. elim (cases_lt v c.loop-n.n) [

@@ -1,6 +1,7 @@
 use Rattle.closure_check.proofs.Asked.{asked_call, call_asked}
 use Rattle.closure_check.proofs.checks.is_edge_met.Goals as goal
 
+-- a pair behind which an `Enter` goes round is met by that `Enter` under A7
 pub returns-in-A7 : goal.returns-in-A7
 returns-in-A7 c = (
   λ yes.

@@ -6,6 +6,7 @@ use Rattle.flow_graph.specs.System.{Has}
 use Rattle.closure_check.specs.Index.{LiesIn, span_at}
 use Rattle.closure_check.proofs.index.returns_of.Goals as goal
 
+-- noting one more constraint keeps the returns before it in the spans of their sites
 pub loop-n-preserved : goal.loop-n-preserved
 loop-n-preserved c = record {
   size = c.note.ensures.size ∙ c.loop-n.invariant.size;
@@ -18,6 +19,7 @@ loop-n-preserved c = record {
   ];
 }
 
+-- when all constraints are noted, each return lies in the span of its site
 pub returns : goal.returns
 returns c = λ n s y v has.
     let inside = slice_get_within c.args.graph.now.constraints n has.constraint has.there in

@@ -4,6 +4,7 @@ use Rattle.flow_graph.specs.System.{Has}
 use Rattle.closure_check.specs.Index.{LiesIn, span_at}
 use Rattle.closure_check.proofs.index.returns_of.Given as goal
 
+-- there is a span for each site, and each return before this constraint lies in that of its site
 abbrev pub invariant-loop-n : goal.invariant-loop-n
 invariant-loop-n l = record {
   size : length l.spans.items ≡ length l.graph.sites;

@@ -9,6 +9,7 @@ returns-then-not-is_met_at c = (λ (no : false ≡ true). absurd cc, λ all. c.i
 pub loop-n-preserved : goal.loop-n-preserved
 loop-n-preserved c = below_more _ _ c.loop-n.invariant (let At : ℕ → Type 0 = λ k. AsksAt c.args.given.now c.args.rule k in subst At c.new.ensures (c.if-not-is_met_at.ensures.0 refl))
 
+-- all links are met just if the loop comes through all constraints
 pub returns : goal.returns
 returns c = (
   λ yes n link st. c.loop-n.invariant n (let inside = slice_get_within c.args.given.now.graph.now.constraints n st.constraint st.there in

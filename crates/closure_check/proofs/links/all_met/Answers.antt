@@ -11,6 +11,7 @@ pub loop-n-preserved : goal.loop-n-preserved
 loop-n-preserved c = below_more _ _ c.loop-n.invariant
     (let At : ℕ → Type 0 = λ k. (rule : CertRule) → AsksAt c.args.given.now rule k in subst At c.new.ensures (c.if-not-are_met_at.ensures refl))
 
+-- where the loop comes through, each link is met by every rule
 pub returns : goal.returns
 returns c = λ yes rule n link st. c.loop-n.invariant n
     (let inside = slice_get_within c.args.given.now.graph.now.constraints n st.constraint st.there in

@@ -7,6 +7,7 @@ use Rattle.closure_check.proofs.links.are_met_at.Goals as goal
 some_is : {x y : Constraint} → Some x ≡ Some y → x ≡ y
 some_is e = cc
 
+-- a constraint of the lattice is met by every rule where its link is
 pub returns : goal.returns
 returns c = λ yes rule link st.
     let same : c.constraint-constraint.result ≡ st.constraint = some_is (sym c.constraint-constraint.ensures.there ∙ st.there) in

@@ -4,6 +4,7 @@ use Rattle.closure_check.specs.Parts.{is_among, is_that}
 use Rattle.closure_check.proofs.Sorted.{among_place, found_is, is_that_one, not_before, place_among, same_test, that_is}
 use Rattle.closure_check.proofs.pairs.has_pair.Goals as goal
 
+-- where the place is past the last pair, all pairs come before the two variables, so theirs is not there
 pub returns-then-at-pairs : goal.returns-then-at-pairs
 returns-then-at-pairs c =
     let pairs = c.args.pairs.now in
@@ -13,6 +14,7 @@ returns-then-at-pairs c =
     let inside = slice_get_within pairs place.0 (c.args.from, c.args.to) place.1 in
     absurd (omega (arith, late, inside, c.if-at-pairs.true)))
 
+-- the pair of two variables is there just if it is at the first place that does not come before them
 pub returns : goal.returns
 returns c =
     let at : ℕ = c.place_of-at.result in

@@ -3,6 +3,7 @@ use Rattle.std.proofs.lemmas.Option.{slice_get-get_or}
 use Rattle.closure_check.proofs.Sorted.{below_on, behind_on, half_less}
 use Rattle.closure_check.proofs.pairs.place_of.Goals as goal
 
+-- where the middle pair comes before the two variables, so do all up to it
 pub loop-low-preserved-then-is_below : goal.loop-low-preserved-then-is_below
 loop-low-preserved-then-is_below c =
     let middle : ℕ = c.loop-low.low + (c.loop-low.high - c.loop-low.low) / 2 in
@@ -15,6 +16,7 @@ loop-low-preserved-then-is_below c =
       inv.3,
     )
 
+-- where the middle pair does not come before the two variables, neither does any behind it
 pub loop-low-preserved : goal.loop-low-preserved
 loop-low-preserved c =
     let middle : ℕ = c.loop-low.low + (c.loop-low.high - c.loop-low.low) / 2 in

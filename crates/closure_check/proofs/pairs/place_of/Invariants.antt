@@ -2,6 +2,7 @@ use Rattle.std.proofs.Common.{◌-◌, ◌≡◌, ◌<◌, ◌≤◌, ℕ, true,
 use Rattle.closure_check.specs.Parts.{is_below}
 use Rattle.closure_check.proofs.pairs.place_of.Given as goal
 
+-- pairs before the low place come before the two variables, and those from the high one on do not
 abbrev pub invariant-loop-low : goal.invariant-loop-low
 invariant-loop-low l = (l.low ≤ l.high) × (l.high ≤ length l.pairs)
     × ((k : ℕ) (p : ℕ × ℕ) → k < l.low → slice_get l.pairs k ≡ Some p → is_below p l.from l.to ≡ true)

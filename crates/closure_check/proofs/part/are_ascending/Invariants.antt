@@ -2,6 +2,7 @@ use Rattle.std.proofs.Common.{◌≡◌, ℕ, ◌<◌, ◌≤◌, Some, true, sl
 use Rattle.closure_check.specs.Parts.{is_below}
 use Rattle.closure_check.proofs.part.are_ascending.Given as goal
 
+-- at least one pair was seen, and those seen are in ascending order
 abbrev pub invariant-loop-n : goal.invariant-loop-n
 invariant-loop-n l = record {
   begun : 1 ≤ l.n;

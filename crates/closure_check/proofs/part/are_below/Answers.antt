@@ -3,6 +3,7 @@ use Rattle.std.proofs.lemmas.Option.{get_or_from_slice_get, slice_get-get_or, sl
 use Rattle.closure_check.proofs.Turns.{turn_more}
 use Rattle.closure_check.proofs.part.are_below.Goals as goal
 
+-- one pair with a variable that is not below the number denies that all are
 pub returns-then-not-is_of : goal.returns-then-not-is_of
 returns-then-not-is_of c = (
   λ (no : false ≡ true). absurd cc,
@@ -15,6 +16,7 @@ pub loop-pair-preserved : goal.loop-pair-preserved
 loop-pair-preserved c = turn_more (λ (p : ℕ × ℕ). (p.0 < c.args.vars) × (p.1 < c.args.vars)) c.args.pairs.now c.loop-pair.pair-index c.pair-item.result c.loop-pair-test.true c.pair-item.is
     c.loop-pair.invariant (c.is_of.ensures.0 c.if-not-is_of.false)
 
+-- when no pair is left, the variables of each are below the number
 pub returns : goal.returns
 returns c = (
   λ met k p there.

@@ -7,6 +7,7 @@ use Rattle.closure_check.proofs.BitSets.{eq_of, eq_to, none_past}
 use Rattle.closure_check.proofs.Turns.{turn_more}
 use Rattle.closure_check.proofs.part.are_sets.Goals as goal
 
+-- one set with more than the elements of the lattice denies that all are sets of it
 pub returns-then-not-is_subset : goal.returns-then-not-is_subset
 returns-then-not-is_subset c = (
   λ (no : false ≡ true). absurd cc,
@@ -19,6 +20,7 @@ pub loop-set-preserved : goal.loop-set-preserved
 loop-set-preserved c = turn_more (λ (n : ℕ). IsSubset n c.elements-all.result) c.args.sets.now c.loop-set.set-index c.set-item.result c.loop-set-test.true c.set-item.is
     c.loop-set.invariant (c.is_subset.ensures.0 c.if-not-is_subset.false)
 
+-- when no set is left, they are sets of the lattice, and so many just if their count is equal
 pub returns : goal.returns
 returns c = (
   λ met. record {

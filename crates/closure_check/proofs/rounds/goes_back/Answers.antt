@@ -5,6 +5,7 @@ use Rattle.flow_graph.specs.declared.constraint.Link.TheVariants.{Leave}
 use Rattle.closure_check.proofs.Returns.{by_goes, goes_by}
 use Rattle.closure_check.proofs.rounds.goes_back.Goals as goal
 
+-- a return of the site goes back just if it goes on where its variables are a pair
 pub returns-else-ne : goal.returns-else-ne
 returns-else-ne c =
     let back = c.in-Some.back in

@@ -4,6 +4,7 @@ use Rattle.closure_check.specs.declared.index.Span.{Span}
 use Rattle.closure_check.specs.Index.{LiesIn}
 use Rattle.closure_check.proofs.rounds.goes_round.Goals as goal
 
+-- an `Enter` goes round just if each constraint in the span of its site's returns goes back
 pub returns-in-Some : goal.returns-in-Some
 returns-in-Some c = (
   λ yes y m pair v st.
@@ -13,6 +14,7 @@ returns-in-Some c = (
   λ all. c.goes_through.ensures.1 (λ m lies y pair. all y m pair),
 )
 
+-- a site without a return goes round
 pub returns-in-None : goal.returns-in-None
 returns-in-None c = (
   λ yes y m pair v st.

@@ -4,6 +4,7 @@ use Rattle.std.proofs.lemmas.Option.{slice_get_within}
 use Rattle.closure_check.specs.Checking.{GoesBack}
 use Rattle.closure_check.proofs.rounds.goes_through.Goals as goal
 
+-- one constraint of the span that does not go back denies that all do
 pub returns-then-not-goes_back : goal.returns-then-not-goes_back
 returns-then-not-goes_back c = (
   λ (no : false ≡ true). absurd cc,
@@ -15,6 +16,7 @@ returns-then-not-goes_back c = (
       sym c.if-not-goes_back.true ∙ c.goes_back.ensures.1 (all c.new.result (omega (arith, here, low), omega (arith, here, high, end))),
 )
 
+-- a constraint that goes back joins those of the span before it
 pub loop-n-preserved : goal.loop-n-preserved
 loop-n-preserved c = λ m from low. elim (cases_lt m c.loop-n.n) [
   | inl before ↦ c.loop-n.invariant m from before
@@ -25,6 +27,7 @@ loop-n-preserved c = λ m from low. elim (cases_lt m c.loop-n.n) [
       subst At same (c.goes_back.ensures.0 c.if-not-goes_back.false)
 ]
 
+-- all of the span go back when none is left, as none lies past the last constraint
 pub returns : goal.returns
 returns c = (
   λ yes m lies y pair v st.

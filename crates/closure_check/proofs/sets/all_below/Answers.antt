@@ -7,6 +7,7 @@ use Rattle.closure_check.proofs.BitSets.{bit_of, none_above}
 use Rattle.closure_check.proofs.sets.all_below.Goals as goal
 use Rattle.closure_check.proofs.sets.all_below.Goals.{else-bits-n-eq1-via-then-bits-n-eq1+else-not-is_at_or_below, else-bits-n-eq1-via-else-bits-n-eq1}
 
+-- each element of a set is at or below the limit where those below 64 are, as it has no other
 pub returns : goal.returns
 returns c = (
   λ yes e is. elim (cases_lt e 64) [
@@ -16,6 +17,7 @@ returns c = (
   λ all. refl,
 )
 
+-- a bit that is not set, or that is of an element at or below the limit, joins those before it
 pub loop-n-preserved : goal.loop-n-preserved
 loop-n-preserved c = below_more _ _ c.loop-n.invariant (elim c.else-bits-n-eq1.branch [
   | else-bits-n-eq1-via-then-bits-n-eq1+else-not-is_at_or_below w ↦ λ is.

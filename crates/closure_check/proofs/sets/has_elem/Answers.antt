@@ -2,6 +2,7 @@ use Rattle.std.proofs.Common.{◌≤◌, ◌<◌, ◌^◌, ℕ, sym, ◌∙◌, 
 use Rattle.closure_check.proofs.BitSets.{none_above, not_below}
 use Rattle.closure_check.proofs.sets.has_elem.Goals as goal
 
+-- a set has no element from 64 on
 pub returns-else-number-lt64 : goal.returns-else-number-lt64
 returns-else-number-lt64 c =
     let high : 64 ≤ c.args.elem = subst (λ (n : ℕ). 64 ≤ n) c.number.ensures c.if-number-lt64.false in

@@ -2,6 +2,7 @@ use Rattle.std.proofs.Common.{◌≡◌, bit_and}
 use Rattle.closure_check.proofs.BitSets.{eq_of, eq_to, of_subset, subset_of}
 use Rattle.closure_check.proofs.sets.is_subset.Goals as goal
 
+-- a set is within another just if their common bits are all of its bits
 pub returns : goal.returns
 returns c =
     let one : c.number.result ≡ c.args.one = c.number.ensures in

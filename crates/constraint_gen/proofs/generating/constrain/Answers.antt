@@ -7,6 +7,7 @@ use Rattle.constraint_gen.specs.Generating.{IsProgramOf}
 use Rattle.constraint_gen.proofs.Sources.{system_found}
 use Rattle.constraint_gen.proofs.generating.constrain.Goals as goal
 
+-- the graph that is made of numbered units is the system of the program
 pub returns-clause-system : goal.returns-clause-system
 returns-clause-system c =
     let found = λ (all : List UnitRead) (is : IsProgramOf all c.args.units.now c.args.program.now).
@@ -18,6 +19,7 @@ returns-clause-system c =
     }) in
     IfOk-weaker c.constrain_units.result _ _ (λ (it : UnitSystem) same all is. same ∙ found all is) c.constrain_units.ensures.system
 
+-- where constraints are made, the system of the program has no more than the most of them
 pub returns-clause-few : goal.returns-clause-few
 returns-clause-few c =
     let found = λ (all : List UnitRead) (is : IsProgramOf all c.args.units.now c.args.program.now).
@@ -31,6 +33,7 @@ returns-clause-few c =
     (λ few all is. subst (λ (s : System). length s.constraints ≤ most_constraints) (found all is) few)
     c.constrain_units.ensures.few
 
+-- where they are refused as too many, the system of the program has more than the most constraints
 pub returns-clause-too_many : goal.returns-clause-too_many
 returns-clause-too_many c =
     let found = λ (all : List UnitRead) (is : IsProgramOf all c.args.units.now c.args.program.now).

@@ -20,6 +20,7 @@ use Rattle.constraint_gen.proofs.generating.generate.Goals as goal
 same_fault : {A : Type 0} (x y : GenerateFault) → IsErrOf {T = A} (Err x) y → x ≡ y
 same_fault x y is = cc
 
+-- the constraints, skeletons and listed variables that are made are those generated of the program
 pub returns-in-Ok-constrain-clause-made : goal.returns-in-Ok-constrain-clause-made
 returns-in-Ok-constrain-clause-made c = λ all is.
     generated c.args.program.now all c.args.units.now is c.args.lattices.now c.args.prelude.now
@@ -33,23 +34,27 @@ returns-in-Ok-constrain-clause-made c = λ all is.
     ≡ listed_at (is_listed c.args.units.now (names_on c.args.program.now)) 0 (positions_of (starts_on b c.args.program.now)))
     c.bounds_accesses.ensures (c.in-Ok.ensures.listed (numbers_differ all c.args.units.now is.lexed is.differ)))
 
+-- the graph that is made is well owned: no flow leaves a function but by a call
 pub returns-in-Ok-constrain-clause-owned : goal.returns-in-Ok-constrain-clause-owned
 returns-in-Ok-constrain-clause-owned c = λ all is.
     subst IsWellOwned (sym (c.in-Ok-constrain.ensures.system all is))
     (c.systems_are_owned.ensures (program_in c.args.lattices.now c.args.prelude.now all) is.read is.differ)
 
+-- each constant and bound of the graph that is made names an element of its lattice, as reports need
 pub returns-in-Ok-constrain-clause-named : goal.returns-in-Ok-constrain-clause-named
 returns-in-Ok-constrain-clause-named c = λ all is.
     subst (λ (sys : System). AreNamed c.args.lattices.now sys) (sym (c.in-Ok-constrain.ensures.system all is))
     (c.elements_are_named.ensures.named (program_in c.args.lattices.now c.args.prelude.now all)
     (sound_of (sources_in all) is.read) c.law.ensures.sized)
 
+-- each constant and bound of the graph that is made is an element of the order of its lattice
 pub returns-in-Ok-constrain-clause-elements : goal.returns-in-Ok-constrain-clause-elements
 returns-in-Ok-constrain-clause-elements c = λ all is.
     subst (λ (sys : System). NamesElements sys (orders_of c.args.lattices.now)) (sym (c.in-Ok-constrain.ensures.system all is))
     (c.elements_are_named.ensures.lattices (program_in c.args.lattices.now c.args.prelude.now all)
     (sound_of (sources_in all) is.read) c.law.ensures.sized)
 
+-- where constraints are made, the program has no more than the most variables
 pub returns-in-Ok-constrain-clause-few_variables : goal.returns-in-Ok-constrain-clause-few_variables
 returns-in-Ok-constrain-clause-few_variables c = λ all is.
     subst (λ (n : ℕ). n ≤ most_variables)
@@ -58,6 +63,7 @@ returns-in-Ok-constrain-clause-few_variables c = λ all is.
     (subst (λ (b : Bool). variables_among (starts_on b c.args.program.now) ≤ most_variables) c.bounds_accesses.ensures
     c.in-Ok.ensures.few)
 
+-- where the constraints are too many, the program has no more than the most variables
 pub returns-in-Err-constrain-clause-fit_variables : goal.returns-in-Err-constrain-clause-fit_variables
 returns-in-Err-constrain-clause-fit_variables c = λ many all is.
     subst (λ (n : ℕ). n ≤ most_variables)
@@ -66,6 +72,7 @@ returns-in-Err-constrain-clause-fit_variables c = λ many all is.
     (subst (λ (b : Bool). variables_among (starts_on b c.args.program.now) ≤ most_variables) c.bounds_accesses.ensures
     c.in-Ok.ensures.few)
 
+-- where the variables are refused as too many, the program has more than the most variables
 pub returns-in-Err-clause-too_many_variables : goal.returns-in-Err-clause-too_many_variables
 returns-in-Err-clause-too_many_variables c = λ many all is.
     subst (λ (n : ℕ). most_variables < n)

@@ -6,6 +6,7 @@ use Rattle.constraint_gen.specs.Listing.{is_listed, listed_from}
 use Rattle.constraint_gen.specs.Marking.{NumbersDiffer}
 use Rattle.constraint_gen.proofs.listing.listed_starts.Given as goal
 
+-- invariant of the loop: what is listed, with the skeletons still to come, is the listing of all; so is the count
 abbrev pub invariant-loop-start : goal.invariant-loop-start
 invariant-loop-start l =
     (NumbersDiffer l.units → l.found.items ++ listed_from (is_listed l.units (names_in l.program.rows l.program.names)) l.from

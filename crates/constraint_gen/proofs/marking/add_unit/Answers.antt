@@ -4,6 +4,7 @@ use Rattle.constraint_gen.specs.Marking.{has_unit}
 use Rattle.constraint_gen.proofs.Words.{marks_more}
 use Rattle.constraint_gen.proofs.marking.add_unit.Goals as goal
 
+-- the marks of a unit whose number no earlier one has are added to those of the earlier units
 pub returns : goal.returns
 returns c =
     let units = c.args.earlier.now in

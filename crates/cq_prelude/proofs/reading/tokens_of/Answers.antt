@@ -2,6 +2,7 @@ use Rattle.std.proofs.Common.{◌∙◌}
 use Rattle.cq_prelude.proofs.ReadLemmas.{lex_only, lex_refusal, same_lexed}
 use Rattle.cq_prelude.proofs.reading.tokens_of.Goals as goal
 
+-- the tokens that were read are those that the bytes spell by any reading
 pub returns-in-Ok-clause-only : goal.returns-in-Ok-clause-only
 returns-in-Ok-clause-only c lexed h =
     same_lexed _ _ _ _ lexed (rw c.new.ensures at c.in-Ok.ensures.unit) c.in-Ok.ensures.wide c.in-Ok.ensures.bytes c.in-Ok.ensures.keywords h

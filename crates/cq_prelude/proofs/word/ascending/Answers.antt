@@ -6,6 +6,7 @@ pub returns-then-are_ascending-clause-some : goal.returns-then-are_ascending-cla
 returns-then-are_ascending-clause-some c =
     arranges _ _ c.in_ok-sort.ensures.permutation (rw c.as_slice.ensures.value at (c.are_ascending.ensures.yes c.if-are_ascending.true))
 
+-- where sorted numbers do not ascend, no list of them in ascending order is there
 pub returns-else-are_ascending-clause-none : goal.returns-else-are_ascending-clause-none
 returns-else-are_ascending-clause-none c _ h =
     c.are_ascending.ensures.no c.if-are_ascending.false

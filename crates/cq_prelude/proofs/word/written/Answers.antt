@@ -9,6 +9,7 @@ use Rattle.cq_prelude.specs.Written.{IsWritten, is_low_line}
 use Rattle.cq_prelude.proofs.Groups.{more_written, one_written}
 use Rattle.cq_prelude.proofs.word.written.Goals as goal
 
+-- a group that says a number keeps the numbers those of the groups so far
 pub loop-group-preserved : goal.loop-group-preserved
 loop-group-preserved c =
     let turn = YieldsList-turn
@@ -21,6 +22,7 @@ loop-group-preserved c =
     let all = more_written _ _ _ _ _ turn.0 turn.1 c.loop-group.invariant c.in-Some-number.ensures.some in
     rw (length_push, add-one, c.in_ok-push-in-Some-number.ensures.items) all
 
+-- where a group says no number, no numbers are said by all groups
 pub returns-in-None-number-clause-none : goal.returns-in-None-number-clause-none
 returns-in-None-number-clause-none c _ ns all =
     let turn = YieldsList-turn
@@ -33,6 +35,7 @@ returns-in-None-number-clause-none c _ ns all =
     let one = one_written _ ns _ _ all turn.0 turn.1 in
     c.number.ensures.none c.in-None-number.is one.0 one.1
 
+-- behind the last group the numbers are those that all groups say
 pub returns-clause-some : goal.returns-clause-some
 returns-clause-some c =
     let end = YieldsList-end

@@ -5,6 +5,7 @@ use Rattle.cqual_tool.proofs.Outcomes.{meant, unmeant}
 use Rattle.cqual_tool.proofs.Runs.{by_since, ran_no_memory, ran_not, ran_read_fault, ran_sent, ran_usage}
 use Rattle.cqual_tool.proofs.deciding.decide_and_write.Goals as goal
 
+-- an answer that is sent whole or in part makes the run of the words, with the readings of its files
 pub returns-in-Ok : goal.returns-in-Ok
 returns-in-Ok g c =
     let words = map string_bytes c.args.words.now in
@@ -19,6 +20,7 @@ returns-in-Ok g c =
     (meant words task_of c.in-Ok-Some.field-0 c.in-Ok-Some.asked c.in-Ok-Some.ensures.meaning c.in-Ok-Some.field-0-is)
     answer by.0 c.finish.result by.1 c.in-Ok.ensures.decided sends)
 
+-- a read fault makes a run of this status that wrote nothing
 pub returns-in-Err-ReadFault : goal.returns-in-Err-ReadFault
 returns-in-Err-ReadFault g c =
     let words = map string_bytes c.args.words.now in
@@ -27,6 +29,7 @@ returns-in-Err-ReadFault g c =
     (ran_read_fault words _ _ _ _ (task_of c.in-Ok-Some.asked)
     (meant words task_of c.in-Ok-Some.field-0 c.in-Ok-Some.asked c.in-Ok-Some.ensures.meaning c.in-Ok-Some.field-0-is) by.0 c.in-Err-ReadFault.field-0 c.in-Err-ReadFault.field-0-is by.1)
 
+-- want of memory while the files are read makes a run of this status that wrote nothing
 pub returns-in-Ok-Some : goal.returns-in-Ok-Some
 returns-in-Ok-Some g c =
     let words = map string_bytes c.args.words.now in
@@ -35,6 +38,7 @@ returns-in-Ok-Some g c =
     (ran_no_memory words _ _ _ _ (task_of c.in-Ok-Some.asked)
     (meant words task_of c.in-Ok-Some.field-0 c.in-Ok-Some.asked c.in-Ok-Some.ensures.meaning c.in-Ok-Some.field-0-is) by.0 c.in-Err-NoMemory.field-0 c.in-Err-NoMemory.field-0-is by.1)
 
+-- words without a meaning make a run that reads no file and sends the usage line
 pub returns-in-Ok-None : goal.returns-in-Ok-None
 returns-in-Ok-None g c =
     let words = map string_bytes c.args.words.now in
@@ -42,6 +46,7 @@ returns-in-Ok-None g c =
     (ran_usage words _ _ _ _ _ c.finish-in-Ok-None.result
     (unmeant words task_of c.in-Ok-None.field-0 c.in-Ok-None.ensures.meaning c.in-Ok-None.field-0-is) c.finish-in-Ok-None.ensures.sent)
 
+-- want of memory while the words are read makes a run that reads no file and writes nothing
 pub returns : goal.returns
 returns g c =
     let words = map string_bytes c.args.words.now in

@@ -3,6 +3,7 @@ use Rattle.path_checker.specs.ReportChecks.Texts.{checked_text}
 use Rattle.cqual_tool.proofs.Judging.{checked_as}
 use Rattle.cqual_tool.proofs.ending.checked.Goals as goal
 
+-- the status and the text of what the report comes to are those of a report that is checked
 pub returns-clause-checked : goal.returns-clause-checked
 returns-clause-checked c = λ it lattices system.
     let found = c.in_ok-found.found in

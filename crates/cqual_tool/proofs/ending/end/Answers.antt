@@ -11,17 +11,20 @@ use Rattle.cqual_tool.proofs.Outcomes.{at_equal}
 use Rattle.cqual_tool.proofs.Stages.{found_none, found_some, going_stands, none_saved, saved_answers, saved_lacks, saved_stops, whole_stands}
 use Rattle.cqual_tool.proofs.ending.end.Goals as goal
 
+-- where memory is wanting for an answer without a saved file, no file is read behind the sources
 pub returns-in_err-alone-in-None-clause-reads : goal.returns-in_err-alone-in-None-clause-reads
 returns-in_err-alone-in-None-clause-reads g c = λ marks units is.
     let gives = err_from_is_err_and c.from_residual.result c.from_residual.ensures.1 in
     rw (gives.1, gives.2) (none_saved _ (names_in c.args.named.now) _ (Err NoMemory) refl)
 
+-- an answer without a saved file is the end of a call that reads no file behind the sources
 pub returns-in_ok-alone-in-None-clause-reads : goal.returns-in_ok-alone-in-None-clause-reads
 returns-in_ok-alone-in-None-clause-reads g c = λ marks units is.
     let none = sym c.saved.ensures ∙ ap (option_map (λ name. name.now)) c.in-None.is in
     none_saved _ (names_in c.args.named.now) _ _
     (refl, λ inputs reads. AnsweredAlone _ _ none (c.in_ok-alone-in-None.ensures.alone units marks is))
 
+-- where taking the saved file stops, by a failed read or want of memory, the call ends with that
 pub returns-in_err-text-in-Some-clause-reads : goal.returns-in_err-text-in-Some-clause-reads
 returns-in_err-text-in-Some-clause-reads g c = λ marks units is.
     let some = sym c.saved.ensures ∙ ap (option_map (λ name. name.now)) c.in-Some.is in
@@ -30,6 +33,7 @@ returns-in_err-text-in-Some-clause-reads g c = λ marks units is.
     rw (gives.1, gives.2)
     (saved_stops _ _ read.0 read.1 (names_in c.args.named.now) c.in-Some.file.now read.2 some _ saved_limit _ read.3)
 
+-- where memory is wanting to judge the saved file, the call ends so behind its whole reading
 pub returns-in_err-of_saved-in-Some-2-clause-reads : goal.returns-in_err-of_saved-in-Some-2-clause-reads
 returns-in_err-of_saved-in-Some-2-clause-reads g c = λ marks units is.
     let some = sym c.saved.ensures ∙ ap (option_map (λ name. name.now)) c.in-Some.is in
@@ -39,6 +43,7 @@ returns-in_err-of_saved-in-Some-2-clause-reads g c = λ marks units is.
     rw (gives.1, gives.2)
     (saved_lacks _ _ read.0 read.1 (names_in c.args.named.now) c.in-Some.file.now read.2 some _ NoMemory refl (whole_stands read.0 found.0))
 
+-- where memory is wanting for the line of a saved file that is too large, the call ends so behind its reading
 pub returns-in_err-too_large-in-None-2-clause-reads : goal.returns-in_err-too_large-in-None-2-clause-reads
 returns-in_err-too_large-in-None-2-clause-reads g c = λ marks units is.
     let some = sym c.saved.ensures ∙ ap (option_map (λ name. name.now)) c.in-Some.is in
@@ -48,6 +53,7 @@ returns-in_err-too_large-in-None-2-clause-reads g c = λ marks units is.
     rw (gives.1, gives.2)
     (saved_lacks _ _ read.0 read.1 (names_in c.args.named.now) c.in-Some.file.now read.2 some _ NoMemory refl (going_stands read.0 found.0))
 
+-- what the saved file comes to is the end of the call, behind its whole reading within the limit
 pub returns-in_ok-of_saved-in-Some-2-clause-reads : goal.returns-in_ok-of_saved-in-Some-2-clause-reads
 returns-in_ok-of_saved-in-Some-2-clause-reads g c = λ marks units is.
     let named = names_in c.args.named.now in
@@ -67,6 +73,7 @@ returns-in_ok-of_saved-in-Some-2-clause-reads g c = λ marks units is.
     let Short : List ℕ → Type 0 = λ b. length b ≤ saved_limit in
     SavedJudged file _ _ some (subst Short content found.2) (subst Judged content says))
 
+-- the line of a saved file over its limit is the end of the call, behind its reading past the limit
 pub returns-in_ok-too_large-in-None-2-clause-reads : goal.returns-in_ok-too_large-in-None-2-clause-reads
 returns-in_ok-too_large-in-None-2-clause-reads g c = λ marks units is.
     let named = names_in c.args.named.now in
@@ -82,6 +89,7 @@ returns-in_ok-too_large-in-None-2-clause-reads g c = λ marks units is.
     at_equal (IsEnd named inputs.saved it) _ Malformed _ _ c.in_ok-too_large-in-None-2.ensures.0 c.in_ok-too_large-in-None-2.ensures.1
     (SavedTooLarge file some (past_limit saved_limit r inputs.saved found gives)))
 
+-- no saved file is asked of where `alone` is called, and its other demands are those of the call of `end`
 pub alone-requires : goal.alone-requires
 alone-requires g c = record {
   none = sym c.saved.ensures ∙ ap (option_map (λ name. name.now)) c.in-None.is;

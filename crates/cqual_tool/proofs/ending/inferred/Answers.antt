@@ -6,6 +6,7 @@ use Rattle.cqual_tool.specs.Words.{names_in}
 use Rattle.cqual_tool.specs.Programs.{judging_of, texts_of}
 use Rattle.cqual_tool.proofs.ending.inferred.Goals as goal
 
+-- the report over the texts and the scene of a program is that of its judging
 pub returns-clause-report : goal.returns-clause-report
 returns-clause-report c = λ units marks are differ made.
     let named = names_in c.args.named.now in

@@ -5,6 +5,7 @@ use Rattle.annotate.specs.Scenes as scenes
 use Rattle.cqual_tool.proofs.Joining.{texts_apart}
 use Rattle.cqual_tool.proofs.ending.scene_of.Goals as goal
 
+-- the scene of the texts, the lattices and what was generated shows what the judging of the units names
 pub returns-clause-shows : goal.returns-clause-shows
 returns-clause-shows c = λ named units marks same differ made.
     record {

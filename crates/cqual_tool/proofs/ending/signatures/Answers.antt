@@ -11,6 +11,7 @@ use Rattle.cqual_tool.specs.Programs.{judging_of, texts_of}
 use Rattle.cqual_tool.proofs.Signed.{some_of, unsigned_as}
 use Rattle.cqual_tool.proofs.ending.signatures.Goals as goal
 
+-- what functions own apart in the program they own apart as the functions are held for `sign`
 pub sign-requires-clause-apart : goal.sign-requires-clause-apart
 sign-requires-clause-apart c =
     let made = c.args.ready.now.made in
@@ -18,6 +19,7 @@ sign-requires-clause-apart c =
     subst (λ (places : List Place). AreOwnedApart made.graph (map (external_at texts made.skeletons) places)) (sym c.deref-3.ensures.value)
     (c.requires.signs.apart texts)
 
+-- an answer of the library is the answer for the signatures of its program
 pub returns-in-Some-clause-signed : goal.returns-in-Some-clause-signed
 returns-in-Some-clause-signed c = λ units marks is.
     let named = names_in c.args.named.now in
@@ -33,6 +35,7 @@ returns-in-Some-clause-signed c = λ units marks is.
     answers it (c.scene_of-scene.ensures.shows named units marks same is.differ is.made) (sym is.made.system)
     (is.externals (texts_of named _) ∙ library)
 
+-- where the library suits and is not accepted, its report is the answer for its signatures
 pub returns-clause-signed : goal.returns-clause-signed
 returns-clause-signed c = λ units marks is.
     let named = names_in c.args.named.now in

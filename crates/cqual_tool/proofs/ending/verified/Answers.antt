@@ -3,6 +3,7 @@ use Rattle.certificate_checks.specs.Texts.{verdict_text}
 use Rattle.cqual_tool.proofs.Judging.{verified_as}
 use Rattle.cqual_tool.proofs.ending.verified.Goals as goal
 
+-- the status and the text of the verdict are those of a certificate that is verified
 pub returns-clause-verified : goal.returns-clause-verified
 returns-clause-verified c = λ it lattices system.
     let found = c.in_ok-found.found in

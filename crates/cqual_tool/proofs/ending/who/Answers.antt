@@ -6,6 +6,7 @@ use Rattle.cqual_tool.specs.Words.{names_in}
 use Rattle.cqual_tool.specs.Programs.{judging_of, texts_of}
 use Rattle.cqual_tool.proofs.ending.who.Goals as goal
 
+-- the answer for a name over the scene of a program is that of its judging
 pub returns-clause-answered : goal.returns-clause-answered
 returns-clause-answered c = λ units marks is.
     let named = names_in c.args.named.now in

@@ -6,6 +6,7 @@ use Rattle.cqual_tool.specs.Outcome.{OfMade, MadeLatticesRefused, lattice_limit}
 use Rattle.cqual_tool.proofs.Outcomes.{at_equal, both_ok}
 use Rattle.cqual_tool.proofs.making.made_answer.Goals as goal
 
+-- the line of the made lattice file that does not read is the answer for the made source
 pub returns-clause-outcome : goal.returns-clause-outcome
 returns-clause-outcome c =
     let fault = c.in-Err.fault in

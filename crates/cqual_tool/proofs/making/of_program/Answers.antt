@@ -11,6 +11,7 @@ use Rattle.cqual_tool.specs.Outcome.{made_names}
 use Rattle.cqual_tool.proofs.Joining.{texts_apart}
 use Rattle.cqual_tool.proofs.making.of_program.Goals as goal
 
+-- the sum over the texts and the scene of a made program is that of its judging
 pub returns-clause-sum : goal.returns-clause-sum
 returns-clause-sum c = λ units is.
     let it = judging_of made_names c.args.lattices.now [] units in

@@ -6,6 +6,7 @@ use Rattle.cqual_tool.specs.Preparing.{IsPrepared, IsReady}
 use Rattle.cqual_tool.proofs.Summing.{made_ready, made_refused, made_summed}
 use Rattle.cqual_tool.proofs.making.of_units.Goals as goal
 
+-- the program that was prepared names lattices and elements and is well owned, as `of_program` requires
 pub of_program-requires : goal.of_program-requires
 of_program-requires c =
     let names = names_in c.made_names.result in
@@ -15,6 +16,7 @@ of_program-requires c =
     (c.in_ok-answer.ensures c.requires.before.0 units c.requires.before.2) in
     record { named = is.within; owned = is.owned }
 
+-- the line that refuses the names, types or counts of the made unit is its answer
 pub returns-in-Refused-clause-outcome : goal.returns-in-Refused-clause-outcome
 returns-in-Refused-clause-outcome c = λ count unit earlier none bytes within parses.
     let names = names_in c.made_names.result in
@@ -23,6 +25,7 @@ returns-in-Refused-clause-outcome c = λ count unit earlier none bytes within pa
     made_refused c.args.number lattices bytes within unit parses names marks c.in-Refused.answer c.made_names.ensures none
     (subst (IsPrepared names lattices marks (unit ∷ [])) c.in-Refused.is (c.in_ok-answer.ensures count (unit ∷ []) earlier))
 
+-- the answer that refuses the made unit is malformed, and so decided
 pub returns-in-Refused-clause-decided : goal.returns-in-Refused-clause-decided
 returns-in-Refused-clause-decided c =
     let names = names_in c.made_names.result in
@@ -32,6 +35,7 @@ returns-in-Refused-clause-decided c =
     (c.in_ok-answer.ensures c.requires.before.0 units c.requires.before.2) in
     subst IsDecided (sym is.0) tt
 
+-- the sum of the program of the made unit is its answer
 pub returns-in-Program-clause-outcome : goal.returns-in-Program-clause-outcome
 returns-in-Program-clause-outcome c = λ count unit earlier none bytes within parses.
     let number = c.args.number in

@@ -4,6 +4,7 @@ use Rattle.generated_source.specs.Summary.{summary_text}
 use Rattle.cqual_tool.proofs.Summing.{summed_as}
 use Rattle.cqual_tool.proofs.making.summed.Goals as goal
 
+-- the counts of the scene and the graph are those of the sum of what is judged
 pub returns-clause-sum : goal.returns-clause-sum
 returns-clause-sum c = λ it shows system.
     let counts : Counts = record {

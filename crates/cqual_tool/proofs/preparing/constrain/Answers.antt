@@ -9,6 +9,7 @@ use Rattle.cqual_tool.proofs.Joining.{refused}
 use Rattle.cqual_tool.proofs.Held.{held, may_sign}
 use Rattle.cqual_tool.proofs.preparing.constrain.Goals as goal
 
+-- a program that was generated is ready: counted, with its constraints, its external functions and what signing needs
 pub returns-in-Ok : goal.returns-in-Ok
 returns-in-Ok c = λ units of shaped.
     let lent : IsProgramOf units c.deref.result.now c.args.program.now =
@@ -34,6 +35,7 @@ returns-in-Ok c = λ units of shaped.
       elements = c.in-Ok.ensures.elements units lent;
     }
 
+-- units with more variables than the limit are refused by code Q1
 pub returns-in-Err-TooManyVariables : goal.returns-in-Err-TooManyVariables
 returns-in-Err-TooManyVariables c = λ units of shaped.
     let lent : IsProgramOf units c.deref.result.now c.args.program.now =
@@ -45,6 +47,7 @@ returns-in-Err-TooManyVariables c = λ units of shaped.
     refused Refuses _ said.field-0 said.ensures
     (rw last (ManyVariables shaped (c.in-Err-TooManyVariables.ensures.too_many_variables fault units lent)))
 
+-- units with few enough variables and more constraints than the limit are refused by code G1
 pub returns-in-Err-TooManyConstraints : goal.returns-in-Err-TooManyConstraints
 returns-in-Err-TooManyConstraints c = λ units of shaped.
     let lent : IsProgramOf units c.deref.result.now c.args.program.now =

@@ -8,6 +8,7 @@ use Rattle.cqual_tool.specs.Programs.{last_of}
 use Rattle.cqual_tool.specs.Shapes.{shape_line}
 use Rattle.cqual_tool.proofs.preparing.faulty.Goals as goal
 
+-- the line of the fault of names or types is the same over the texts of the units
 pub returns-clause-line : goal.returns-clause-line
 returns-clause-line c =
     let named = names_in c.args.named.now in

@@ -1,6 +1,7 @@
 use Rattle.cqual_tool.proofs.Joining.{read_all}
 use Rattle.cqual_tool.proofs.preparing.judged.Goals as goal
 
+-- the earlier units as tokens and tapes give what is prepared of them
 pub returns : goal.returns
 returns c = λ number units earlier.
     c.resolved.ensures units

@@ -2,6 +2,7 @@ use Rattle.cqual_tool.specs.Outcome.{SourceFails, SourceLexes, SourceRefused, Un
 use Rattle.cqual_tool.proofs.Joining.{refused}
 use Rattle.cqual_tool.proofs.preparing.read_source.Goals as goal
 
+-- bytes that spell tokens give what is made of the tokens behind the earlier units
 pub returns-in-Ok : goal.returns-in-Ok
 returns-in-Ok c = λ lattices before mean earlier.
     let lexed = c.in-Ok.ensures in
@@ -13,6 +14,7 @@ returns-in-Ok c = λ lattices before mean earlier.
     } in
     c.parsed.ensures c.args.wide lattices c.args.unit c.args.bytes.now before earlier lexes
 
+-- the line of bytes that spell no tokens is that of a source that is refused
 pub returns : goal.returns
 returns c = λ lattices before mean earlier.
     let fault = c.in-Err.fault in

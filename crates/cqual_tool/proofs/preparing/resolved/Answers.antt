@@ -10,6 +10,7 @@ use Rattle.cqual_tool.specs.Outcome.{Faulty, UnitsRefused}
 use Rattle.cqual_tool.proofs.Joining.{refused, sound}
 use Rattle.cqual_tool.proofs.preparing.resolved.Goals as goal
 
+-- units whose tapes resolve are a program without a fault, and give what is prepared of it
 pub returns-in-Ok : goal.returns-in-Ok
 returns-in-Ok c = λ units joined.
     let are : AreTapesOf c.args.tapes.items (sources_in units) = record { sound = sound (sources_in units) joined.read; taped = joined.parts.tapes_are } in
@@ -24,6 +25,7 @@ returns-in-Ok c = λ units joined.
     })
     (is.none (sources_in units) are)
 
+-- units of which the tapes do not resolve are refused by the line of the first fault
 pub returns : goal.returns
 returns c = λ units joined.
     let named = names_in c.args.named.now in

@@ -8,11 +8,13 @@ use Rattle.cqual_tool.specs.Programs.{file_of, texts_of}
 use Rattle.cqual_tool.proofs.Joining.{texts_on}
 use Rattle.cqual_tool.proofs.preparing.texts.Goals as goal
 
+-- before the first unit no text is shown, and those to come are all
 pub loop-it-init : goal.loop-it-init
 loop-it-init c =
     let named = names_in c.args.named.now in
     ap (λ (us : List LentUnit). scenes.units_of us ++ texts_of named c.args.tokens.now) c.new-units.ensures.items
 
+-- the text of one more unit keeps the texts shown and to come those of all units
 pub loop-it-preserved : goal.loop-it-preserved
 loop-it-preserved c =
     let named = names_in c.args.named.now in
@@ -26,6 +28,7 @@ loop-it-preserved c =
     ∙ texts_on named all i it c.loop-it.units.items _ same c.it-item.is within
     ∙ c.loop-it.invariant
 
+-- behind the last unit the texts that are shown are those of all units
 pub returns : goal.returns
 returns c =
     let named = names_in c.args.named.now in

@@ -11,6 +11,7 @@ use Rattle.cqual_tool.proofs.Naming.{drop_from, limit_is, none_left, within}
 use Rattle.cqual_tool.proofs.Stages.{at_sources, found_none, found_some, going_stands, source_joins, source_lacks, source_refused, source_stops, source_too_large, whole_stands}
 use Rattle.cqual_tool.proofs.reading.+take_sources.Goals as goal
 
+-- where no source is left, what is finished is the answer from the sources on
 pub returns-in-None-clause-reads : goal.returns-in-None-clause-reads
 returns-in-None-clause-reads g t c = λ before earlier.
     let named = names_in c.args.named.now in
@@ -18,6 +19,7 @@ returns-in-None-clause-reads g t c = λ before earlier.
     at_sources _ _ named c.args.lattices.now before c.args.earlier.prelude (c.args.index + 1) c.args.left [] (drop c.args.index named.sources)
     c.finish.result (none_left named.sources c.args.index none) (c.finish.ensures.reads (c.args.index + 1) c.args.left before earlier)
 
+-- where taking a source stops, by a failed read or want of memory, the sources end with that
 pub returns-in_err-bytes-in-Some-clause-reads : goal.returns-in_err-bytes-in-Some-clause-reads
 returns-in_err-bytes-in-Some-clause-reads g t c = λ before earlier.
     let named = names_in c.args.named.now in
@@ -33,6 +35,7 @@ returns-in_err-bytes-in-Some-clause-reads g t c = λ before earlier.
     (source_stops _ _ read.0 read.1 named file read.2 c.args.lattices.now before c.args.earlier.prelude (c.args.index + 1) c.args.left rest
     c.min.result _ read.3))
 
+-- where memory is wanting to read the tokens of a source, the sources end so behind its whole reading
 pub returns-in_err-answer-in-Some-2-clause-reads : goal.returns-in_err-answer-in-Some-2-clause-reads
 returns-in_err-answer-in-Some-2-clause-reads g t c = λ before earlier.
     let named = names_in c.args.named.now in
@@ -49,6 +52,7 @@ returns-in_err-answer-in-Some-2-clause-reads g t c = λ before earlier.
     (source_lacks _ _ read.0 read.1 named file read.2 c.args.lattices.now before c.args.earlier.prelude (c.args.index + 1) c.args.left rest
     NoMemory refl (whole_stands read.0 found.0)))
 
+-- the line that refuses a source within its limit is the answer from this source on
 pub returns-in-Refused-clause-reads : goal.returns-in-Refused-clause-reads
 returns-in-Refused-clause-reads g t c = λ before earlier.
     let named = names_in c.args.named.now in
@@ -72,6 +76,7 @@ returns-in-Refused-clause-reads g t c = λ before earlier.
     at_sources _ _ named lattices before marks number left (file ∷ rest) (drop c.args.index named.sources) _ there
     (source_refused _ _ read.0 read.1 named file read.2 lattices before marks number left rest c.in-Refused.answer bytes found.0 same within is.0 is.1)
 
+-- the answer that refuses a source is malformed, and so decided
 pub returns-in-Refused-clause-decided : goal.returns-in-Refused-clause-decided
 returns-in-Refused-clause-decided g t c =
     let wide = c.args.named.now.wide in
@@ -88,6 +93,7 @@ returns-in-Refused-clause-decided g t c =
     let is = subst (IsOneMore wide lattices number file bytes before marks) c.in-Refused.is one in
     subst IsDecided (sym is.0) tt
 
+-- the sources behind a joined one are fewer, their index is within the count, and the joined units are earlier ones
 pub take_sources-requires : goal.take_sources-requires
 take_sources-requires g t c κs below =
     let wide = c.args.named.now.wide in
@@ -109,6 +115,7 @@ take_sources-requires g t c κs below =
       (below, (c.requires.words, (c.requires.few, (omega (arith, there, same), (before ++ is.0 ∷ [], is.2))))),
     )
 
+-- the answer from the next source on is that from this one on, where this one joins the units
 pub returns-in-Some-2-clause-reads : goal.returns-in-Some-2-clause-reads
 returns-in-Some-2-clause-reads g t c = λ before earlier.
     let named = names_in c.args.named.now in
@@ -138,6 +145,7 @@ returns-in-Some-2-clause-reads g t c = λ before earlier.
     (source_joins _ _ read.0 read.1 named file read.2 lattices before marks number left rest _ c.in-Units.earlier c.in-Some-2.bytes.items
     (left - c.len.result) found.0 same within less joins c.take_sources.result (c.take_sources.ensures.reads (before ++ joins.0 ∷ []) joins.2))
 
+-- where memory is wanting for the line of a source that is too large, the sources end so behind its reading
 pub returns-in_err-too_large-in-None-2-clause-reads : goal.returns-in_err-too_large-in-None-2-clause-reads
 returns-in_err-too_large-in-None-2-clause-reads g t c = λ before earlier.
     let named = names_in c.args.named.now in
@@ -154,6 +162,7 @@ returns-in_err-too_large-in-None-2-clause-reads g t c = λ before earlier.
     (source_lacks _ _ read.0 read.1 named file read.2 c.args.lattices.now before c.args.earlier.prelude (c.args.index + 1) c.args.left rest
     NoMemory refl (going_stands read.0 found.0)))
 
+-- the line of a source over its limit is the answer from this source on
 pub returns-clause-reads : goal.returns-clause-reads
 returns-clause-reads g t c = λ before earlier.
     let named = names_in c.args.named.now in

@@ -10,12 +10,14 @@ use Rattle.cqual_tool.proofs.Readings.{past_limit, whole_is}
 use Rattle.cqual_tool.proofs.Stages.{found_none, found_some, going_stands, lattice_answers, lattice_goes, lattice_lacks, lattice_stops, whole_stands}
 use Rattle.cqual_tool.proofs.reading.answer.Goals as goal
 
+-- where taking the lattice file stops, by a failed read or want of memory, the call ends with that
 pub returns-in_err-bytes-clause-reads : goal.returns-in_err-bytes-clause-reads
 returns-in_err-bytes-clause-reads g c =
     let read = c.in_err-bytes.ensures.read in
     let gives = err_from_is_err_and c.from_residual.result c.from_residual.ensures.1 in
     rw (gives.1, gives.2) (lattice_stops _ _ read.0 read.1 (names_in c.args.named.now) read.2 lattice_limit _ read.3)
 
+-- where memory is wanting for the line of a refused lattice file, the call ends so behind its whole reading
 pub returns-in_err-lattice_refused-in-Err-clause-reads : goal.returns-in_err-lattice_refused-in-Err-clause-reads
 returns-in_err-lattice_refused-in-Err-clause-reads g c =
     let read = c.in_ok-bytes.ensures.read in
@@ -23,6 +25,7 @@ returns-in_err-lattice_refused-in-Err-clause-reads g c =
     let gives = err_from_is_err_and c.from_residual-in_err-lattice_refused-in-Err.result c.from_residual-in_err-lattice_refused-in-Err.ensures.1 in
     rw (gives.1, gives.2) (lattice_lacks _ _ read.0 read.1 (names_in c.args.named.now) read.2 NoMemory refl (whole_stands read.0 found.0))
 
+-- where memory is wanting for the line of a lattice file that is too large, the call ends so behind its reading
 pub returns-in_err-too_large-in-None-clause-reads : goal.returns-in_err-too_large-in-None-clause-reads
 returns-in_err-too_large-in-None-clause-reads g c =
     let read = c.in_ok-bytes.ensures.read in
@@ -30,6 +33,7 @@ returns-in_err-too_large-in-None-clause-reads g c =
     let gives = err_from_is_err_and c.from_residual-in_err-too_large-in-None.result c.from_residual-in_err-too_large-in-None.ensures.1 in
     rw (gives.1, gives.2) (lattice_lacks _ _ read.0 read.1 (names_in c.args.named.now) read.2 NoMemory refl (going_stands read.0 found.0))
 
+-- the line of a lattice file over its limit is the answer of all files
 pub returns-clause-reads : goal.returns-clause-reads
 returns-clause-reads g c =
     let named = names_in c.args.named.now in
@@ -40,6 +44,7 @@ returns-clause-reads g c =
     at_equal (OfFiles named inputs) _ Malformed _ _ c.in_ok-too_large-in-None.ensures.0 c.in_ok-too_large-in-None.ensures.1
     (LatticeTooLarge (past_limit lattice_limit read.0 inputs.lattice found gives)))
 
+-- the line of a lattice file that does not read is the answer of all files
 pub returns-in-Some-clause-reads : goal.returns-in-Some-clause-reads
 returns-in-Some-clause-reads g c =
     let named = names_in c.args.named.now in
@@ -59,6 +64,7 @@ returns-in-Some-clause-reads g c =
     } in
     at_equal (OfFiles named inputs) _ Malformed _ _ said.line.0 said.line.1 (LatticeRefused fault fails))
 
+-- over lattices that were read, the answer behind the lattice file is that of all files
 pub returns-in-Ok-clause-reads : goal.returns-in-Ok-clause-reads
 returns-in-Ok-clause-reads g c =
     let named = names_in c.args.named.now in

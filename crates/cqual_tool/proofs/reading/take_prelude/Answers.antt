@@ -14,6 +14,7 @@ use Rattle.cqual_tool.proofs.Readings.{past_limit, whole_is}
 use Rattle.cqual_tool.proofs.Stages.{at_marks, found_none, found_some, going_stands, prelude_answers, prelude_goes, prelude_lacks, prelude_stops, whole_stands}
 use Rattle.cqual_tool.proofs.reading.take_prelude.Goals as goal
 
+-- the prelude is the one earlier unit of the sources, whose index 0 is within their count
 pub take_sources-requires : goal.take_sources-requires
 take_sources-requires g c =
     let unit = unit_of c.in-Ok.read.source in
@@ -25,6 +26,7 @@ take_sources-requires g c =
       before = (unit ∷ [], record { are = c.in_ok-earlier-in-Ok.ensures.units; may = prelude_alone unit parses.lexes.unit parses.formed });
     }
 
+-- where taking the prelude stops, by a failed read or want of memory, the call ends with that
 pub returns-in_err-bytes-clause-reads : goal.returns-in_err-bytes-clause-reads
 returns-in_err-bytes-clause-reads g c =
     let read = c.in_err-bytes.ensures.read in
@@ -32,6 +34,7 @@ returns-in_err-bytes-clause-reads g c =
     rw (gives.1, gives.2)
     (prelude_stops _ _ read.0 read.1 (names_in c.args.named.now) c.args.file.now read.2 c.requires.named c.args.lattices.now source_limit _ read.3)
 
+-- where memory is wanting to put the prelude before the sources, the call ends so behind its whole reading
 pub returns-in_err-earlier-in-Ok-clause-reads : goal.returns-in_err-earlier-in-Ok-clause-reads
 returns-in_err-earlier-in-Ok-clause-reads g c =
     let read = c.in_ok-bytes.ensures.read in
@@ -40,6 +43,7 @@ returns-in_err-earlier-in-Ok-clause-reads g c =
     rw (gives.1, gives.2)
     (prelude_lacks _ _ read.0 read.1 (names_in c.args.named.now) c.args.file.now read.2 c.requires.named c.args.lattices.now NoMemory refl (whole_stands read.0 found.0))
 
+-- where memory is wanting for the line of a refused prelude, the call ends so behind its whole reading
 pub returns-in_err-prelude_refused-in-Err-clause-reads : goal.returns-in_err-prelude_refused-in-Err-clause-reads
 returns-in_err-prelude_refused-in-Err-clause-reads g c =
     let read = c.in_ok-bytes.ensures.read in
@@ -48,6 +52,7 @@ returns-in_err-prelude_refused-in-Err-clause-reads g c =
     rw (gives.1, gives.2)
     (prelude_lacks _ _ read.0 read.1 (names_in c.args.named.now) c.args.file.now read.2 c.requires.named c.args.lattices.now NoMemory refl (whole_stands read.0 found.0))
 
+-- where memory is wanting for the line of a prelude that is too large, the call ends so behind its reading
 pub returns-in_err-too_large-in-None-clause-reads : goal.returns-in_err-too_large-in-None-clause-reads
 returns-in_err-too_large-in-None-clause-reads g c =
     let read = c.in_ok-bytes.ensures.read in
@@ -56,6 +61,7 @@ returns-in_err-too_large-in-None-clause-reads g c =
     rw (gives.1, gives.2)
     (prelude_lacks _ _ read.0 read.1 (names_in c.args.named.now) c.args.file.now read.2 c.requires.named c.args.lattices.now NoMemory refl (going_stands read.0 found.0))
 
+-- the line of a prelude over its limit is the answer behind the lattice file
 pub returns-clause-reads : goal.returns-clause-reads
 returns-clause-reads g c =
     let named = names_in c.args.named.now in
@@ -68,6 +74,7 @@ returns-clause-reads g c =
     c.in_ok-too_large-in-None.ensures.0 c.in_ok-too_large-in-None.ensures.1
     (PreludeTooLarge file c.requires.named (past_limit source_limit read.0 inputs.prelude found gives)))
 
+-- the line of a prelude that does not read is the answer behind the lattice file
 pub returns-in-Some-clause-reads : goal.returns-in-Some-clause-reads
 returns-in-Some-clause-reads g c =
     let named = names_in c.args.named.now in
@@ -92,6 +99,7 @@ returns-in-Some-clause-reads g c =
     at_equal (OfUnits named inputs c.args.lattices.now) _ Malformed _ _ said.line.0
     (said.line.1 ∙ ap (λ (bytes : List ℕ). prelude_line file bytes fault) (again ∙ content)) (PreludeRefused file fault c.requires.named fails))
 
+-- with a prelude that reads, the answer from the sources on is that behind the lattice file
 pub returns-in-Ok-clause-reads : goal.returns-in-Ok-clause-reads
 returns-in-Ok-clause-reads g c =
     let named = names_in c.args.named.now in

@@ -9,6 +9,7 @@ use Rattle.cqual_tool.proofs.Joining.{nothing_earlier}
 use Rattle.cqual_tool.proofs.Stages.{at_marks, no_prelude, units_lack}
 use Rattle.cqual_tool.proofs.reading.take_units.Goals as goal
 
+-- without a prelude, the answer from the sources on is that behind the lattice file
 pub returns-clause-reads : goal.returns-clause-reads
 returns-clause-reads g c =
     let named = names_in c.args.named.now in
@@ -22,6 +23,7 @@ returns-clause-reads g c =
 pub take_sources-requires-clause-before : goal.take_sources-requires-clause-before
 take_sources-requires-clause-before g c = ([], record { are = c.nothing_before.ensures.units; may = nothing_earlier 1 })
 
+-- where memory is wanting for the words of the lattices, the call ends so before a unit is read
 pub returns-in_err-words-clause-reads : goal.returns-in_err-words-clause-reads
 returns-in_err-words-clause-reads g c =
     let gives = err_from_is_err_and c.from_residual.result c.from_residual.ensures.1 in

@@ -4,6 +4,7 @@ use Rattle.std.proofs.lemmas.List.{take_rest}
 use Rattle.cqual_tool.proofs.Pieces.{written_on}
 use Rattle.cqual_tool.proofs.sending.send.Goals as goal
 
+-- one more put keeps what was sent a part of the text, and written behind what was there
 pub loop-sent-preserved : goal.loop-sent-preserved
 loop-sent-preserved g c = record {
   part = grind (arith, common_steps);

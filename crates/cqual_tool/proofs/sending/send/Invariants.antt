@@ -1,6 +1,7 @@
 use Rattle.std.proofs.Common.{◌≡◌, ◌≤◌, ◌-◌, ◌++◌, length, take}
 use Rattle.cqual_tool.proofs.sending.send.Given as goal
 
+-- a front of the text, of the length that is sent, is written, and no put failed
 abbrev pub invariant-loop-sent : goal.invariant-loop-sent
 invariant-loop-sent g l = record {
   part : l.sent ≤ length l.text;

@@ -3,6 +3,7 @@ use Rattle.sig_writer.specs.Library.{externals_by}
 use Rattle.cqual_tool.proofs.Signed.{accepted_of, all_decided, both_of, none_of, not_none, one_accepted, one_lattice, refused_as, signed_as}
 use Rattle.cqual_tool.proofs.signing.signed_by.Goals as goal
 
+-- the lines of an accepted library are the answer for its signatures
 pub returns-in-Ok-clause-signed : goal.returns-in-Ok-clause-signed
 returns-in-Ok-clause-signed c =
     let sys = c.args.graph.now in
@@ -20,6 +21,7 @@ returns-in-Ok-clause-signed c =
 pub returns-in-Ok-clause-decided : goal.returns-in-Ok-clause-decided
 returns-in-Ok-clause-decided c = rw c.written.ensures (all_decided c.in-Ok.found)
 
+-- where nothing is signed of a library that suits, its constraints are not accepted
 pub returns-in-Ok-clause-rejected : goal.returns-in-Ok-clause-rejected
 returns-in-Ok-clause-rejected c = λ none accepted.
     let got = c.get.result.now in
@@ -28,6 +30,7 @@ returns-in-Ok-clause-rejected c = λ none accepted.
     c.in-Ok.ensures.rejected (none_of c.in-Ok.found (sym c.written.ensures ∙ none))
     (one_accepted c.args.graph.now c.args.scene.now.lattices.now got there accepted)
 
+-- the line of a function without a signature is the answer of an accepted library that suits
 pub returns-in_ok-refused-in-Err-clause-signed : goal.returns-in_ok-refused-in-Err-clause-signed
 returns-in_ok-refused-in-Err-clause-signed c = λ it shows system library.
     let sys = c.args.graph.now in

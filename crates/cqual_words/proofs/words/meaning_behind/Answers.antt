@@ -4,6 +4,7 @@ use Rattle.clap.specs.Words.{found_of}
 use Rattle.cqual_words.proofs.Agrees.{matches_right, refusal_right}
 use Rattle.cqual_words.proofs.words.meaning_behind.Goals as goal
 
+-- where the words match, what is asked is what they mean
 pub returns-in-Ok : goal.returns-in-Ok
 returns-in-Ok c =
     let words = map (λ s. string_bytes s) c.args.words.now in
@@ -14,6 +15,7 @@ returns-in-Ok c =
       sources = c.of_matches.ensures.sources;
     }
 
+-- where the words are refused, but not for want of memory, they mean nothing
 pub returns : goal.returns
 returns c =
     let words = map (λ s. string_bytes s) c.args.words.now in

@@ -2,6 +2,7 @@ use Rattle.std.proofs.Common.{◌≡◌, length}
 use Rattle.declr_forms.specs.Views.{list_of, more_params}
 use Rattle.declr_forms.proofs.parameters.more_params.Given as goal
 
+-- the parameters so far, with what is read from here on, give what the whole loop does from its first
 abbrev pub invariant-loop-all : goal.invariant-loop-all
 invariant-loop-all g l =
     more_params l.depth l.room (list_of l.all) l.place.scopes l.place.rest.now

@@ -3,6 +3,7 @@ use Rattle.reader_base.specs.Lent.{declared_of}
 use Rattle.declr_forms.specs.Views.{more_suffixes}
 use Rattle.declr_forms.proofs.suffixes.suffixes.Given as goal
 
+-- the declarator so far, with the suffixes read from here on, is what the whole loop gives from its core
 abbrev pub invariant-loop-known : goal.invariant-loop-known
 invariant-loop-known g l =
     more_suffixes l.depth l.flag l.room (declared_of l.known) l.place.scopes l.place.rest.now

@@ -5,6 +5,7 @@ use Rattle.c_reading.specs.Reading.{run}
 use Rattle.expr_forms.specs.Parts.{argument_turn, known_arguments}
 use Rattle.expr_forms.proofs.arguments.more_arguments.Given as goal
 
+-- the arguments so far, with those read from here on, are what the whole loop gives from its first
 abbrev pub invariant-loop-known : goal.invariant-loop-known
 invariant-loop-known g l =
     run (argument_turn l.depth l.room) (known_arguments l.known) l.place.scopes l.place.rest.now

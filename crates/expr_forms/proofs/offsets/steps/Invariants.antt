@@ -3,6 +3,7 @@ use Rattle.c_reading.specs.Reading.{run}
 use Rattle.expr_forms.specs.Parts.{known_steps, step_turn}
 use Rattle.expr_forms.proofs.offsets.steps.Given as goal
 
+-- the steps of an offset so far, with those read from here on, are what the whole loop gives
 abbrev pub invariant-loop-known : goal.invariant-loop-known
 invariant-loop-known g l =
     run (step_turn l.depth l.room) (known_steps l.known) l.place.scopes l.place.rest.now

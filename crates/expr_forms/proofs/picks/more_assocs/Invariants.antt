@@ -5,6 +5,7 @@ use Rattle.c_reading.specs.Reading.{run}
 use Rattle.expr_forms.specs.Picks.{assoc_turn, known_assocs}
 use Rattle.expr_forms.proofs.picks.more_assocs.Given as goal
 
+-- the associations so far, with those read from here on, are what the whole loop gives from its first
 abbrev pub invariant-loop-known : goal.invariant-loop-known
 invariant-loop-known g l =
     run (assoc_turn l.depth l.room) (known_assocs l.known) l.place.scopes l.place.rest.now

@@ -7,6 +7,7 @@ use Rattle.c_reading.specs.Knot.{knot}
 use Rattle.expr_rows.specs.OpRows.Rows.{row_of}
 use Rattle.expr_rows.proofs.expression.operations.Given as goal
 
+-- the row so far, with the operators read from here on, is what the whole loop gives from its first operand
 abbrev pub invariant-loop-row : goal.invariant-loop-row
 invariant-loop-row g l =
     run (operation_turn (knot l.depth) l.reach l.room) (row_of l.row) l.place.scopes l.place.rest.now

@@ -11,6 +11,7 @@ use Rattle.expr_types.specs.Views.{found_at}
 use Rattle.expr_types.proofs.Adding.{goes_on, next_op}
 use Rattle.expr_types.proofs.along.find.Goals as goal
 
+-- one op more: what it ends is added at its key, and the ops behind it are still to come
 pub loop-op-preserved : goal.loop-op-preserved
 loop-op-preserved c = λ at.
     let rows = c.args.types.now in

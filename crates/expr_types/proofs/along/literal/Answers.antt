@@ -5,6 +5,7 @@ use Rattle.name_rules.specs.ShapeSteps.State.{type_at}
 use Rattle.expr_shapes.specs.ShapeStacks.Views.{state_in}
 use Rattle.expr_types.proofs.along.literal.Goals as goal
 
+-- the shape of a compound literal is a place, of the type that lies under the values on the stack
 pub returns : goal.returns
 returns c =
     let rows = c.args.types.now in

@@ -14,6 +14,7 @@ use Rattle.expr_types.specs.Views.{found_at}
 use Rattle.expr_types.proofs.Adding.{on_ok}
 use Rattle.expr_types.proofs.along.pass.Goals as goal
 
+-- at each place: what was found before the op, or else the shape that the op ends, if its key is there
 pub returns-clause-ended : goal.returns-clause-ended
 returns-clause-ended c =
     let rows = c.args.types.now in

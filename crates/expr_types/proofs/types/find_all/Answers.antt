@@ -9,6 +9,7 @@ use Rattle.expr_types.specs.Views.{found_at}
 use Rattle.expr_types.proofs.Adding.{goes_on, next_unit}
 use Rattle.expr_types.proofs.types.find_all.Goals as goal
 
+-- one unit more: what stands first at each place along its tape is added, unless some was found before
 pub loop-unit-preserved : goal.loop-unit-preserved
 loop-unit-preserved c = λ at.
     let rows = c.args.types.now in

@@ -17,6 +17,7 @@ pub show-requires-clause-named : goal.show-requires-clause-named
 show-requires-clause-named c =
     in_lattice c.args.lattices.now c.args.solver.now.lattice c.args.lattice.now c.requires.lattice (NamesElementsIn c.args.graph.now c.args.solver.now.lattice) c.requires.named
 
+-- the bound for which an element is found is exceeded by some element of the lattice
 pub show-requires-clause-exceeded : goal.show-requires-clause-exceeded
 show-requires-clause-exceeded c =
     let some = is_here c.exceeded.result (sym c.is_some.ensures ∙ c.if-is_some.true) c.exceeded.ensures.element in

@@ -5,11 +5,13 @@ use Rattle.flow_query.specs.Ends.{AllEnds}
 use Rattle.flow_query.proofs.Telling.{named_as, no_name}
 use Rattle.flow_query.proofs.answers.answer_who.Goals as goal
 
+-- where no variable is asked of, no declared name has this spelling
 pub returns-then-is_empty : goal.returns-then-is_empty
 returns-then-is_empty c = λ s shows.
     let none : c.in_ok-vars.vars.len ≡ 0 = grind arith in
     no_name s c.args.graph.now c.args.name.now c.in_ok-vars.vars.items (c.in_ok-vars.ensures s shows) (sym c.in_ok-vars.vars.ok.0 ∙ none)
 
+-- the solutions and the ends of the graph are what `answer_found` requires of each lattice
 pub answer_found-requires-clause-found : goal.answer_found-requires-clause-found
 answer_found-requires-clause-found c =
     let sys = c.args.graph.now in
@@ -21,6 +23,7 @@ answer_found-requires-clause-found c =
           (subst (λ (ends : List Ends). AllEnds sys (length c.args.scene.now.lattices.now) ends) (sym c.as_slice-2.ensures.value) c.in_ok-ends.ensures);
     }
 
+-- the text of the variables, behind the line `who`, is the answer for the name
 pub returns : goal.returns
 returns c = λ s shows.
     let told = c.in_ok-text.ensures.part s shows in

@@ -5,6 +5,7 @@ use Rattle.flow_query.proofs.Telling.{next_var}
 use Rattle.flow_query.proofs.Keeping.{for_one}
 use Rattle.flow_query.proofs.answers.put_vars.Goals as goal
 
+-- before the first variable nothing is written
 pub loop-var-init : goal.loop-var-init
 loop-var-init c = record {
   finder = c.requires.finder;
@@ -15,6 +16,7 @@ pub put_var_sections-requires-clause-walks : goal.put_var_sections-requires-clau
 put_var_sections-requires-clause-walks c =
     for_one c.args.found.now.graph.now _ c.args.vars.now c.args.walks.now c.loop-var.var-index c.var-item.result (omega arith) c.var-item.is c.requires.walks
 
+-- what is written of one variable more comes behind the text of those so far
 pub loop-var-preserved : goal.loop-var-preserved
 loop-var-preserved c = record {
   finder = c.in_ok-finder.ensures.finder;

@@ -5,6 +5,7 @@ use Rattle.flow_query.proofs.Ending.{bound_low, constant_low, starts_all, starts
 use Rattle.flow_query.proofs.Those.{those_all, those_none}
 use Rattle.flow_query.proofs.ends.ends_of.Goals as goal
 
+-- before the first constraint no constant and no bound is listed
 pub loop-n-init : goal.loop-n-init
 loop-n-init c =
     let Constants : List ℕ → Type 0 = λ numbers. AreThoseBelow (IsConstant c.args.graph.now c.args.lattice) 0 numbers in
@@ -16,6 +17,7 @@ loop-n-init c =
       starts = subst Starts (sym c.new-starts.ensures.items) (starts_none c.args.graph.now c.args.lattice);
     }
 
+-- one constraint more keeps the lists those of the constants and bounds below the next number
 pub loop-n-preserved : goal.loop-n-preserved
 loop-n-preserved c =
     let sys = c.args.graph.now in
@@ -29,6 +31,7 @@ loop-n-preserved c =
       starts = subst Starts c.new-number.ensures c.in_ok-list_constant.ensures.starts c.loop-n.invariant.starts;
     }
 
+-- behind the last constraint the lists are all constants and bounds, and the starts of all constants in order
 pub returns : goal.returns
 returns c =
     let sys = c.args.graph.now in

@@ -1,6 +1,7 @@
 use Rattle.flow_query.proofs.Listing.{not_in, not_led_from}
 use Rattle.flow_query.proofs.ends.is_candidate.Goals as goal
 
+-- a variable of a constant whose element does not reach the variable asked of does not lead there
 pub returns : goal.returns
 returns c = λ out.
     let section = c.args.section.now in

@@ -4,6 +4,7 @@ use Rattle.std.proofs.lemmas.Bool.{eqb-true}
 use Rattle.flow_query.proofs.Listing.{nothing_led}
 use Rattle.flow_query.proofs.ends.is_unreached.Goals as goal
 
+-- where no element reaches the variable, no constant leads to it
 pub returns : goal.returns
 returns c = λ none.
     let section = c.args.section.now in

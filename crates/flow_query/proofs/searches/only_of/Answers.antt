@@ -3,6 +3,7 @@ use Rattle.flow_query.specs.declared.searches.Finder.{Finder}
 use Rattle.flow_query.specs.Searches.{IsFinder}
 use Rattle.flow_query.proofs.searches.only_of.Goals as goal
 
+-- a search of another lattice or variable leaves its room idle, with nothing set
 pub returns-else-eq-clause-finder : goal.returns-else-eq-clause-finder
 returns-else-eq-clause-finder c =
     let sys = c.args.section.now.graph.now in

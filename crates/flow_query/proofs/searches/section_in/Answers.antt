@@ -1,5 +1,6 @@
 use Rattle.flow_query.proofs.searches.section_in.Goals as goal
 
+-- the solution and the ends of a lattice are those of its section
 pub returns-clause-section : goal.returns-clause-section
 returns-clause-section c = record {
   owned = c.requires.found.owned;

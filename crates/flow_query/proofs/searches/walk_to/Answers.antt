@@ -8,6 +8,7 @@ pub walk-requires-clause-reached : goal.walk-requires-clause-reached
 walk-requires-clause-reached c =
     reached c.args.section.now c.args.search.now c.args.to c.requires.section c.requires.search c.requires.goes
 
+-- a walk that is shown holds, and its sub-paths differ in their ends
 pub returns : goal.returns
 returns c =
     if_ok c.walk.result c.walk.ensures

@@ -6,6 +6,7 @@ use Rattle.flow_query.proofs.Listing.{no_to, one_to, not_led, led}
 use Rattle.flow_query.proofs.Walking.{reach_of}
 use Rattle.flow_query.proofs.sections.put_bound.Goals as goal
 
+-- a bound that the search has not reached is none to which the variable leads, and gives no text
 pub returns-then-not-reaches : goal.returns-then-not-reaches
 returns-then-not-reaches c =
     let section = c.args.section.now in
@@ -16,6 +17,7 @@ returns-then-not-reaches c =
     (λ s shows. NoTo (no_to section.graph.now section.lattice section.var c.args.number c.args.at c.leads_are_walks.ensures
     c.requires.section.owned c.requires.bound (subst From c.requires.start (not_led c.reaches.result tells c.if-not-reaches.true))))
 
+-- a bound that the search has reached is gone to from the variable, as `walk_to` requires
 pub walk_to-requires-clause-goes : goal.walk_to-requires-clause-goes
 walk_to-requires-clause-goes c =
     let section = c.args.section.now in
@@ -23,6 +25,7 @@ walk_to-requires-clause-goes c =
     led c.reaches.result (c.reaches.ensures section.graph.now section.lattice search.start c.requires.section.owned (reach_of section search c.requires.search))
     c.if-not-reaches.false
 
+-- a bound that is reached gives its line and the walk to it
 pub returns : goal.returns
 returns c =
     let section = c.args.section.now in

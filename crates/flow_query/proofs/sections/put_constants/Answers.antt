@@ -9,6 +9,7 @@ use Rattle.flow_query.proofs.Telling.{as_some}
 use Rattle.flow_query.proofs.Those.{all_of, from_place, item_has, next_of}
 use Rattle.flow_query.proofs.sections.put_constants.Goals as goal
 
+-- before the first constant nothing is written of the constraints before it
 pub loop-number-init : goal.loop-number-init
 loop-number-init c =
     let section = c.args.section.now in
@@ -18,6 +19,7 @@ loop-number-init c =
           (λ s text. EachBelow (FromText s section.graph.now section.lattice section.var) 0 text) (λ s shows. NoneBelow);
     }
 
+-- a constant of the list is a constraint of the graph, as `put_from` requires
 pub put_from-requires-clause-number : goal.put_from-requires-clause-number
 put_from-requires-clause-number c =
     let section = c.args.section.now in
@@ -28,6 +30,7 @@ put_from-requires-clause-number c =
     constant_low sys section.lattice c.number-item.result
     (item_has (IsConstant sys section.lattice) items those c.loop-number.number-index c.number-item.result (omega arith) c.number-item.is)
 
+-- what is written of one constant more comes behind the text of the constraints before it
 pub loop-number-preserved : goal.loop-number-preserved
 loop-number-preserved c =
     let section = c.args.section.now in
@@ -46,6 +49,7 @@ loop-number-preserved c =
           (no_from_text s sys section.lattice section.var) place c.number-item.result text here (omega arith) c.number-item.is before next);
     }
 
+-- behind the last constant the text is that of all constraints
 pub returns : goal.returns
 returns c =
     let section = c.args.section.now in

@@ -4,6 +4,7 @@ use Rattle.annotate.proofs.Writing.{none_of}
 use Rattle.flow_query.proofs.Those.{none_below}
 use Rattle.flow_query.proofs.sections.put_froms.Goals as goal
 
+-- where no element reaches the variable, no constraint gives a text before it
 pub returns-then-is_unreached : goal.returns-then-is_unreached
 returns-then-is_unreached c =
     let section = c.args.section.now in

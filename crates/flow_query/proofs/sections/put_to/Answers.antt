@@ -2,6 +2,7 @@ use Rattle.flow_query.specs.Answers.{ToText, NoTo}
 use Rattle.annotate.proofs.Writing.{none_of}
 use Rattle.flow_query.proofs.sections.put_to.Goals as goal
 
+-- a constraint that is no bound gives no text
 pub returns-in-None : goal.returns-in-None
 returns-in-None c =
     let section = c.args.section.now in

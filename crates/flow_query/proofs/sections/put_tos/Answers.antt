@@ -10,6 +10,7 @@ use Rattle.flow_query.proofs.Telling.{as_some}
 use Rattle.flow_query.proofs.Those.{all_of, from_place, item_has, next_of}
 use Rattle.flow_query.proofs.sections.put_tos.Goals as goal
 
+-- before the first bound nothing is written of the constraints before it
 pub loop-number-init : goal.loop-number-init
 loop-number-init c =
     let section = c.args.section.now in
@@ -19,6 +20,7 @@ loop-number-init c =
           (λ s text. EachBelow (ToText s section.graph.now section.lattice section.var) 0 text) (λ s shows. NoneBelow);
     }
 
+-- a bound of the list is a constraint of the graph, as `put_to` requires
 pub put_to-requires-clause-number : goal.put_to-requires-clause-number
 put_to-requires-clause-number c =
     let section = c.args.section.now in
@@ -29,6 +31,7 @@ put_to-requires-clause-number c =
     bound_low sys section.lattice c.number-item.result
     (item_has (IsBound sys section.lattice) items those c.loop-number.number-index c.number-item.result (omega arith) c.number-item.is)
 
+-- what is written of one bound more comes behind the text of the constraints before it
 pub loop-number-preserved : goal.loop-number-preserved
 loop-number-preserved c =
     let section = c.args.section.now in
@@ -47,6 +50,7 @@ loop-number-preserved c =
           (no_to_text s sys section.lattice section.var) place c.number-item.result text here (omega arith) c.number-item.is before next);
     }
 
+-- behind the last bound the text is that of all constraints
 pub returns-clause-text : goal.returns-clause-text
 returns-clause-text c =
     let section = c.args.section.now in
@@ -63,6 +67,7 @@ returns-clause-text c =
     all_of (ToText s sys section.lattice section.var) (IsBound sys section.lattice) items those
     (no_to_text s sys section.lattice section.var) place (length sys.constraints) text end (bound_low sys section.lattice) each)
 
+-- where the lattice has no bound, no constraint gives a text behind the variable
 pub returns-then-is_empty-clause-text : goal.returns-then-is_empty-clause-text
 returns-then-is_empty-clause-text c =
     let section = c.args.section.now in

@@ -4,6 +4,7 @@ use Rattle.flow_query.specs.Answers.{EachBelow, ToText}
 use Rattle.flow_query.proofs.Those.{from_place}
 use Rattle.flow_query.proofs.sections.put_tos.Given as goal
 
+-- invariant of the loop: what is written is the text of all constraints before the next bound
 abbrev pub invariant-loop-number : goal.invariant-loop-number
 invariant-loop-number l = record {
   low : l.number-index ≤ length l.bounds;

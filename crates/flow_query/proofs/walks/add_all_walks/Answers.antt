@@ -1,6 +1,7 @@
 use Rattle.flow_query.proofs.Keeping.{next_walks}
 use Rattle.flow_query.proofs.walks.add_all_walks.Goals as goal
 
+-- the walks of one lattice more come behind those of the lattices so far
 pub loop-n-preserved : goal.loop-n-preserved
 loop-n-preserved c =
     let pushed = c.in_ok-finder.ensures.pushed in

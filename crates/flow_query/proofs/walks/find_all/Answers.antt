@@ -5,12 +5,14 @@ use Rattle.flow_query.specs.Walks.{AllDone}
 use Rattle.flow_query.proofs.Keeping.{all_next, all_taken, at_index, starts_done}
 use Rattle.flow_query.proofs.walks.find_all.Goals as goal
 
+-- a start of the list is a constant of the graph, as `find_next` requires
 pub find_next-requires-clause-constant : goal.find_next-requires-clause-constant
 find_next-requires-clause-constant c =
     let own = c.requires.found.ends.each c.args.lattice c.ends_in.result.now c.ends_in.ensures in
     let Of : List Constant → Type 0 = λ list. Contains list c.start-item.result in
     own.starts.only c.start-item.result (subst Of c.as_slice-starts.ensures.value (at_index c.as_slice-starts.result.now c.loop-start.start-index c.start-item.result (omega arith) c.start-item.is))
 
+-- the walks of one start more keep those of the starts so far
 pub loop-start-preserved : goal.loop-start-preserved
 loop-start-preserved c =
     let sys = c.args.found.now.graph.now in
@@ -24,6 +26,7 @@ loop-start-preserved c =
           c.in_ok-finder.ensures.done;
     }
 
+-- behind the last start all walks from the variables of constants are there
 pub returns-clause-done : goal.returns-clause-done
 returns-clause-done c =
     let sys = c.args.found.now.graph.now in

@@ -5,6 +5,7 @@ use Rattle.flow_query.specs.Searches.{IsFinder}
 use Rattle.flow_query.specs.Walks.{AllDone, AreSound}
 use Rattle.flow_query.proofs.walks.find_all.Given as goal
 
+-- invariant of the loop: the walks lead as they show, and from the starts so far none is wanting
 abbrev pub invariant-loop-start : goal.invariant-loop-start
 invariant-loop-start l = record {
   finder : IsFinder l.found.graph.now l.finder;

@@ -5,12 +5,14 @@ use Rattle.flow_query.specs.Walks.{AreSound, IsDone, StaysDone}
 use Rattle.flow_query.proofs.Keeping.{all_next, all_taken, moved}
 use Rattle.flow_query.proofs.walks.find_from.Goals as goal
 
+-- the walks of the lattice are shown to lead in the section of each variable
 pub find_walk-requires-clause-sound : goal.find_walk-requires-clause-sound
 find_walk-requires-clause-sound c =
     let section = c.section_in-section.result in
     moved (λ s l. AreSound s l c.loop-var.walks) c.args.found.now.graph.now section.graph.now c.args.lattice section.lattice
     (sym c.section_in-section.ensures.graph) (sym c.section_in-section.ensures.lattice) c.loop-var.invariant.sound
 
+-- the walk to one variable more keeps those to the variables so far
 pub loop-var-preserved : goal.loop-var-preserved
 loop-var-preserved c =
     let section = c.section_in-section.result in

@@ -3,6 +3,7 @@ use Rattle.flow_query.specs.Walks.{StartsDone}
 use Rattle.flow_query.proofs.Keeping.{done_for_all}
 use Rattle.flow_query.proofs.walks.push_walks.Goals as goal
 
+-- the walks to the reached variables are those to all, as no constant leads to the others
 pub returns-clause-pushed : goal.returns-clause-pushed
 returns-clause-pushed c =
     let sys = c.args.found.now.graph.now in

@@ -3,6 +3,7 @@ use Rattle.flow_query.specs.Walks.{IsKept}
 use Rattle.flow_query.proofs.Keeping.{all_next, all_taken, kept_on}
 use Rattle.flow_query.proofs.walks.reached_of.Goals as goal
 
+-- one variable more is kept, or no constant leads to it, and those so far stay
 pub loop-var-preserved : goal.loop-var-preserved
 loop-var-preserved c =
     let sys = c.args.found.now.graph.now in

@@ -3,6 +3,7 @@ use Rattle.std.specs.Fmt.{decimal}
 use Rattle.std.proofs.lemmas.Result.{on_ok_weaker}
 use Rattle.generated_source.proofs.source.put_caller.Goals as goal
 
+-- the line of a function that calls another one twice is written behind what was there
 pub returns : goal.returns
 returns c =
     on_ok_weaker c.put.result (λ put.

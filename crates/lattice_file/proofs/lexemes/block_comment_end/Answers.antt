@@ -1,6 +1,7 @@
 use Rattle.lattice_file.proofs.GapLemmas.{comment_found}
 use Rattle.lattice_file.proofs.lexemes.block_comment_end.Goals as goal
 
+-- the first star before a slash is the end of the comment
 pub returns-then-bytes-at-eq47-clause-comment : goal.returns-then-bytes-at-eq47-clause-comment
 returns-then-bytes-at-eq47-clause-comment c =
     let so_far = c.loop-at.invariant in

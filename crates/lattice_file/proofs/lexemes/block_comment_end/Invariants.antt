@@ -1,6 +1,7 @@
 use Rattle.std.proofs.Common.{◌≡◌, ℕ, ◌<◌, ◌≤◌, ◌+◌, ◌-◌, length, get_or}
 use Rattle.lattice_file.proofs.lexemes.block_comment_end.Given as goal
 
+-- the place is at or behind the start, and no star before a slash stands between them
 abbrev pub invariant-loop-at : goal.invariant-loop-at
 invariant-loop-at l = record {
   later : l.from ≤ l.at;

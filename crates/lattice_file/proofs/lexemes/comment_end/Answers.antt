@@ -19,6 +19,7 @@ pub returns-in-47-clause-gap : goal.returns-in-47-clause-gap
 returns-in-47-clause-gap c =
     line_comment c.args.bytes.now c.args.at c.line_end.result c.line_end.ensures.later c.line_end.ensures.within c.requires.slash c.in-47.is c.line_end.ensures.line
 
+-- a slash with neither a star nor a slash behind it fails as a comment
 pub returns-in_default-clause-fails : goal.returns-in_default-clause-fails
 returns-in_default-clause-fails c =
     let inside : c.args.at + 1 < length c.args.bytes.now = omega (arith, c.requires.within, c.if-at-bytes.false) in

@@ -2,6 +2,7 @@ use Rattle.std.proofs.Common.{◌≡◌, ℕ, ◌<◌, ◌≤◌, ◌-◌, true,
 use Rattle.lattice_file.specs.Text.{stays_on_line}
 use Rattle.lattice_file.proofs.lexemes.line_end.Given as goal
 
+-- the place is at or behind the start, and no line feed stands between them
 abbrev pub invariant-loop-at : goal.invariant-loop-at
 invariant-loop-at l = record {
   later : l.from ≤ l.at;

@@ -1,6 +1,7 @@
 use Rattle.std.proofs.Common.{◌≡◌, ◌≤◌, ◌-◌, length, take}
 use Rattle.lattice_file.proofs.lexemes.shared_front.Given as goal
 
+-- both texts go on to this place at least, and are the same up to it
 abbrev pub invariant-loop-at : goal.invariant-loop-at
 invariant-loop-at l = record {
   first : l.at ≤ length l.word;

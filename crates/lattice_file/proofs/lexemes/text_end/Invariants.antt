@@ -2,6 +2,7 @@ use Rattle.std.proofs.Common.{◌≡◌, ℕ, ◌<◌, ◌≤◌, ◌-◌, true,
 use Rattle.lattice_file.specs.Text.{stands_in_text}
 use Rattle.lattice_file.proofs.lexemes.text_end.Given as goal
 
+-- the place is at or behind the start, and neither a quote nor a line feed stands between them
 abbrev pub invariant-loop-at : goal.invariant-loop-at
 invariant-loop-at l = record {
   later : l.from ≤ l.at;

@@ -3,6 +3,7 @@ use Rattle.lattice_file.specs.Steps.{if_flow}
 use Rattle.lattice_file.proofs.FrontLemmas.{front_either}
 use Rattle.lattice_file.proofs.passing.name_front.Goals as goal
 
+-- the front of a block's attribute that it does not have yet is the longer of those of both
 pub returns : goal.returns
 returns c =
     let flows = c.args.flows.now in

@@ -3,6 +3,7 @@ use Rattle.std.proofs.Common.{◌==◌}
 use Rattle.lattice_file.proofs.PlaceLemmas.{line_on, column_on, line_bound, column_bound}
 use Rattle.lattice_file.proofs.places.line_and_column.Goals as goal
 
+-- one more byte moves the line and the column as a line feed or another byte does
 pub loop-byte-preserved : goal.loop-byte-preserved
 loop-byte-preserved c =
     let front = take c.args.place c.args.bytes.now in

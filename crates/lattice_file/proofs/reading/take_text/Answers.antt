@@ -7,6 +7,7 @@ use Rattle.lattice_file.proofs.LexemeLemmas.{text_goes, text_fails, text_line, s
 use Rattle.lattice_file.proofs.reading.take_text.Goals.{then-end-bytes-via-then-end-bytes, then-end-bytes-via-else-end-bytes+then-bytes-end-ne34}
 use Rattle.lattice_file.proofs.reading.take_text.Goals as goal
 
+-- a colour text that no quote closes on its line fails where that ends
 pub returns-then-end-bytes-clause-fails : goal.returns-then-end-bytes-clause-fails
 returns-then-end-bytes-clause-fails c =
     let old = standing_of c.args.reader.now in
@@ -27,6 +28,7 @@ returns-then-end-bytes-clause-fails c =
     stop end bytes (inl e) other = absurd (other e)
     stop end bytes (inr e) other = e
 
+-- a colour text with its closing quote goes on behind it
 pub returns-clause-goes : goal.returns-clause-goes
 returns-clause-goes c =
     text_goes (standing_of c.args.reader.now) (standing_of c.take_text.new.self) c.args.bytes.now c.args.at c.text_end-end.result (omega (arith, c.text_end-end.ensures.later))

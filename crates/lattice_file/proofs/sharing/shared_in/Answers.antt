@@ -4,6 +4,7 @@ use Rattle.lattice_core.specs.Order.{size}
 use Rattle.lattice_file.proofs.ShareLemmas.{shared_on, shared_within, apart_at, named_at}
 use Rattle.lattice_file.proofs.sharing.shared_in.Goals as goal
 
+-- an element whose name no earlier lattice has joins those before it
 pub loop-elem-preserved : goal.loop-elem-preserved
 loop-elem-preserved c =
     let lattice = c.get-lattice.result.now in
@@ -12,6 +13,7 @@ loop-elem-preserved c =
     shared_on c.args.all.now c.args.at c.loop-elem.elem c.name_of-name.result.now lattice there named
     (apart_at c.args.all.now c.args.at c.name_of-name.result.now c.is_named_before.result c.if-is_named_before.false c.is_named_before.ensures) c.loop-elem.invariant
 
+-- when no element is left, the lattice shares no name with an earlier one
 pub returns : goal.returns
 returns c elem name shared =
     let lattice = c.get-lattice.result.now in
@@ -23,6 +25,7 @@ returns c elem name shared =
     let under : elem < c.loop-elem.elem = omega arith in
     c.loop-elem.invariant elem name under shared
 
+-- the first element whose name an earlier lattice has is the first that is shared
 pub returns-then-is_named_before : goal.returns-then-is_named_before
 returns-then-is_named_before c =
     let lattice = c.get-lattice.result.now in

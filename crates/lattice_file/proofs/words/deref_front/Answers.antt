@@ -5,6 +5,7 @@ use Rattle.lattice_file.specs.Steps.{only_if}
 use Rattle.lattice_file.proofs.FrontLemmas.{front_either, front_only, front_allowed}
 use Rattle.lattice_file.proofs.words.deref_front.Goals as goal
 
+-- the front of a value of `deref` is the longer of those of `yes` and `access`, in wider C
 pub returns : goal.returns
 returns c =
     let wide = c.args.wide in

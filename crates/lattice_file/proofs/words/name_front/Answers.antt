@@ -5,6 +5,7 @@ use Rattle.lattice_file.specs.Extents.{IsFront}
 use Rattle.lattice_file.proofs.FrontLemmas.{front_or}
 use Rattle.lattice_file.proofs.words.name_front.Goals as goal
 
+-- the front of an element's name is the longest of a name with a dollar and of C's three qualifiers
 pub returns : goal.returns
 returns c =
     let word = c.args.word.now in

@@ -7,6 +7,7 @@ use Rattle.lattice_file.specs.Extents.{IsFront}
 use Rattle.lattice_file.proofs.FrontLemmas.{front_either, front_only}
 use Rattle.lattice_file.proofs.words.sign_front.Goals as goal
 
+-- the front of a sign is the longest of those of `pos`, `neg` and `eq`
 pub returns : goal.returns
 returns c =
     let word = c.args.word.now in

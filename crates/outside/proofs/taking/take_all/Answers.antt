@@ -5,6 +5,7 @@ use Rattle.outside.specs.declared.traits.Failed.{Failed}
 use Rattle.outside.proofs.Steps.{broke, moved, ended_so, reads_one}
 use Rattle.outside.proofs.taking.take_all.Goals as goal
 
+-- a call that fails is a read fault, and leaves one broken reading
 pub returns-in-Err : goal.returns-in-Err
 returns-in-Err g c =
     let files = g.F.Files in
@@ -21,6 +22,7 @@ returns-in-Err g c =
       );
     }
 
+-- a call that gives nothing ends the reading, whose bytes are all that were taken
 pub returns-then-count-eq0 : goal.returns-then-count-eq0
 returns-then-count-eq0 g c =
     let files = g.F.Files in
@@ -37,6 +39,7 @@ returns-then-count-eq0 g c =
       );
     }
 
+-- want of memory for bytes that were given leaves a reading that is not broken
 pub returns-then-is_err-2 : goal.returns-then-is_err-2
 returns-then-is_err-2 g c =
     let files = g.F.Files in
@@ -53,6 +56,7 @@ returns-then-is_err-2 g c =
       );
     }
 
+-- more bytes than the limit are too large, and leave a reading that goes on
 pub returns : goal.returns
 returns g c =
     let files = g.F.Files in
@@ -67,6 +71,7 @@ returns g c =
       );
     }
 
+-- one more piece joins what was taken and the reading, within the limit and one
 pub loop-buffer-preserved : goal.loop-buffer-preserved
 loop-buffer-preserved g c =
     let new : c.extend_from_slice.new.self.items ≡ c.loop-buffer.taken.items ++ take c.in-Ok-next.count c.next.new.into = grind (arith, common_steps) in

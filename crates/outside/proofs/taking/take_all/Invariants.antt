@@ -2,6 +2,7 @@ use Rattle.std.proofs.Common.{◌≡◌, ◌≤◌, ◌+◌, ◌-◌, [], ◌∷
 use Rattle.outside.specs.Readings.{Agrees, Going}
 use Rattle.outside.proofs.taking.take_all.Given as goal
 
+-- the log has one reading more, with the bytes taken so far, of which there are at most one over the limit
 abbrev pub invariant-loop-buffer : goal.invariant-loop-buffer
 invariant-loop-buffer g l = record {
   contents : g.F.Files.contents l.files ≡ g.F.Files.contents l.fn.files;

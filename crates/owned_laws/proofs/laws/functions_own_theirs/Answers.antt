@@ -1,6 +1,7 @@
 use Rattle.owned_laws.proofs.Whole.{functions_own_theirs}
 use Rattle.owned_laws.proofs.laws.functions_own_theirs.Goals as goal
 
+-- each function owns the variables of its skeleton, in units that were read and differ in number
 pub returns : goal.returns
 returns c = functions_own_theirs (record {
   tapes = c.tapes_fit.ensures;

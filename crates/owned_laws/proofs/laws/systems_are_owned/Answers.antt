@@ -1,6 +1,7 @@
 use Rattle.owned_laws.proofs.Whole.{systems_are_owned}
 use Rattle.owned_laws.proofs.laws.systems_are_owned.Goals as goal
 
+-- the system of units that were read and differ in number is well owned
 pub returns : goal.returns
 returns c = systems_are_owned (record {
   tapes = c.tapes_fit.ensures;

@@ -3,6 +3,7 @@ use Rattle.owned_laws.proofs.Found.{Laws, Setting}
 use Rattle.owned_laws.proofs.Steps.{tape_fits, nothing_in}
 use Rattle.owned_laws.proofs.laws.tapes_fit.Goals as goal
 
+-- where each op of a tape fits in one function, so do the constraints of the tape
 pub returns : goal.returns
 returns c functions starts cs w f tape settled fits = tape_fits k tape nothing (nothing_in k) tt fits
   where

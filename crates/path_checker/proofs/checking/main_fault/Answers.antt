@@ -3,6 +3,7 @@ use Rattle.flow_graph.specs.PathProofs.{steps_of}
 use Rattle.path_checker.proofs.Sameness.{first_is, main_parts, second_is}
 use Rattle.path_checker.proofs.checking.main_fault.Goals as goal
 
+-- a fault of the first step is the first fault of the proof
 pub returns-in-Some : goal.returns-in-Some
 returns-in-Some c =
     let found = rw c.deref.ensures.value at c.in-Some.ensures in
@@ -10,6 +11,7 @@ returns-in-Some c =
     first_is _ _ _ (sym found)
     ∙ main_parts c.args.graph.now c.args.lattices.now c.args.lattice c.args.elem (steps_of p.subs.items) c.args.first.now c.args.rest.now p.end
 
+-- where the first step has no fault, one of the sub-paths is the first
 pub returns-in-Some-subs_fault : goal.returns-in-Some-subs_fault
 returns-in-Some-subs_fault c =
     let none = rw c.deref.ensures.value at c.in_default.ensures in
@@ -18,6 +20,7 @@ returns-in-Some-subs_fault c =
     second_is _ _ _ (sym none) (first_is _ _ _ (sym found))
     ∙ main_parts c.args.graph.now c.args.lattices.now c.args.lattice c.args.elem (steps_of p.subs.items) c.args.first.now c.args.rest.now p.end
 
+-- where first step and sub-paths have no fault, one of the main path is the first
 pub returns-in-Some-path_fault : goal.returns-in-Some-path_fault
 returns-in-Some-path_fault c =
     let none = rw c.deref.ensures.value at c.in_default.ensures in
@@ -27,6 +30,7 @@ returns-in-Some-path_fault c =
     second_is _ _ _ (sym none) (second_is _ _ _ (sym none_inside) (first_is _ _ _ (sym found)))
     ∙ main_parts c.args.graph.now c.args.lattices.now c.args.lattice c.args.elem (steps_of p.subs.items) c.args.first.now c.args.rest.now p.end
 
+-- where all steps hold, what is left is whether the main path ends in a bound
 pub returns : goal.returns
 returns c =
     let none = rw c.deref.ensures.value at c.in_default.ensures in

@@ -4,6 +4,7 @@ use Rattle.path_checker.specs.Walks.{behind, faults_for}
 use Rattle.path_checker.proofs.Stepping.{Walked}
 use Rattle.path_checker.proofs.checking.path_fault.Given as goal
 
+-- the fault of the steps that are left, behind those that were passed, is the fault of the whole path
 abbrev pub invariant-steps : goal.invariant-steps
 invariant-steps l =
     let see = look l.graph (steps_of l.earlier) in

@@ -5,6 +5,7 @@ use Rattle.path_checker.specs.Lines.{capped}
 use Rattle.path_checker.proofs.Numbers.{number_behind-capped, number_behind-digit}
 use Rattle.path_checker.proofs.lines.number_behind.Goals as goal
 
+-- one more digit is read behind the number so far, up to the greatest number of 32 bits
 pub loop-digit-preserved : goal.loop-digit-preserved
 loop-digit-preserved c =
     let ds = c.args.digits.now in

@@ -3,6 +3,7 @@ use Rattle.std.proofs.lemmas.List.{take_rest}
 use Rattle.path_checker.proofs.Splits.{split_found, split_whole}
 use Rattle.path_checker.proofs.lines.split_at_first.Goals as goal
 
+-- a text is cut at a byte into what stands before it and the pieces of what stands behind it
 pub returns-in-Some-clause-parts : goal.returns-in-Some-clause-parts
 returns-in-Some-clause-parts c =
     rw (take_rest, add-one)

@@ -4,6 +4,7 @@ use Rattle.path_checker.specs.Lines.{lines_of}
 use Rattle.path_checker.proofs.Reading.{Stands, stands_before, fails_here, takes_here}
 use Rattle.path_checker.proofs.report.read_lines.Goals as goal
 
+-- a line that fails behind such as were taken is the first fault of the report
 pub returns-in_err-take_line-clause-fault : goal.returns-in_err-take_line-clause-fault
 returns-in_err-take_line-clause-fault c =
     let here : Stands c.args.edges (lines_of c.args.bytes.now) c.lines.reader c.lines.number (c.line_kind.result ∷ lines_of c.in-Some.behind.now) =
@@ -11,6 +12,7 @@ returns-in_err-take_line-clause-fault c =
     let p = err_from_is_err_and c.from_residual.result c.from_residual.ensures.1 in
     rw (p.1, p.2) (fails_here _ _ _ _ _ _ _ here c.in_err-take_line.ensures.err)
 
+-- a line that is taken leads to the state behind it, with one line fewer to read
 pub lines-preserved : goal.lines-preserved
 lines-preserved c =
     let here : Stands c.args.edges (lines_of c.args.bytes.now) c.lines.reader c.lines.number (c.line_kind.result ∷ lines_of c.in-Some.behind.now) =

@@ -30,6 +30,7 @@ pub returns-clause-reads : goal.returns-clause-reads
 returns-clause-reads c =
     on_ok_weaker c.read_lines.result (passing_is_report c.args.edges (lines_of c.args.bytes.now)) c.read_lines.ensures.passes
 
+-- where the lines are a report, only want of memory is a failure
 pub returns-clause-each : goal.returns-clause-each
 returns-clause-each c is =
     only_memory c.read_lines.result (report_fault c.args.edges (lines_of c.args.bytes.now)) (report_passes c.args.edges (lines_of c.args.bytes.now) is)

@@ -21,12 +21,14 @@ annotate-returns-in_err-annotate_root-clause-err t c =
     (λ w s. stops_at_node w (type c.args.known.now c.args.ty) (skel c.args.known.now c.args.at) c.args.graph.now
     c.annotate_root.new.graph c.annotate_root.new.graph c.in_err-annotate_root.field-0.0 (c.in_err-annotate_root.ensures.err w s))
 
+-- the annotations of the outermost constructor, then those inside it, are those of the skeleton of a type
 pub annotate-returns-clause-ok : goal.annotate-returns-clause-ok
 annotate-returns-clause-ok t c = on_ok_weaker c.annotate_inside.result
     (λ is w s. node_added w (type c.args.known.now c.args.ty) (skel c.args.known.now c.args.at) c.args.graph.now
     c.annotate_root.new.graph c.annotate_inside.new.graph NoMemory (c.in_ok-annotate_root.ensures.ok w s) (is w s))
     c.annotate_inside.ensures.ok
 
+-- where the annotations inside a constructor halt, those of the skeleton halt behind its own
 pub annotate-returns-clause-err : goal.annotate-returns-clause-err
 annotate-returns-clause-err t c = IfErr-weaker c.annotate_inside.result
     (λ fault. Halts c.args.known.now c.annotate_root.new.graph c.annotate_inside.new.graph fault
@@ -51,6 +53,7 @@ annotate_function-returns-in_err-annotate-clause-err t c =
     (subst (λ x. StopsEarly c.annotate_all.new.graph c.annotate.new.graph c.in_err-annotate.field-0.0
     (rules.annotating w (type k c.args.back) x)) c.outcome.ensures.outcome (c.in_err-annotate.ensures.err w s))))
 
+-- where the annotations of further arguments halt, those of the function halt behind its parameters and its result
 pub annotate_function-returns-clause-err : goal.annotate_function-returns-clause-err
 annotate_function-returns-clause-err t c = IfErr-weaker c.annotate_further.result
     (λ fault. Halts c.args.known.now c.annotate.new.graph c.annotate_further.new.graph fault

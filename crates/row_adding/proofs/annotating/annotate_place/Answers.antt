@@ -5,6 +5,7 @@ use Rattle.row_adding.specs.Adding.{Halts}
 use Rattle.row_adding.proofs.Noding.{stops_inside_place}
 use Rattle.row_adding.proofs.annotating.annotate_place.Goals as goal
 
+-- where the annotations of what a place holds halt, those of the place halt behind those of its reference
 pub returns-clause-err : goal.returns-clause-err
 returns-clause-err c = IfErr-weaker c.annotate.result
     (λ fault. Halts c.args.known.now c.annotate_outer.new.graph c.annotate.new.graph fault

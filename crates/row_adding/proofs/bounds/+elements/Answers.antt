@@ -3,6 +3,7 @@ use Rattle.row_adding.specs.Parts.{has}
 use Rattle.row_adding.proofs.Bounding.{entry_added_at}
 use Rattle.row_adding.proofs.bounds.+elements.Goals as goal
 
+-- the bound of an element, where it has the attribute, and those behind it are the bounds of the elements from it on
 pub returns-clause-ok : goal.returns-clause-ok
 returns-clause-ok t c = on_ok_weaker c.add_bounds_of.result
     (λ rest. entry_added_at (has c.args.attribute) c.args.var c.args.span.now c.args.number c.args.n c.new-elem.result

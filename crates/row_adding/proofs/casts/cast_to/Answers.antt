@@ -4,6 +4,7 @@ use Rattle.row_world.specs.Shown.{skel, type}
 use Rattle.row_adding.proofs.Behind.{halts_behind}
 use Rattle.row_adding.proofs.casts.cast_to.Goals as goal
 
+-- where annotations and flow of a cast halt, it halts behind what passes inside its skeleton
 pub returns-clause-err : goal.returns-clause-err
 returns-clause-err c =
     let k = c.args.known.now in

@@ -6,6 +6,7 @@ use Rattle.row_adding.specs.Parts.{cast_row}
 use Rattle.row_adding.proofs.Lists.{stop_back}
 use Rattle.row_adding.proofs.casts.casting.Goals as goal
 
+-- where the flow of a cast's operand halts, the cast halts behind the annotations of its type
 pub returns-clause-err : goal.returns-clause-err
 returns-clause-err c =
     let k = c.args.known.now in

@@ -7,11 +7,13 @@ use Rattle.row_adding.specs.Adding.{Halts}
 use Rattle.row_adding.proofs.Lists.{with_all, stop_all}
 use Rattle.row_adding.proofs.flows.unsmash_in_all.Goals as goal
 
+-- one variable that flows into a skeleton adds its links in all lattices of each world
 pub returns-clause-ok : goal.returns-clause-ok
 returns-clause-ok c = on_ok_weaker c.unsmash.result
     (λ is w s. with_all c.args.graph.now c.unsmash.new.graph c.all_lattices.result (all_lattices w) c.args.span.now
     (unsmash c.args.from (skel c.args.known.now c.args.to)) (c.all_lattices.ensures w s) is) c.unsmash.ensures.ok
 
+-- where the flow of one variable into a skeleton stops, it halts in the links of all lattices
 pub returns-clause-err : goal.returns-clause-err
 returns-clause-err c = IfErr-weaker c.unsmash.result
     (λ fault. Stops c.args.graph.now c.unsmash.new.graph fault (marked c.all_lattices.result c.args.span.now (unsmash c.args.from (skel c.args.known.now c.args.to))))

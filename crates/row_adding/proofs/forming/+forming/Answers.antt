@@ -10,6 +10,7 @@ use Rattle.row_adding.proofs.Lists.{stop_front, with_append}
 use Rattle.row_adding.proofs.Behind.{halts_behind}
 use Rattle.row_adding.proofs.forming.+forming.Goals as goal
 
+-- where what passes inside what a pointer points to halts, the pointer halts behind what passes between both
 pub form_pointer-returns-clause-err : goal.form_pointer-returns-clause-err
 form_pointer-returns-clause-err t c =
     let k = c.args.known.now in
@@ -18,6 +19,7 @@ form_pointer-returns-clause-err t c =
     (λ w. pointing ways c.args.span.now c.args.pointer (root (skel k c.args.inside))) (λ w. formed_in ways w.skeletons w.names.aggregates c.args.span.now (skel k c.args.inside))
     c.in_ok-point.ensures.ok c.form_in.ensures.err
 
+-- where what passes between a pointer and what it points to halts, the pointer halts there
 pub form_pointer-returns-in_err-point-clause-err : goal.form_pointer-returns-in_err-point-clause-err
 form_pointer-returns-in_err-point-clause-err t c =
     let k = c.args.known.now in
@@ -28,6 +30,7 @@ form_pointer-returns-in_err-point-clause-err t c =
     (pointing ways c.args.span.now c.args.pointer (root (skel k c.args.inside))) (formed_in ways w.skeletons w.names.aggregates c.args.span.now (skel k c.args.inside))
     (c.in_err-point.ensures.err w s))
 
+-- what passes between a pointer and what it points to, then inside that, is what passes inside the pointer
 pub form_pointer-returns-clause-ok : goal.form_pointer-returns-clause-ok
 form_pointer-returns-clause-ok t c =
     let k = c.args.known.now in
@@ -38,6 +41,7 @@ form_pointer-returns-clause-ok t c =
     let two = formed_in ways w.skeletons w.names.aggregates c.args.span.now (skel k c.args.inside) in
     is w s ∙ ap (λ g. with g two) (c.in_ok-point.ensures.ok w s) ∙ sym (with_append c.args.graph.now one two)) c.form_in.ensures.ok
 
+-- where what passes inside the result halts, the function halts behind what passes inside its parameters
 pub form_function-returns-clause-err : goal.form_function-returns-clause-err
 form_function-returns-clause-err t c =
     let k = c.args.known.now in

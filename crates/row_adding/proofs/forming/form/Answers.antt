@@ -7,6 +7,7 @@ use Rattle.row_adding.specs.Forming.{ways_of}
 use Rattle.row_adding.proofs.Passing.{none_formed}
 use Rattle.row_adding.proofs.forming.form.Goals as goal
 
+-- where nothing passes in any lattice, the graph has what passes inside a skeleton as it is
 pub returns-then-passes_none-clause-ok : goal.returns-then-passes_none-clause-ok
 returns-then-passes_none-clause-ok c =
     let k = c.args.known.now in

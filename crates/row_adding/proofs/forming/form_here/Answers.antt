@@ -8,6 +8,7 @@ use Rattle.row_world.specs.Shown.{skel}
 use Rattle.row_adding.specs.Adding.{Halts, StopsEarly}
 use Rattle.row_adding.proofs.forming.form_here.Goals as goal
 
+-- what passes inside the skeleton of one token is that of the span of this token
 pub returns-clause-ok : goal.returns-clause-ok
 returns-clause-ok c =
     let k = c.args.known.now in
@@ -16,6 +17,7 @@ returns-clause-ok c =
     ∙ (ap (λ span. with c.args.graph.now (formed w span (skel k c.own-at.result))) (c.span-span.ensures w s)
     ∙ ap (λ t. with c.args.graph.now (formed w (span_of w c.args.token c.args.token) t)) (c.own-at.ensures w s))) c.form.ensures.ok
 
+-- where what passes inside the skeleton of one token halts, it halts in the row of this token
 pub returns-clause-err : goal.returns-clause-err
 returns-clause-err c =
     let k = c.args.known.now in

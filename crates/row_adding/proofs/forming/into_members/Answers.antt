@@ -9,6 +9,7 @@ use Rattle.row_adding.specs.Forming.{into_one, ways_of}
 use Rattle.row_adding.proofs.Rowing.{one_added, stops_at_one}
 use Rattle.row_adding.proofs.forming.into_members.Goals as goal
 
+-- what passes into one member more comes behind what passes into the members so far
 pub loop-it-preserved : goal.loop-it-preserved
 loop-it-preserved c =
     let test = c.loop-it-test.true in
@@ -18,6 +19,7 @@ loop-it-preserved c =
     c.args.graph.now c.loop-it.graph c.into_own.new.graph c.args.own.now c.loop-it.it-index c.it-item.result
     c.it-item.is within (c.loop-it.invariant w s) (c.in_ok-into_own.ensures.ok w s)
 
+-- where what passes into a member halts, that into all members halts there
 pub returns-in_err-into_own-clause-err : goal.returns-in_err-into_own-clause-err
 returns-in_err-into_own-clause-err c =
     let test = c.loop-it-test.true in

@@ -5,6 +5,7 @@ use Rattle.row_adding.specs.Indexing.{all_below_in, below_in, indexed_of}
 use Rattle.row_adding.proofs.Rowing.{one_added, stops_at_one}
 use Rattle.row_adding.proofs.indexing.add_all.Goals as goal
 
+-- the links of one node more come behind those of the nodes so far
 pub loop-it-preserved : goal.loop-it-preserved
 loop-it-preserved c =
     let test = c.loop-it-test.true in
@@ -14,6 +15,7 @@ loop-it-preserved c =
     c.args.graph.now c.loop-it.graph c.add_each.new.graph c.args.nodes.now c.loop-it.it-index c.it-item.result
     c.it-item.is within c.loop-it.invariant c.in_ok-add_each.ensures.ok
 
+-- where the links of a node halt, those of all nodes halt there
 pub returns-in_err-add_each-clause-err : goal.returns-in_err-add_each-clause-err
 returns-in_err-add_each-clause-err c =
     let test = c.loop-it-test.true in

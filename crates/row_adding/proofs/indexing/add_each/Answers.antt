@@ -5,6 +5,7 @@ use Rattle.row_adding.specs.Indexing.{below_in, below_one, indexed_of}
 use Rattle.row_adding.proofs.Rowing.{one_added, stops_at_one}
 use Rattle.row_adding.proofs.indexing.add_each.Goals as goal
 
+-- the link of a node to one more comes behind those to the nodes so far
 pub loop-other-preserved : goal.loop-other-preserved
 loop-other-preserved c =
     let test = c.loop-other-test.true in
@@ -14,6 +15,7 @@ loop-other-preserved c =
     c.args.graph.now c.loop-other.graph c.add_one.new.graph c.args.others.now c.loop-other.other-index c.other-item.result
     c.other-item.is within c.loop-other.invariant c.in_ok-add_one.ensures.ok
 
+-- where the link of a node to another halts, those to all halt there
 pub returns-in_err-add_one-clause-err : goal.returns-in_err-add_one-clause-err
 returns-in_err-add_one-clause-err c =
     let test = c.loop-other-test.true in

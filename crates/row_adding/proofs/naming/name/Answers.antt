@@ -4,6 +4,7 @@ use Rattle.row_world.specs.Shown.{type}
 use Rattle.row_adding.proofs.Behind.{halts_behind}
 use Rattle.row_adding.proofs.naming.name.Goals as goal
 
+-- where annotations, index words or the tie to the first declaration halt, the name halts behind what passes inside it
 pub returns-clause-err : goal.returns-clause-err
 returns-clause-err c =
     let k = c.args.known.now in

@@ -4,6 +4,7 @@ use Rattle.row_world.specs.Shown.{skel, type}
 use Rattle.row_adding.proofs.Behind.{halts_behind}
 use Rattle.row_adding.proofs.naming.param.Goals as goal
 
+-- where a parameter's annotations or what flows into it halt, its row halts behind what passes inside it
 pub returns-clause-err : goal.returns-clause-err
 returns-clause-err c =
     let k = c.args.known.now in

@@ -8,6 +8,7 @@ use Rattle.row_adding.specs.Adding.{Halts}
 use Rattle.row_adding.proofs.Lists.{stop_back}
 use Rattle.row_adding.proofs.naming.plain_param.Goals as goal
 
+-- where what the function is given halts, the row of a parameter halts behind its annotations
 pub returns-clause-err : goal.returns-clause-err
 returns-clause-err c = IfErr-weaker c.into_param_at.result
     (λ fault. Halts c.args.known.now c.annotate_name.new.graph c.into_param_at.new.graph fault (λ w. rows.into_param w

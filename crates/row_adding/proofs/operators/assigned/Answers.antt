@@ -8,6 +8,7 @@ use Rattle.row_adding.specs.Parts.{moved}
 use Rattle.row_adding.proofs.Lists.{stop_back}
 use Rattle.row_adding.proofs.operators.assigned.Goals as goal
 
+-- where what an assignment moves halts, it halts behind the bounds of the write to its place
 pub returns-clause-err : goal.returns-clause-err
 returns-clause-err c =
     let k = c.args.known.now in

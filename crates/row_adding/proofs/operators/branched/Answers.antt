@@ -5,6 +5,7 @@ use Rattle.row_world.specs.Shown.{skel}
 use Rattle.row_adding.proofs.Behind.{halts_behind}
 use Rattle.row_adding.proofs.operators.branched.Goals as goal
 
+-- where the flow of the last branch halts, the condition halts behind that of the first
 pub returns-clause-err : goal.returns-clause-err
 returns-clause-err c =
     let k = c.args.known.now in

@@ -4,6 +4,7 @@ use Rattle.row_adding.specs.Parts.{pointed}
 use Rattle.row_adding.proofs.Behind.{halts_behind}
 use Rattle.row_adding.proofs.operators.carried.Goals as goal
 
+-- where what a carrying pointer points at or carries halts, it halts behind what passes inside its value
 pub returns-clause-err : goal.returns-clause-err
 returns-clause-err c =
     let k = c.args.known.now in

@@ -4,6 +4,7 @@ use Rattle.row_world.specs.Shown.{skel}
 use Rattle.row_adding.proofs.Behind.{halts_behind}
 use Rattle.row_adding.proofs.operators.chosen_fresh.Goals as goal
 
+-- where the branches of a condition halt, it halts behind what passes inside its fresh value
 pub returns-clause-err : goal.returns-clause-err
 returns-clause-err c =
     let k = c.args.known.now in

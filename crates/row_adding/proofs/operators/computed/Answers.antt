@@ -7,6 +7,7 @@ use Rattle.row_adding.specs.Adding.{Halts, StopsEarly}
 use Rattle.row_adding.proofs.Lists.{stop_back}
 use Rattle.row_adding.proofs.operators.computed.Goals as goal
 
+-- where the flow of the last operand halts, a computation halts behind that of the first
 pub returns-clause-err : goal.returns-clause-err
 returns-clause-err c =
     let k = c.args.known.now in

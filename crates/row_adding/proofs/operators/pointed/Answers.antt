@@ -5,6 +5,7 @@ use Rattle.row_world.specs.Shown.{skel}
 use Rattle.row_adding.proofs.Behind.{halts_behind}
 use Rattle.row_adding.proofs.operators.pointed.Goals as goal
 
+-- where what a pointer carries halts, it halts behind the flow of its place
 pub returns-clause-err : goal.returns-clause-err
 returns-clause-err c =
     let k = c.args.known.now in

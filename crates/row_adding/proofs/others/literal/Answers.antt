@@ -5,6 +5,7 @@ use Rattle.row_world.specs.Shown.{type}
 use Rattle.row_adding.proofs.Behind.{halts_behind}
 use Rattle.row_adding.proofs.others.literal.Goals as goal
 
+-- where the annotations of a compound literal halt, it halts behind what passes inside its skeleton
 pub returns-clause-err : goal.returns-clause-err
 returns-clause-err c =
     let k = c.args.known.now in

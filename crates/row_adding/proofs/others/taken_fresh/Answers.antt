@@ -7,6 +7,7 @@ use Rattle.row_adding.specs.Adding.{Halts, StopsEarly}
 use Rattle.row_adding.proofs.Lists.{stop_back}
 use Rattle.row_adding.proofs.others.taken_fresh.Goals as goal
 
+-- where annotations or flow of what is taken halt, `va_arg` halts behind what passes inside its skeleton
 pub returns-clause-err : goal.returns-clause-err
 returns-clause-err c =
     let k = c.args.known.now in

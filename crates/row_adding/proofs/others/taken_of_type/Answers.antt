@@ -6,6 +6,7 @@ use Rattle.row_adding.specs.Adding.{Halts, StopsEarly}
 use Rattle.row_adding.proofs.Lists.{stop_front, stop_back}
 use Rattle.row_adding.proofs.others.taken_of_type.Goals as goal
 
+-- where the annotations of the type that is taken halt, its row halts there
 pub returns-in_err-annotate_some-clause-err : goal.returns-in_err-annotate_some-clause-err
 returns-in_err-annotate_some-clause-err c =
     let k = c.args.known.now in
@@ -20,6 +21,7 @@ returns-in_err-annotate_some-clause-err c =
     (stop_front old new fault (rows.annotating_some w ty (skel k c.own-own.result)) (rows.taken w list (skel k c.own-own.result) c.args.span.now)
     (c.in_err-annotate_some.ensures.err w s)))
 
+-- where the flow of further arguments into what is taken halts, its row halts behind the annotations
 pub returns-clause-err : goal.returns-clause-err
 returns-clause-err c =
     let k = c.args.known.now in

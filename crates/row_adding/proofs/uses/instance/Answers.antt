@@ -3,6 +3,7 @@ use Rattle.row_adding.specs.Parts.{instance_row}
 use Rattle.row_adding.proofs.Behind.{halts_behind}
 use Rattle.row_adding.proofs.uses.instance.Goals as goal
 
+-- where the crossing of a function's instance halts, it halts behind what passes inside its skeleton
 pub returns-clause-err : goal.returns-clause-err
 returns-clause-err c =
     let k = c.args.known.now in

@@ -10,6 +10,7 @@ use Rattle.name_state.specs.NameLinks.Tables.{AreStatics}
 use Rattle.sig_writer.specs.Functions.{functions_in, is_first}
 use Rattle.sig_writer.proofs.functions.external_functions.Goals as goal
 
+-- what is found of the names and of `static` is the list of the external functions of the program
 pub returns : goal.returns
 returns c =
     let t = type_of c.args.program.now.rows in

@@ -6,6 +6,7 @@ use Rattle.sig_writer.specs.Functions.{is_first}
 use Rattle.sig_writer.proofs.Taken.{whole, kept_more}
 use Rattle.sig_writer.proofs.functions.first_functions.Goals as goal
 
+-- one more thing keeps what is found the first functions among the things so far
 pub loop-thing-preserved : goal.loop-thing-preserved
 loop-thing-preserved c = λ t statics.
     let p = is_first (names_of t c.args.names.now) in
@@ -13,6 +14,7 @@ loop-thing-preserved c = λ t statics.
     ∙ ap (λ (found : List Place). found ++ map (λ it. it.1) (filter p (c.thing-item.result ∷ []))) (c.loop-thing.invariant t statics)
     ∙ sym (kept_more p (λ it. it.1) c.args.things.now c.loop-thing.thing-index c.thing-item.result c.thing-item.is (omega arith))
 
+-- behind the last thing the first functions of all things are found
 pub returns : goal.returns
 returns c = λ t statics.
     let p = is_first (names_of t c.args.names.now) in

@@ -6,6 +6,7 @@ use Rattle.name_state.specs.NameLinks.Tables.{AreStatics}
 use Rattle.sig_writer.specs.Functions.{is_first}
 use Rattle.sig_writer.proofs.functions.first_functions.Given as goal
 
+-- invariant of the loop: what is found is where the things so far were first declared as functions
 abbrev pub invariant-loop-thing : goal.invariant-loop-thing
 invariant-loop-thing l =
     (t : ℕ → CType) → AreStatics (names_of t l.names).statics l.statics.known →

@@ -5,6 +5,7 @@ use Rattle.sig_writer.proofs.LineLemmas.{lined, not_refused, refused}
 use Rattle.sig_writer.proofs.Roots.{rooted}
 use Rattle.sig_writer.proofs.lines.put_said.Goals as goal
 
+-- a refusal of what is said of the function at a place is the fault of that place
 pub returns-in-Some-clause-refused : goal.returns-in-Some-clause-refused
 returns-in-Some-clause-refused c =
     let skel = rooted c.args.library.now.skeletons.now c.args.at.now c.vars-vars.result.now c.root_at-root.result
@@ -13,6 +14,7 @@ returns-in-Some-clause-refused c =
     (skel_of c.vars-vars.result.now c.root_at-root.result) skel
     c.refusal_of.result c.in-Some.refusal c.fault_at.result c.refusal_of.ensures c.in-Some.is c.fault_at.ensures
 
+-- where nothing refuses the function, its line comes behind the text that was there
 pub returns-clause-line : goal.returns-clause-line
 returns-clause-line c =
     let skel = rooted c.args.library.now.skeletons.now c.args.at.now c.vars-vars.result.now c.root_at-root.result

@@ -4,6 +4,7 @@ use Rattle.sig_writer.specs.Saying.{said_at}
 use Rattle.sig_writer.proofs.LineLemmas.{says_later}
 use Rattle.sig_writer.proofs.lines.says_some.Goals as goal
 
+-- a node that says nothing keeps the nodes so far silent
 pub loop-n-preserved : goal.loop-n-preserved
 loop-n-preserved c =
     let silent = ap (λ v. not (says_nothing (said_at c.args.said.now v))) (sym c.new.ensures) ∙ sym c.says.ensures

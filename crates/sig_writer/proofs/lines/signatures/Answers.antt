@@ -6,6 +6,7 @@ use Rattle.sig_writer.proofs.LineLemmas.{fault_first}
 use Rattle.sig_writer.proofs.Taking.{comes_next, first_next, known_next, line_next, no_refusal}
 use Rattle.sig_writer.proofs.lines.signatures.Goals as goal
 
+-- the line of one more function keeps the text the lines of the functions so far, of which none is refused
 pub loop-at-preserved : goal.loop-at-preserved
 loop-at-preserved c = λ it known.
     let lib = c.args.library.now in
@@ -24,6 +25,7 @@ loop-at-preserved c = λ it known.
           c.put_function.new.out.items before.1 line.1,
     )
 
+-- the fault of one function is that of the library, where none before it is refused
 pub returns-in_err-put_function-clause-refused : goal.returns-in_err-put_function-clause-refused
 returns-in_err-put_function-clause-refused c =
     let failed = err_from_is_err_and c.from_residual.result c.from_residual.ensures.1 in

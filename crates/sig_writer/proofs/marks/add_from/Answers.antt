@@ -8,6 +8,7 @@ use Rattle.sig_writer.specs.Marking.{IsLastEnd, items_at, with_last}
 use Rattle.sig_writer.proofs.Numbering.{with_last_twice}
 use Rattle.sig_writer.proofs.marks.add_from.Goals as goal
 
+-- before the first summary of a node no number is put from it
 pub loop-next-init : goal.loop-next-init
 loop-next-init c = record {
   size = refl;
@@ -18,6 +19,7 @@ loop-next-init c = record {
       (source_at c.args.summaries.now n row is ∙ ap (λ (x : ℕ). Some x) from));
 }
 
+-- the summary that the next index names is there, as `add` requires
 pub add-requires-clause-at : goal.add-requires-clause-at
 add-requires-clause-at c =
     let row = source_row c.args.summaries.now c.in-Some.at _
@@ -27,6 +29,7 @@ add-requires-clause-at c =
 pub add-requires-clause-size : goal.add-requires-clause-size
 add-requires-clause-size c = c.loop-next.invariant.size ∙ c.requires
 
+-- the summary before another one of the same start has a lower index
 pub loop-next-smaller : goal.loop-next-smaller
 loop-next-smaller c =
     let link = c.before_from-next.ensures c.args.from
@@ -36,6 +39,7 @@ loop-next-smaller c =
     let goes : link_of c.before_from-next.result < link_of c.loop-next.next = omega (arith, less, is) in
     goes
 
+-- the numbers of one summary more are put, and none of others
 pub loop-next-preserved : goal.loop-next-preserved
 loop-next-preserved c =
     let so_far = c.loop-next.invariant in
@@ -83,6 +87,7 @@ loop-next-preserved c =
       ];
     }
 
+-- behind the last summary of a node its number is in the lists of all that it leads to
 pub returns : goal.returns
 returns c =
     let so_far = c.loop-next.invariant in

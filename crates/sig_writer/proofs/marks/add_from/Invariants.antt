@@ -5,6 +5,7 @@ use Rattle.match_summary.specs.Starts.{sources}
 use Rattle.sig_writer.specs.Marking.{IsLastEnd, SomeFrom, items_at, with_last}
 use Rattle.sig_writer.proofs.marks.add_from.Given as goal
 
+-- invariant of the loop: the number is put for the summaries of the node above the next one, and for no others
 abbrev pub invariant-loop-next : goal.invariant-loop-next
 invariant-loop-next l = record {
   size : length l.lists.items ≡ length l.fn.lists.items;

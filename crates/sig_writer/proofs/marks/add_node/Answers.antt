@@ -6,6 +6,7 @@ use Rattle.sig_writer.proofs.marks.add_node.Goals as goal
 pub add_from-requires : goal.add_from-requires
 add_from-requires c = let put = c.in_ok-put_at.ensures in put.size ∙ c.requires.size
 
+-- a number in a node's own list and in those that it leads to is in the lists of all that it reaches
 pub returns : goal.returns
 returns c =
     let first = c.in_ok-put_at.ensures in

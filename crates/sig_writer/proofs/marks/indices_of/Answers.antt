@@ -4,6 +4,7 @@ use Rattle.sig_writer.specs.Marking.{AreUpTo, marked_before}
 use Rattle.sig_writer.proofs.Numbering.{before_none, up_to_all, up_to_none}
 use Rattle.sig_writer.proofs.marks.indices_of.Goals as goal
 
+-- before the first node none is numbered, and all lists are empty
 pub loop-n-init : goal.loop-n-init
 loop-n-init c =
     let marks = c.in_ok-marks.marks.items in
@@ -22,11 +23,13 @@ pub number_node-requires-clause-numbered : goal.number_node-requires-clause-numb
 number_node-requires-clause-numbered c = c.loop-n.invariant.numbered
     ∙ ap (λ (marks : List Bool). marked_before marks c.loop-n.n) (sym c.deref.ensures.value)
 
+-- the lists up to a node are those of the marks that are lent to `number_node`
 pub number_node-requires-clause-lists : goal.number_node-requires-clause-lists
 number_node-requires-clause-lists c = subst
     (λ (marks : List Bool). AreUpTo c.args.nodes c.args.summaries.now marks c.loop-n.n c.loop-n.lists.items)
     (sym c.deref.ensures.value) c.loop-n.invariant.lists
 
+-- one node more keeps the count and the lists those of the marked nodes so far
 pub loop-n-preserved : goal.loop-n-preserved
 loop-n-preserved c =
     let step = c.in_ok-numbered.ensures in
@@ -36,6 +39,7 @@ loop-n-preserved c =
           c.number_node.new.lists.items) c.deref.ensures.value step.lists;
     }
 
+-- behind the last node the lists are the index numbers of all nodes
 pub returns : goal.returns
 returns c =
     let marks = c.in_ok-marks.marks.items in

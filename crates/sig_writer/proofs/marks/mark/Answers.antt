@@ -2,6 +2,7 @@ use Rattle.std.proofs.Common.{arith}
 use Rattle.sig_writer.proofs.Marking.{marks_pair, row_at}
 use Rattle.sig_writer.proofs.marks.mark.Goals as goal
 
+-- the node where a matched path begins has a mark to be set
 pub index_mut-requires : goal.index_mut-requires
 index_mut-requires c =
     let row = row_at c.args.summaries.now c.args.at c.requires.at in
@@ -10,6 +11,7 @@ index_mut-requires c =
     let to = joined.1 in
     omega (arith, from, to)
 
+-- the node where a matched path ends has a mark to be set
 pub index_mut-requires-in-Some : goal.index_mut-requires-in-Some
 index_mut-requires-in-Some c =
     let row = row_at c.args.summaries.now c.args.at c.requires.at in

@@ -7,6 +7,7 @@ use Rattle.match_summary.proofs.Sources.{source_at, source_row}
 use Rattle.sig_writer.specs.Marking.{IsEnd}
 use Rattle.sig_writer.proofs.marks.mark_from.Goals as goal
 
+-- before the first summary of a node none is marked from it
 pub loop-next-init : goal.loop-next-init
 loop-next-init c = record {
   size = refl;
@@ -18,6 +19,7 @@ loop-next-init c = record {
       (source_at c.args.summaries.now n row is ∙ ap (λ (x : ℕ). Some x) from));
 }
 
+-- the summary that the next index names is there, as `mark` requires
 pub mark-requires-clause-at : goal.mark-requires-clause-at
 mark-requires-clause-at c =
     let row = source_row c.args.summaries.now c.in-Some.at _
@@ -27,6 +29,7 @@ mark-requires-clause-at c =
 pub mark-requires-clause-size : goal.mark-requires-clause-size
 mark-requires-clause-size c = c.loop-next.invariant.size ∙ c.requires
 
+-- the next summary of the same start has a lower index than this one
 pub loop-next-smaller : goal.loop-next-smaller
 loop-next-smaller c =
     let link = c.before_from-next.ensures c.args.from
@@ -36,6 +39,7 @@ loop-next-smaller c =
     let goes : link_of c.before_from-next.result < link_of c.loop-next.next = omega (arith, less, is) in
     goes
 
+-- the ends of one summary more are marked, and no others
 pub loop-next-preserved : goal.loop-next-preserved
 loop-next-preserved c =
     let so_far = c.loop-next.invariant in
@@ -66,6 +70,7 @@ loop-next-preserved c =
       ];
     }
 
+-- behind the last summary of a node the ends of all its summaries are marked
 pub returns : goal.returns
 returns c =
     let so_far = c.loop-next.invariant in

@@ -5,6 +5,7 @@ use Rattle.match_summary.specs.Starts.{sources}
 use Rattle.sig_writer.specs.Marking.{IsEnd, IsMarked, SomeFrom}
 use Rattle.sig_writer.proofs.marks.mark_from.Given as goal
 
+-- invariant of the loop: the ends of the summaries above the next one are marked, and no others
 abbrev pub invariant-loop-next : goal.invariant-loop-next
 invariant-loop-next l = record {
   size : length l.marks.items ≡ length l.fn.marks.items;

@@ -3,6 +3,7 @@ use Rattle.std.proofs.lemmas.Bool.{cases_lt}
 use Rattle.sig_writer.proofs.Marking.{are_marks, end_from}
 use Rattle.sig_writer.proofs.marks.marks_of.Goals as goal
 
+-- before the first node no mark is set
 pub loop-n-init : goal.loop-n-init
 loop-n-init c = record {
   size = c.in_ok-marks.ensures.size ∙ c.count.ensures;
@@ -10,6 +11,7 @@ loop-n-init c = record {
   done = λ n i row is lt end. let le = end_from c.args.nodes row i end in absurd (omega (arith, lt, le));
 }
 
+-- the marks of one node more are those of the matched paths from the nodes so far
 pub loop-n-preserved : goal.loop-n-preserved
 loop-n-preserved c =
     let so_far = c.loop-n.invariant in
@@ -28,6 +30,7 @@ loop-n-preserved c =
       ];
     }
 
+-- behind the last node each node is marked that a matched path joins with another one
 pub returns : goal.returns
 returns c =
     let so_far = c.loop-n.invariant in

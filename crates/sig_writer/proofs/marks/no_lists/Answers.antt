@@ -4,12 +4,14 @@ use Rattle.sig_writer.specs.Marking.{items_at}
 use Rattle.sig_writer.proofs.Numbering.{items_push}
 use Rattle.sig_writer.proofs.marks.no_lists.Goals as goal
 
+-- at first there is no list
 pub loop-init : goal.loop-init
 loop-init c = record {
   size = ap length c.new-lists.ensures.items;
   empty = λ j. ap (λ (xs : List (Vec ℕ Global)). items_at xs j) c.new-lists.ensures.items;
 }
 
+-- one empty list more keeps all lists empty
 pub loop-preserved : goal.loop-preserved
 loop-preserved c =
     let so_far = c.loop.invariant in

@@ -4,6 +4,7 @@ use Rattle.sig_writer.specs.Marking.{with_last}
 use Rattle.sig_writer.proofs.Numbering.{items_read, puts_at}
 use Rattle.sig_writer.proofs.marks.put_at.Goals as goal
 
+-- a number put last into the list of a node is put there and nowhere else
 pub returns : goal.returns
 returns c =
     let lists = c.args.lists.now.items in

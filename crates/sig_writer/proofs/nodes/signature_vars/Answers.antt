@@ -3,6 +3,7 @@ use Rattle.sig_writer.specs.Nodes.{all_nodes_in, nodes_in}
 use Rattle.sig_writer.proofs.Taken.{whole, flat_more}
 use Rattle.sig_writer.proofs.nodes.signature_vars.Goals as goal
 
+-- the nodes of one function more come behind those of the functions so far
 pub loop-at-preserved : goal.loop-at-preserved
 loop-at-preserved c =
     let it = c.args.skeletons.now in

@@ -11,6 +11,7 @@ pub loop-n-init : goal.loop-n-init
 loop-n-init c = λ v has lt. let range = in_range c.args.said.now.vars c.nodes-nodes.result c.nodes-nodes.ensures v has
     in let from = range.0 in absurd (omega (arith, from, lt))
 
+-- the elements of a node are of the lattice, as `has_words` requires
 pub has_words-requires : goal.has_words-requires
 has_words-requires c =
     let said = c.args.said.now in
@@ -18,6 +19,7 @@ has_words-requires c =
     c.elements.ensures ∙ ap (λ (v : ℕ). elements_of (said_at said v).low (said_at said v).high) c.new.ensures in
     subst (λ (e : Elements). AreOf c.args.lattice.now.order e) (sym is) (c.requires c.loop-n.n)
 
+-- a node whose elements lack words makes the function one of which some node does
 pub returns-then-not-has_words : goal.returns-then-not-has_words
 returns-then-not-has_words c =
     let said = c.args.said.now in
@@ -31,6 +33,7 @@ returns-then-not-has_words c =
     ∙ c.if-not-has_words.true) in
     sym (any_from (λ v. lacks_words lattice (said_at said v)) said.vars c.loop-n.n here lacks)
 
+-- a node that has words keeps the nodes so far without one that lacks them
 pub loop-n-preserved : goal.loop-n-preserved
 loop-n-preserved c = λ v has lt. elim (cases_lt v c.loop-n.n) [
   | inl early ↦ c.loop-n.invariant v has early
@@ -44,6 +47,7 @@ loop-n-preserved c = λ v has lt. elim (cases_lt v c.loop-n.n) [
       ∙ c.if-not-has_words.false)
 ]
 
+-- where each node has words, no node of the function lacks them
 pub returns : goal.returns
 returns c =
     let said = c.args.said.now in

@@ -8,6 +8,7 @@ use Rattle.sig_writer.proofs.says.meet_of.Goals.{then-has_element, else-has_elem
 pub meet-meet-requires-clause-first : goal.meet-meet-requires-clause-first
 meet-meet-requires-clause-first c = c.loop-n.invariant.element
 
+-- before the first element the meet is the greatest one
 pub loop-n-init : goal.loop-n-init
 loop-n-init c = record {
   element = c.requires.greatest.0;
@@ -15,6 +16,7 @@ loop-n-init c = record {
   greatest = λ d lt below. c.requires.greatest.1 d lt;
 }
 
+-- the meet with an element of the set is the meet of the elements of the set so far
 pub loop-n-preserved : goal.loop-n-preserved
 loop-n-preserved c =
     let order = c.args.known.now.lattice.now.order in
@@ -35,6 +37,7 @@ loop-n-preserved c =
           (meet_same order c.law.ensures.lattice c.args.set c.loop-n.n c.loop-n.meet c.loop-n.invariant lacks)
     ]
 
+-- behind the last element the meet is that of the whole set
 pub returns : goal.returns
 returns c =
     let so_far = c.loop-n.invariant in

@@ -5,6 +5,7 @@ use Rattle.sig_writer.specs.Saying.{AreFoundAt}
 use Rattle.sig_writer.proofs.Numbering.{pushed_cases}
 use Rattle.sig_writer.proofs.says.push_all.Goals as goal
 
+-- before the first node no elements are added
 pub loop-n-init : goal.loop-n-init
 loop-n-init c =
     let none : length c.args.elements.now.items ≡ 0 = ap length c.requires.none in
@@ -14,6 +15,7 @@ loop-n-init c =
           (λ (xs : List Elements). slice_get xs k ≡ Some it) c.requires.none is in absurd cc;
     }
 
+-- the elements of one node more are those found of the nodes so far
 pub loop-n-preserved : goal.loop-n-preserved
 loop-n-preserved c =
     let so_far = c.loop-n.invariant in
@@ -36,6 +38,7 @@ loop-n-preserved c =
           ];
     }
 
+-- behind the last node there are the elements found of each
 pub returns : goal.returns
 returns c =
     let so_far = c.loop-n.invariant in

@@ -3,6 +3,7 @@ use Rattle.match_summary.specs.Summary.{SummarisesFrom}
 use Rattle.sig_writer.proofs.Written.{all_nodes_are}
 use Rattle.sig_writer.proofs.signing.signed.Goals as goal
 
+-- the summaries of the graph with its nodes are those of the library's functions
 pub signed_by-requires-clause-summaries : goal.signed_by-requires-clause-summaries
 signed_by-requires-clause-summaries c =
     let sys = c.args.graph.now in

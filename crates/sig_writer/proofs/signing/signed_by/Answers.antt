@@ -9,6 +9,7 @@ use Rattle.sig_writer.specs.Signing.{IsFault, IsWritten}
 use Rattle.sig_writer.proofs.Written.{refused, written, Lent}
 use Rattle.sig_writer.proofs.signing.signed_by.Goals as goal
 
+-- what `signed_by` is lent: a lattice, the summaries, the solver and the sets of bounds of one library
 abbrev lent_in : (c : goal.After-drop-below-inside) →
     Lent c.args.graph.now c.args.lattice.now (externals_by c.args.library.now) c.args.summaries.now c.args.solver.now
     c.in_ok-below.below c.new-known.result
@@ -27,6 +28,7 @@ lent_in c = record {
   below_is = c.new-known.ensures.below;
 }
 
+-- the lines of a library are written of what is found, and serve every client
 pub returns-clause-lines : goal.returns-clause-lines
 returns-clause-lines c =
     let functions = externals_by c.args.library.now in
@@ -40,6 +42,7 @@ returns-clause-lines c =
     c.laws.ensures.served c.laws.ensures.whole text.items said)
     c.signatures.ensures.lines
 
+-- a fault is the first refusal of a function by what is found
 pub returns-clause-fault : goal.returns-clause-fault
 returns-clause-fault c =
     let functions = externals_by c.args.library.now in

@@ -7,6 +7,7 @@ use Rattle.std.proofs.lemmas.Result.{on_ok_weaker}
 use Rattle.sig_writer.proofs.Writing.{three_behind}
 use Rattle.sig_writer.proofs.types.put_type.Goals as goal
 
+-- the text of a type by its form, behind what was there
 pub returns : goal.returns
 returns c =
     let words = words_by c.args.typed.now in

@@ -7,6 +7,7 @@ use Rattle.row_world.specs.Shown.{type}
 use Rattle.skel_steps.specs.Stepping.{tables_of, state_of}
 use Rattle.skel_steps.proofs.declarators.type_name.Goals as goal
 
+-- a type's name closes its declaration and leaves its type as an operand
 pub returns : goal.returns
 returns c =
     let k = c.args.known.now in

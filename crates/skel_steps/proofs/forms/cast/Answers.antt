@@ -6,6 +6,7 @@ use Rattle.row_rules.specs.RowSteps.State as states
 use Rattle.skel_steps.specs.Stepping.{tables_of, state_of}
 use Rattle.skel_steps.proofs.forms.cast.Goals as goal
 
+-- a cast puts its fresh value in place of its type and its operand, a zero where it is one
 pub returns : goal.returns
 returns c =
     let k = c.args.known.now in

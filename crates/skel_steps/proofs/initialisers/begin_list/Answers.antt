@@ -5,6 +5,7 @@ use Rattle.row_rules.specs.RowSteps.Steps as steps
 use Rattle.skel_steps.specs.Stepping.{tables_of, state_of}
 use Rattle.skel_steps.proofs.initialisers.begin_list.Goals as goal
 
+-- a list in braces begins at the target of the next item
 pub returns : goal.returns
 returns c =
     let k = c.args.known.now in

@@ -4,6 +4,7 @@ use Rattle.row_rules.specs.RowSteps.Steps as steps
 use Rattle.skel_steps.specs.Stepping.{tables_of, state_of}
 use Rattle.skel_steps.proofs.initialisers.designate.Goals as goal
 
+-- a designator of a member names its target in the innermost list
 pub returns : goal.returns
 returns c =
     let k = c.args.known.now in

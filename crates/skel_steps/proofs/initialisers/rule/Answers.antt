@@ -5,6 +5,7 @@ use Rattle.row_rules.specs.RowSteps.Steps as steps
 use Rattle.skel_steps.specs.Stepping.{tables_of, state_of}
 use Rattle.skel_steps.proofs.initialisers.rule.Goals as goal
 
+-- the rule goes through the initialiser of the name that was declared last
 pub returns : goal.returns
 returns c =
     let k = c.args.known.now in

@@ -5,6 +5,7 @@ use Rattle.row_rules.specs.RowSteps.State as states
 use Rattle.skel_steps.specs.Stepping.{tables_of, state_of}
 use Rattle.skel_steps.proofs.operands.extension.Goals as goal
 
+-- an extension leaves its operand, which is no zero then
 pub returns : goal.returns
 returns c =
     let k = c.args.known.now in

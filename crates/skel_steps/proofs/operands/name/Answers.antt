@@ -5,6 +5,7 @@ use Rattle.row_rules.specs.RowSteps.State as states
 use Rattle.skel_steps.specs.Stepping.{tables_of, state_of}
 use Rattle.skel_steps.proofs.operands.name.Goals as goal
 
+-- a name puts what it is used as on the stack
 pub returns : goal.returns
 returns c =
     let k = c.args.known.now in

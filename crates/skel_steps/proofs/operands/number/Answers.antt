@@ -7,6 +7,7 @@ use Rattle.row_rules.specs.RowSteps.State as states
 use Rattle.skel_steps.specs.Stepping.{tables_of, state_of}
 use Rattle.skel_steps.proofs.operands.number.Goals as goal
 
+-- a number puts its fresh value on the stack, a zero where it is 0
 pub returns : goal.returns
 returns c =
     let k = c.args.known.now in

@@ -6,6 +6,7 @@ use Rattle.row_rules.specs.RowSteps.State as states
 use Rattle.skel_steps.specs.Stepping.{tables_of, state_of}
 use Rattle.skel_steps.proofs.operands.put_own.Goals as goal
 
+-- the fresh value at a token takes the place of so many operands
 pub returns : goal.returns
 returns c =
     let k = c.args.known.now in

@@ -6,6 +6,7 @@ use Rattle.row_rules.specs.RowSteps.State as states
 use Rattle.skel_steps.specs.Stepping.{tables_of, state_of}
 use Rattle.skel_steps.proofs.operands.text.Goals as goal
 
+-- a string puts a fresh place on the stack
 pub returns : goal.returns
 returns c =
     let k = c.args.known.now in

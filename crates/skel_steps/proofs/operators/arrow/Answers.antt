@@ -6,6 +6,7 @@ use Rattle.row_rules.specs.RowSteps.Steps as steps
 use Rattle.skel_steps.specs.Stepping.{tables_of, state_of}
 use Rattle.skel_steps.proofs.operators.arrow.Goals as goal
 
+-- `->` puts what its pointer points at in place of this, and notes the pointer where it aims
 pub returns : goal.returns
 returns c =
     let k = c.args.known.now in

@@ -6,6 +6,7 @@ use Rattle.row_rules.specs.RowSteps.State as states
 use Rattle.skel_steps.specs.Stepping.{tables_of, state_of}
 use Rattle.skel_steps.proofs.operators.assign.Goals as goal
 
+-- an assignment puts what its place holds in place of both operands
 pub returns : goal.returns
 returns c =
     let k = c.args.known.now in

@@ -7,6 +7,7 @@ use Rattle.row_world.specs.Shown.{skel}
 use Rattle.skel_steps.specs.Stepping.{tables_of, state_of}
 use Rattle.skel_steps.proofs.operators.binary_operator.Goals as goal
 
+-- a binary operator puts its value in place of both operands
 pub returns : goal.returns
 returns c =
     let k = c.args.known.now in

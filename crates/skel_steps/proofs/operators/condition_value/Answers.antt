@@ -3,6 +3,7 @@ use Rattle.row_rules.specs.Vals as vals
 use Rattle.skel_steps.specs.Stepping.{tables_of, state_of}
 use Rattle.skel_steps.proofs.operators.condition_value.Goals as goal
 
+-- the value of a condition is that of the branch by its zeros and skeletons
 pub returns : goal.returns
 returns c =
     let k = c.args.known.now in

@@ -6,6 +6,7 @@ use Rattle.row_rules.specs.RowSteps.Steps as steps
 use Rattle.skel_steps.specs.Stepping.{tables_of, state_of}
 use Rattle.skel_steps.proofs.operators.index.Goals as goal
 
+-- an index puts an element of the vector, or what the reference points at, in place of both operands
 pub returns : goal.returns
 returns c =
     let k = c.args.known.now in

@@ -6,6 +6,7 @@ use Rattle.row_rules.specs.RowSteps.Steps as steps
 use Rattle.skel_steps.specs.Stepping.{tables_of, state_of}
 use Rattle.skel_steps.proofs.operators.prefix.Goals as goal
 
+-- an operator before its operand puts its value in place of this, and notes a pointer that it comes by
 pub returns : goal.returns
 returns c =
     let k = c.args.known.now in

@@ -4,6 +4,7 @@ use Rattle.skel_steps.specs.Picks.{IsPickedVal, with_candidate}
 use Rattle.skel_steps.specs.Stepping.{state_of, tables_of}
 use Rattle.skel_steps.proofs.picks.add_where.Goals as goal
 
+-- an expression that is a candidate is added to those that are kept
 pub returns-then-is : goal.returns-then-is
 returns-then-is c = λ all p.
     let k = c.args.known.now in

@@ -6,6 +6,7 @@ use Rattle.row_rules.specs.RowSteps.Steps as steps
 use Rattle.skel_steps.specs.Stepping.{tables_of, state_of}
 use Rattle.skel_steps.proofs.picks.choose.Goals as goal
 
+-- the end of a choice puts what is picked in place of its two expressions
 pub returns : goal.returns
 returns c =
     let k = c.args.known.now in

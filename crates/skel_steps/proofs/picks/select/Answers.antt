@@ -8,6 +8,7 @@ use Rattle.row_world.specs.Shown.{val}
 use Rattle.skel_steps.specs.Stepping.{tables_of, state_of}
 use Rattle.skel_steps.proofs.picks.select.Goals as goal
 
+-- the end of a selection puts what is picked in place of its control and all associations
 pub returns : goal.returns
 returns c =
     let k = c.args.known.now in

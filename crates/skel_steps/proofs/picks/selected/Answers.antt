@@ -5,6 +5,7 @@ use Rattle.skel_steps.specs.Stepping.{state_of}
 use Rattle.skel_steps.proofs.Candidates.{selected_next, selected_all}
 use Rattle.skel_steps.proofs.picks.selected.Goals as goal
 
+-- before the first association no candidate is kept, and all are to come
 pub loop-number-init : goal.loop-number-init
 loop-number-init c = λ w shows.
     let none : c.args.count - 0 ≡ c.args.count = omega arith in (
@@ -13,6 +14,7 @@ loop-number-init c = λ w shows.
       ap (λ (n : ℕ). steps.selected w c.args.token 0 n (state_of c.args.known.now c.args.stacks.now)) none,
     )
 
+-- one association more keeps the candidates so far and those to come all of the selection
 pub loop-number-preserved : goal.loop-number-preserved
 loop-number-preserved c = λ w shows.
     let st = state_of c.args.known.now c.args.stacks.now in
@@ -28,6 +30,7 @@ loop-number-preserved c = λ w shows.
           ∙ so.2,
     )
 
+-- behind the last association what is kept is that of all candidates of the selection
 pub returns : goal.returns
 returns c = λ w shows.
     let k = c.args.known.now in

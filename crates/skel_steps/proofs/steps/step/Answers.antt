@@ -3,6 +3,7 @@ use Rattle.skel_steps.specs.Stepping.{tables_of, state_of}
 use Rattle.skel_steps.proofs.Apart.{stepped}
 use Rattle.skel_steps.proofs.steps.step.Goals as goal
 
+-- a step of the stacks and of the rounds is the step of the state
 pub returns : goal.returns
 returns c =
     let k = c.args.known.now in

@@ -2,6 +2,7 @@ use Rattle.std.proofs.Common.{◌≡◌, length}
 use Rattle.spec_forms.specs.Forms.{more_items_at}
 use Rattle.spec_forms.proofs.structs.more_items.Given as goal
 
+-- the items of a struct so far, with those read from here on, are what the whole loop gives from the first ones
 abbrev pub invariant-loop : goal.invariant-loop
 invariant-loop g l =
     more_items_at l.depth l.known l.room l.place.scopes l.place.rest.now

@@ -2,6 +2,7 @@ use Rattle.std.proofs.Common.{◌≡◌, length}
 use Rattle.spec_forms.specs.Forms.{words_at}
 use Rattle.spec_forms.proofs.words.more_words.Given as goal
 
+-- the specifiers so far, with those read from here on, are what the whole loop gives from the first ones
 abbrev pub invariant-loop : goal.invariant-loop
 invariant-loop g l =
     words_at l.depth l.role l.words l.room l.place.scopes l.place.rest.now

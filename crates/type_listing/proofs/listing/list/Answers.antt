@@ -5,6 +5,7 @@ use Rattle.c_types.specs.declared.source.Source.{Source}
 use Rattle.c_types.specs.Sources.{sources_of}
 use Rattle.type_listing.proofs.listing.list.Goals as goal
 
+-- the sources that were parsed are sound, as `resolve` requires
 pub resolve-requires : goal.resolve-requires
 resolve-requires c =
     record {

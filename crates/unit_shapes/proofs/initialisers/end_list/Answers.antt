@@ -4,6 +4,7 @@ use Rattle.name_rules.specs.ShapeSteps.State.{State}
 use Rattle.name_rules.specs.ShapeSteps.Steps as steps
 use Rattle.unit_shapes.proofs.initialisers.end_list.Goals as goal
 
+-- an inner list that ends is one item more of the list round it
 pub returns : goal.returns
 returns c =
     let rows = c.args.types.now in

@@ -5,6 +5,7 @@ use Rattle.unit_shapes.specs.Views.{names_in}
 use Rattle.unit_shapes.proofs.Designating.{member_named, none_named}
 use Rattle.unit_shapes.proofs.initialisers.member.Goals as goal
 
+-- a designator of a member moves the innermost list to that member, where the list initialises something
 pub returns-in_ok-behind : goal.returns-in_ok-behind
 returns-in_ok-behind c =
     let rows = c.args.types.now in
@@ -15,6 +16,7 @@ returns-in_ok-behind c =
     (c.braces-it.ensures rows) (sym (c.is_listed.ensures rows) ∙ c.if-is_listed.true) c.with_member-after.ensures
     (c.leave_list.ensures rows) (entered rows)) c.enter.ensures
 
+-- a designator of a member leaves the stacks as they are where no list initialises something
 pub returns-else-is_listed : goal.returns-else-is_listed
 returns-else-is_listed c =
     let rows = c.args.types.now in

@@ -7,6 +7,7 @@ use Rattle.name_tables.specs.UnitSpelling.Spelled.{spelling_of}
 use Rattle.unit_shapes.specs.Views.{names_in}
 use Rattle.unit_shapes.proofs.initialisers.type_of_name.Goals as goal
 
+-- where the name declared last has a token, its type is that of the first declaration there
 pub returns-in-Some : goal.returns-in-Some
 returns-in-Some c =
     let rows = c.args.types.now in
@@ -15,6 +16,7 @@ returns-in-Some c =
     c.type_declared.ensures ∙ ap (λ (at : Place). type_declared (declared_at s.declared at)) c.place.ensures
     ∙ ap (steps.type_of_name u s) (sym c.in-Some.is ∙ c.declared_last.ensures rows)
 
+-- where no name was declared last there is no type of it
 pub returns-in-None : goal.returns-in-None
 returns-in-None c =
     let rows = c.args.types.now in

@@ -5,6 +5,7 @@ use Rattle.unit_shapes.specs.Faults.{keep, IsFirstOf}
 use Rattle.unit_shapes.proofs.Keeping.{kept_first}
 use Rattle.unit_shapes.proofs.judge.first_of_names.Goals as goal
 
+-- the earliest fault of names is the first of them
 pub returns : goal.returns
 returns c =
     λ t.

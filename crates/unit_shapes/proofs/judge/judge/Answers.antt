@@ -6,6 +6,7 @@ use Rattle.unit_shapes.specs.Views.{names_in}
 use Rattle.unit_shapes.proofs.Judging.{judges_on}
 use Rattle.unit_shapes.proofs.judge.judge.Goals as goal
 
+-- one op more: its faults are kept, and its step leads to the stacks for the ops left
 pub loop-op-preserved : goal.loop-op-preserved
 loop-op-preserved c =
     let rows = c.args.types.now in

@@ -6,6 +6,7 @@ use Rattle.unit_shapes.specs.Faults.{some_fault_of, keep}
 use Rattle.unit_shapes.specs.Views.{names_in}
 use Rattle.unit_shapes.proofs.judge.judge.Given as goal
 
+-- the best fault so far, with those along the ops left, is the best of the first and those along the tape
 abbrev pub invariant-loop-op : goal.invariant-loop-op
 invariant-loop-op l =
     keep (some_fault_of l.best)

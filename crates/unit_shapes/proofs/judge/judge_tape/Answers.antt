@@ -10,6 +10,7 @@ use Rattle.unit_shapes.specs.Views.{names_in}
 use Rattle.unit_shapes.proofs.Keeping.{kept_on}
 use Rattle.unit_shapes.proofs.judge.judge_tape.Goals as goal
 
+-- the best fault kept is the first of the faults before and those along the tape from no operands
 pub returns : goal.returns
 returns c =
     λ faults first.

@@ -5,6 +5,7 @@ use Rattle.unit_shapes.specs.Faults.{some_fault_of, IsFirstOf}
 use Rattle.unit_shapes.proofs.Keeping.{kept_on}
 use Rattle.unit_shapes.proofs.judge.keep_of_names.Goals as goal
 
+-- the best fault kept is the first of the faults before and of these faults of names
 pub returns : goal.returns
 returns c =
     λ faults first.

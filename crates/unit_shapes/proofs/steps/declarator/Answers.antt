@@ -6,6 +6,7 @@ use Rattle.name_tables.specs.UnitSpelling.Spelled.{spelling_of}
 use Rattle.unit_shapes.specs.Views.{names_in}
 use Rattle.unit_shapes.proofs.steps.declarator.Goals as goal
 
+-- a `DeclName` notes its token as the name of the innermost declaration
 pub returns-in-DeclName : goal.returns-in-DeclName
 returns-in-DeclName c =
     let rows = c.args.types.now in
@@ -15,6 +16,7 @@ returns-in-DeclName c =
     on_ok_weaker c.name.result
     (λ done. done rows ∙ ap (steps.declr_step u s st) (sym c.in-DeclName.is)) c.name.ensures
 
+-- a `Param` closes the innermost declaration
 pub returns-in-Param : goal.returns-in-Param
 returns-in-Param c =
     let rows = c.args.types.now in
@@ -23,6 +25,7 @@ returns-in-Param c =
     let st = state_in rows c.args.stacks.now in
     c.close.ensures rows ∙ ap (steps.declr_step u s st) (sym c.in-Param.is)
 
+-- a `Declare` notes the name of the innermost declaration as the last declared
 pub returns-in-Declare : goal.returns-in-Declare
 returns-in-Declare c =
     let rows = c.args.types.now in
@@ -32,6 +35,7 @@ returns-in-Declare c =
     on_ok_weaker c.declare.result
     (λ done. done rows ∙ ap (steps.declr_step u s st) (sym c.in-Declare.is)) c.declare.ensures
 
+-- a `Member` leaves the innermost declaration without a name
 pub returns-in-Member : goal.returns-in-Member
 returns-in-Member c =
     let rows = c.args.types.now in
@@ -41,6 +45,7 @@ returns-in-Member c =
     on_ok_weaker c.leave_name.result
     (λ done. done rows ∙ ap (steps.declr_step u s st) (sym c.in-Member.is)) c.leave_name.ensures
 
+-- a `DeclarationEnd` closes the innermost declaration
 pub returns-in-DeclarationEnd : goal.returns-in-DeclarationEnd
 returns-in-DeclarationEnd c =
     let rows = c.args.types.now in
@@ -49,6 +54,7 @@ returns-in-DeclarationEnd c =
     let st = state_in rows c.args.stacks.now in
     c.close-in-DeclarationEnd.ensures rows ∙ ap (steps.declr_step u s st) (sym c.in-DeclarationEnd.is)
 
+-- an `AutoEnd` notes the name of the innermost declaration as the last declared
 pub returns-in-AutoEnd : goal.returns-in-AutoEnd
 returns-in-AutoEnd c =
     let rows = c.args.types.now in
@@ -58,6 +64,7 @@ returns-in-AutoEnd c =
     on_ok_weaker c.declare-in-AutoEnd.result
     (λ done. done rows ∙ ap (steps.declr_step u s st) (sym c.in-AutoEnd.is)) c.declare-in-AutoEnd.ensures
 
+-- an `OldParam` notes the name of the innermost declaration as the last declared
 pub returns-in-OldParam : goal.returns-in-OldParam
 returns-in-OldParam c =
     let rows = c.args.types.now in

@@ -9,6 +9,7 @@ use Rattle.name_tables.specs.UnitSpelling.Spelled.{spelling_of}
 use Rattle.unit_shapes.specs.Views.{names_in}
 use Rattle.unit_shapes.proofs.steps.type_name.Goals as goal
 
+-- a type's name closes its declaration and pushes the type that is named at its first token
 pub returns : goal.returns
 returns c =
     let rows = c.args.types.now in

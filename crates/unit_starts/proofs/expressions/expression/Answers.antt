@@ -6,6 +6,7 @@ use Rattle.unit_shapes.specs.Views.{names_in}
 use Rattle.unit_starts.proofs.Fresh.{fresh_condition, fresh_prefix}
 use Rattle.unit_starts.proofs.expressions.expression.Goals as goal
 
+-- `?:` begins a fresh skeleton where the rules begin one, by its zeros and its types
 pub returns-in-Cond : goal.returns-in-Cond
 returns-in-Cond c =
     let rows = c.args.types.now in
@@ -19,6 +20,7 @@ returns-in-Cond c =
     it.last c.place-in-Cond.result c.place-in-Cond.ensures
     ∙ ap (expr_op_starts u s st c.args.rounds.now) (sym it.is)
 
+-- an operator before its operand begins a fresh skeleton where the rules begin one, by its sign and its operand
 pub returns-in-Prefix : goal.returns-in-Prefix
 returns-in-Prefix c =
     let rows = c.args.types.now in

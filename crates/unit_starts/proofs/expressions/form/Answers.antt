@@ -6,6 +6,7 @@ use Rattle.unit_shapes.specs.Views.{names_in}
 use Rattle.unit_starts.proofs.Fresh.{fresh_choice, fresh_selection}
 use Rattle.unit_starts.proofs.expressions.form.Goals as goal
 
+-- a choice begins a fresh skeleton where several candidates are left
 pub returns-in-Choose : goal.returns-in-Choose
 returns-in-Choose c =
     let rows = c.args.types.now in
@@ -19,6 +20,7 @@ returns-in-Choose c =
     c.place-in-Choose.result c.place-in-Choose.ensures
     ∙ ap (form_op_starts u s st c.args.rounds.now) (sym it.is)
 
+-- a selection by a type begins a fresh skeleton where several candidates are left
 pub returns-in-Generic : goal.returns-in-Generic
 returns-in-Generic c =
     let rows = c.args.types.now in

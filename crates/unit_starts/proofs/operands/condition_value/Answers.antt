@@ -6,6 +6,7 @@ use Rattle.name_rules.specs.ShapeSteps.State as states
 use Rattle.expr_shapes.specs.ShapeStacks.Views.{state_in}
 use Rattle.unit_starts.proofs.operands.condition_value.Goals as goal
 
+-- the type of a condition's value is that by its zeros and the types of its two values
 pub returns : goal.returns
 returns c =
     let rows = c.args.types.now in let st = state_in rows c.args.stacks.now in

@@ -6,6 +6,7 @@ use Rattle.unit_starts.specs.Views.{start_in}
 use Rattle.unit_starts.proofs.Selecting.{at_first, at_next, at_last, begun_next, begun_last}
 use Rattle.unit_starts.proofs.starts.find.Goals as goal
 
+-- before the first op no skeleton is found, and all are to come
 pub loop-op-init : goal.loop-op-init
 loop-op-init c =
     let rows = c.args.types.now in (
@@ -14,6 +15,7 @@ loop-op-init c =
           c.args.tape.now c.args.candidates.now,
     )
 
+-- one op more keeps the skeletons found and still to come those of the tape, and its selections added
 pub loop-op-preserved : goal.loop-op-preserved
 loop-op-preserved c =
     let rows = c.args.types.now in
@@ -29,6 +31,7 @@ loop-op-preserved c =
           c.loop-op.invariant.1 done.selections done.stacks,
     )
 
+-- behind the last op the skeletons and the selections are those of the whole tape
 pub returns : goal.returns
 returns c =
     let rows = c.args.types.now in

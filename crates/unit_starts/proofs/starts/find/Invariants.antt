@@ -7,6 +7,7 @@ use Rattle.unit_starts.specs.Views.{start_in}
 use Rattle.unit_starts.proofs.Selecting.{Selected}
 use Rattle.unit_starts.proofs.starts.find.Given as goal
 
+-- invariant of the loop: the skeletons found and still to come are those of the tape, and the selections so far added
 abbrev pub invariant-loop-op : goal.invariant-loop-op
 invariant-loop-op l =
     (map (start_in l.types) l.found

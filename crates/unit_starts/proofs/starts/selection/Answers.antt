@@ -6,6 +6,7 @@ use Rattle.name_rules.specs.ShapeSteps.Steps.{associations, twice}
 use Rattle.unit_starts.proofs.Selecting.{flags_next}
 use Rattle.unit_starts.proofs.starts.selection.Goals as goal
 
+-- the flag of one association more keeps the row with those still to come that of the selection
 pub loop-left-preserved : goal.loop-left-preserved
 loop-left-preserved c =
     let st = state_in c.args.types.now c.args.stacks.now in

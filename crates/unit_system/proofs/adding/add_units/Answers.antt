@@ -3,6 +3,7 @@ use Rattle.std.proofs.lemmas.Result.{err_from_is_err_and}
 use Rattle.unit_system.proofs.Units.{at_stop}
 use Rattle.unit_system.proofs.adding.add_units.Goals as goal
 
+-- where the constraints of a unit halt, those of all units halt there
 pub returns-in_err-add_unit-clause-err : goal.returns-in_err-add_unit-clause-err
 returns-in_err-add_unit-clause-err c =
     let units = c.units-units.result.now in

@@ -9,6 +9,7 @@ use Rattle.unit_starts.specs.Views.{start_in}
 use Rattle.unit_system.proofs.Units.{begun_first, begun_next, begun_starts, begun_selections}
 use Rattle.unit_system.proofs.system.starts_of.Goals as goal
 
+-- before the first unit no skeleton is found
 pub loop-unit-init : goal.loop-unit-init
 loop-unit-init c =
     begun_first c.args.access c.args.program.now c.units-units.result.now _ c.args.candidates.now c.units-units.ensures
@@ -43,6 +44,7 @@ loop-unit-preserved c =
     (selections_found u (names_in types names) nothing it)) c.deref.ensures.value
     c.in_ok-add_starts.ensures.selections)))
 
+-- behind the last unit the skeletons and the selections of all units are found
 pub returns : goal.returns
 returns c = record {
   starts = begun_starts c.args.access c.args.program.now c.units-units.result.now c.loop-unit.unit-index _

@@ -14,6 +14,7 @@ use Rattle.unit_types.specs.Resolved.{tapes_of, faults_among}
 use Rattle.unit_types.proofs.Folding.{found_in, faults_from}
 use Rattle.unit_types.proofs.resolve.first_fault.Goals as goal
 
+-- at first the faults so far are those of names and of bodies, and all units' tapes are still to come
 pub loop-unit-init : goal.loop-unit-init
 loop-unit-init c =
     let s = names_in c.args.types.now c.args.names.now in
@@ -23,6 +24,7 @@ loop-unit-init c =
       rest = append_assoc s.faults (body_faults s) (faults_among s (tapes_of c.args.units.now));
     }
 
+-- one unit more: what its tape has of faults joins those so far
 pub loop-unit-preserved : goal.loop-unit-preserved
 loop-unit-preserved c =
     let s = names_in c.args.types.now c.args.names.now in
@@ -43,6 +45,7 @@ loop-unit-preserved c =
       rest = faults_from s units c.loop-unit.unit-index it was.so_far c.unit-item.is within ∙ was.rest;
     }
 
+-- once no unit is left, the best fault is the first of those of names, bodies and all tapes
 pub returns : goal.returns
 returns c =
     let s = names_in c.args.types.now c.args.names.now in

@@ -6,6 +6,7 @@ use Rattle.unit_shapes.specs.Views.{names_in}
 use Rattle.unit_types.specs.Resolved.{tapes_of, faults_among}
 use Rattle.unit_types.proofs.resolve.first_fault.Given as goal
 
+-- the best fault is the first of those so far; with those of the units left they are all faults of the units
 abbrev pub invariant-loop-unit : goal.invariant-loop-unit
 invariant-loop-unit l =
     let s = names_in l.types l.names in

@@ -5,6 +5,7 @@ use Rattle.name_state.specs.UnitNames.Shown.{names_of, fault_of}
 use Rattle.unit_shapes.specs.Faults.{some_fault_of, IsFirstOf}
 use Rattle.unit_types.proofs.resolve.first_of_declarations.Goals as goal
 
+-- the best of the first faults of names and of bodies is the first of both lists together
 pub returns : goal.returns
 returns c =
     λ t.

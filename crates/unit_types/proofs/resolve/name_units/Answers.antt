@@ -13,6 +13,7 @@ use Rattle.unit_types.specs.Resolved.{tapes_of}
 use Rattle.unit_types.proofs.Folding.{knows_before, names_on_from}
 use Rattle.unit_types.proofs.resolve.name_units.Goals as goal
 
+-- at first no names are known, and the tapes of all units are still to come
 pub loop-unit-init : goal.loop-unit-init
 loop-unit-init c =
     record {
@@ -21,6 +22,7 @@ loop-unit-init c =
       named = λ t knows. ap (tapes_named (tapes_of c.args.units.now)) (c.in_ok-names.ensures t);
     }
 
+-- one unit more: the names become those behind its tape, by the types of the table that has grown
 pub loop-unit-preserved : goal.loop-unit-preserved
 loop-unit-preserved c =
     let units = c.args.units.now in
@@ -41,6 +43,7 @@ loop-unit-preserved c =
           ∙ was.named t before;
     }
 
+-- once no unit is left, the names are those on the tapes of all units, by any types that the table knows
 pub returns : goal.returns
 returns c =
     let units = c.args.units.now in

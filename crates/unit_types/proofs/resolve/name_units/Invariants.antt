@@ -8,6 +8,7 @@ use Rattle.unit_shapes.specs.Views.{AreImplicit}
 use Rattle.unit_types.specs.Resolved.{tapes_of, names_on}
 use Rattle.unit_types.proofs.resolve.name_units.Given as goal
 
+-- the names so far are shown by the table; the tapes of the units left lead from them to the names on all tapes
 abbrev pub invariant-loop-unit : goal.invariant-loop-unit
 invariant-loop-unit l =
     record {

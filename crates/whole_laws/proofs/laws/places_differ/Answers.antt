@@ -1,6 +1,7 @@
 use Rattle.whole_laws.proofs.Whole.{places_differ}
 use Rattle.whole_laws.proofs.laws.places_differ.Goals as goal
 
+-- no two declarations, uses, skeletons or selections of units that were read are at one place
 pub returns : goal.returns
 returns c =
     places_differ c.keys_differ.ensures c.names_of_tapes.ensures c.declarations_differ.ensures

@@ -2,6 +2,7 @@ use Rattle.bounds_below.specs.declared.work.Work.{Work}
 use Rattle.bounds_below.proofs.Gaining.{gained, raised_has, raised_sound}
 use Rattle.bounds_below.proofs.work.Work.gain.Goals as goal
 
+-- a set that has grown, whose variable waits, is a gain
 pub returns-clause-gains : goal.returns-clause-gains
 returns-clause-gains c =
     let new : Work = record { sets = c.raise.new.sets; waiting = c.push.new.self } in

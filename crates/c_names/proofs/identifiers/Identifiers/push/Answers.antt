@@ -3,6 +3,7 @@ use Rattle.c_names.specs.Identifiers.{number_in}
 use Rattle.c_names.proofs.Numbering.{one_numbered}
 use Rattle.c_names.proofs.identifiers.Identifiers.push.Goals as goal
 
+-- the numbers stay those of the identifiers where a new one is pushed and its number put in the table
 pub invariant_of-self-in-Ok-insert : goal.invariant_of-self-in-Ok-insert
 invariant_of-self-in-Ok-insert c =
     let count = c.len-count.ensures in

@@ -4,6 +4,7 @@ use Rattle.c_names.specs.Identifiers.{typed_once}
 use Rattle.c_names.proofs.Numbering.{typed_numbered, changed, unchanged, past}
 use Rattle.c_names.proofs.identifiers.Identifiers.set_type.Goals as goal
 
+-- where there is no identifier of a number, no type is set, and the list stays as it is
 pub returns-in_default : goal.returns-in_default
 returns-in_default c =
     let all = c.self.inside.all in
@@ -12,6 +13,7 @@ returns-in_default c =
     unchanged all.items c.args.number (typed_once c.args.ty) beyond
     ∙ ap (λ xs. changed_at xs c.args.number (typed_once c.args.ty)) c.self.view_is
 
+-- where there is an identifier of a number, the list is changed there by the type, unless it has one
 pub returns : goal.returns
 returns c =
     let all = c.self.inside.all in
@@ -22,6 +24,7 @@ returns c =
     c.set_type.ensures
     ∙ ap (λ xs. changed_at xs c.args.number (typed_once c.args.ty)) c.self.view_is
 
+-- the numbers stay those of the identifiers where one of them gets its type
 pub invariant_of-self-2 : goal.invariant_of-self-2
 invariant_of-self-2 c =
     let all = c.self.inside.all in

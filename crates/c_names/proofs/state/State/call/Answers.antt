@@ -2,6 +2,7 @@ use Rattle.c_names.proofs.Low.{declared_low, params_low}
 use Rattle.c_names.proofs.state.State.call.Goals as goal
 use Rattle.c_names.proofs.state.State.call.Goals.{in-Some, in-None}
 
+-- the parameters taken off the last list that ended, or none, are types of the table
 pub function-requires-clause-params : goal.function-requires-clause-params
 function-requires-clause-params c =
     elim c.match-pop.branch [

@@ -14,6 +14,7 @@ use Rattle.c_names.proofs.Low.{knows_before, shown_at}
 use Rattle.c_names.proofs.Ending.{auto_is}
 use Rattle.c_names.proofs.state.State.end_auto.Goals as goal
 
+-- the state behind the expression of an `auto`, with its fault if it has no type, is shown alike by the table
 pub set_auto-requires-clause-shown : goal.set_auto-requires-clause-shown
 set_auto-requires-clause-shown c =
     let u = spelling_of c.args.spelling.now in
@@ -23,6 +24,7 @@ set_auto-requires-clause-shown c =
     c.or_base.new.self c.requires.shown c.in_ok-ty.ensures.grown
     (λ t knows. c.in_ok-bare.ensures.blamed t passed ∙ ap (blamed u c.args.token found) (c.in_ok-shape.ensures.left t passed))
 
+-- the state in which an `auto` name has got its type is shown alike by the table that has grown
 pub declare-requires : goal.declare-requires
 declare-requires c =
     let u = spelling_of c.args.spelling.now in
@@ -39,6 +41,7 @@ declare-requires c =
     ∙ ap (λ x. auto_declared x (state_of t passed c.or_base.new.self))
     (before c.in_ok-bare.bare c.in_ok-bare.ensures.low ∙ c.in_ok-bare.ensures.made))
 
+-- an `AutoEnd` declares its name with the bare type of its value, or the base type and a fault, and the specifiers' words
 pub returns-clause-shown : goal.returns-clause-shown
 returns-clause-shown c =
     let u = spelling_of c.args.spelling.now in

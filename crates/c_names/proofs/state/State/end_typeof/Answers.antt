@@ -12,6 +12,7 @@ use Rattle.c_names.proofs.Low.{knows_before}
 use Rattle.c_names.proofs.Ending.{typed_is}
 use Rattle.c_names.proofs.state.State.end_typeof.Goals as goal
 
+-- a `TypeofEnd` gives the specifiers the bare type of its expression, or is at fault and gives the base type
 pub returns-clause-shown : goal.returns-clause-shown
 returns-clause-shown c = λ t knows.
     let u = spelling_of c.args.spelling.now in

@@ -9,6 +9,7 @@ use Rattle.c_names.proofs.Low.{knows_before, grows_twice, stepped, shown_after}
 use Rattle.c_names.proofs.Running.{runs_on}
 use Rattle.c_names.proofs.state.State.run.Goals as goal
 
+-- one op more: the table grows, the state stays shown by it, and the ops left lead where all do
 pub loop-op-preserved : goal.loop-op-preserved
 loop-op-preserved c =
     let known = c.loop-op.invariant in

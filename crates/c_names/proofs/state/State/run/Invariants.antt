@@ -7,6 +7,7 @@ use Rattle.unit_shapes.specs.Views.{AreImplicit}
 use Rattle.c_names.specs.Shown.{state_of, IsShown}
 use Rattle.c_names.proofs.state.State.run.Given as goal
 
+-- ops are counted, the state is shown by a table grown from the first, and the ops left lead where all do
 abbrev pub invariant-loop-op : goal.invariant-loop-op
 invariant-loop-op l =
     record {

@@ -4,6 +4,7 @@ use Rattle.name_tables.specs.UnitSpelling.Spelled.{spelling_of}
 use Rattle.c_names.specs.Shown.{state_of}
 use Rattle.c_names.proofs.state.State.step.Goals as goal
 
+-- an op of statements does to the state what the rules' step over it does
 pub returns-in_ok-statement-in-Stmt-clause-shown : goal.returns-in_ok-statement-in-Stmt-clause-shown
 returns-in_ok-statement-in-Stmt-clause-shown c =
     λ t knows.

@@ -3,6 +3,7 @@ use Rattle.c_reading.specs.Reading.{run}
 use Rattle.c_parser.specs.UnitForms.Old.{known_declarations, old_turn}
 use Rattle.c_parser.proofs.unit_forms.old.declarations.Given as goal
 
+-- what is read from here on, behind the old declarations so far, is what the whole loop over them gives
 abbrev pub invariant-loop-known : goal.invariant-loop-known
 invariant-loop-known g l =
     run (old_turn l.depth l.room) (known_declarations l.known.items) l.place.scopes l.place.rest.now

@@ -3,6 +3,7 @@ use Rattle.c_reading.specs.Reading.{run}
 use Rattle.c_parser.specs.UnitForms.Listed.{known_items, item_turn}
 use Rattle.c_parser.proofs.unit_forms.units.items.Given as goal
 
+-- what is read from here on, behind the items so far, is what the whole loop over items gives
 abbrev pub invariant-loop-known : goal.invariant-loop-known
 invariant-loop-known g l =
     run (item_turn l.depth l.room) (known_items l.known.items) l.place.scopes l.place.rest.now

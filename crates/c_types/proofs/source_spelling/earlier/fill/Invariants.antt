@@ -2,6 +2,7 @@ use Rattle.std.proofs.Common.{◌≡◌, ℕ, length}
 use Rattle.c_types.specs.SourceSpelling.Keys.{own_or}
 use Rattle.c_types.proofs.source_spelling.earlier.fill.Given as goal
 
+-- so many keys are there as the loop has come to, and each name has the key that it had at first
 abbrev pub invariant-loop-number : goal.invariant-loop-number
 invariant-loop-number l =
     record {

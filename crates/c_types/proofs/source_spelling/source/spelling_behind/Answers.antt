@@ -1,6 +1,7 @@
 use Rattle.c_types.proofs.SourceSpelling.Reading.{spelled_is}
 use Rattle.c_types.proofs.source_spelling.source.spelling_behind.Goals as goal
 
+-- what is read of a unit's tokens is what the rules say of it behind the earlier units
 pub returns : goal.returns
 returns c =
     λ units are.

@@ -7,6 +7,7 @@ use Rattle.c_types.specs.Units.{all_but_last, AreParts}
 use Rattle.c_types.proofs.Joined.{before_last, parts_more}
 use Rattle.c_types.proofs.units.Units.push.Goals as goal
 
+-- one unit more: its tokens and its tape join those of the others, and the names are of all units but it
 pub returns : goal.returns
 returns c = λ units unit are is.
     let all = units ++ unit ∷ [] in

@@ -4,6 +4,7 @@ use Rattle.certificate_reader.specs.Reader.{Held}
 use Rattle.certificate_reader.proofs.HeldLemmas.{closed_by}
 use Rattle.certificate_reader.proofs.reader.Reader.close_part.Goals as goal
 
+-- the part made of the lines closes the certificate, and no lines are left
 pub returns-in-Ok-push-clause-ok : goal.returns-in-Ok-push-clause-ok
 returns-in-Ok-push-clause-ok c =
     closed_by c.args.graph.now c.args.self.now c.as_slice.result.now c.as_slice-2.result.now c.in-Ok.part _ _ _

@@ -6,6 +6,7 @@ use Rattle.reader_base.specs.Looping.{WentOn}
 use Rattle.decl_forms.specs.InitForms.Listed.{listing}
 use Rattle.decl_forms.proofs.init_forms.lists.more_items.Goals as goal
 
+-- each turn that reads one more item of a braced initialiser takes a token
 pub loop-known-smaller : goal.loop-known-smaller
 loop-known-smaller g c =
     let before = c.loop-known.place in

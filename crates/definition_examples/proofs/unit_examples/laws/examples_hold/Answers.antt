@@ -1,6 +1,7 @@
 use Rattle.std.proofs.Common.{refl}
 use Rattle.definition_examples.proofs.unit_examples.laws.examples_hold.Goals as goal
 
+-- the sources have the trees and heights that were worked out
 pub returns : goal.returns
 returns c = (
   (

@@ -3,6 +3,7 @@ use Rattle.c_ops.proofs.Lasts.{read_last}
 use Rattle.expr_rows.proofs.OpRows.Stacks.{accepts_newest}
 use Rattle.expr_rows.proofs.op_rows.waiting.take_ended.Goals as goal
 
+-- the newest stays where its right operand goes on with an operator of the level
 pub returns-then-continues : goal.returns-then-continues
 returns-then-continues c =
     let ws = c.args.waiting.now.items in

@@ -2,6 +2,7 @@ use Rattle.std.proofs.Common.{◌≡◌, ◌≢◌, ℕ, false, ◌&&◌, eqb, i
 use Rattle.std.proofs.lemmas.Bool.Decides.{eqb_tells}
 use Rattle.flow_query.proofs.walks.Walks.insert.Goals as goal
 
+-- two pairs that differ in one of their parts compare as different
 apart : (a b u v : ℕ) → (u ≡ a → v ≢ b) → (eqb a u && eqb b v) ≡ false
 apart a b u v other = elim (eqb_tells a u) [
   | inr not ↦ rw not.0 refl
@@ -11,6 +12,7 @@ apart a b u v other = elim (eqb_tells a u) [
   ]
 ]
 
+-- the walk that is kept is that of its pair of variables, and all other pairs keep theirs
 pub returns-in-Ok : goal.returns-in-Ok
 returns-in-Ok c = record {
   here = c.in-Ok.ensures.updates.1;

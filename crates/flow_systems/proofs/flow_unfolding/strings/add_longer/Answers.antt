@@ -5,6 +5,7 @@ use Rattle.flow_systems.proofs.flow_unfolding.strings.add_longer.Goals as goal
 pub returns-in_err-push-clause-kept : goal.returns-in_err-push-clause-kept
 returns-in_err-push-clause-kept c = λ w there. rw c.in_err-push.ensures.items (c.loop-string.invariant.kept w there)
 
+-- adding the site in front of one more string keeps all that were there
 pub loop-string-preserved : goal.loop-string-preserved
 loop-string-preserved c = record {
   kept = λ w there. kept_push c.loop-string.all.items c.push.new.self.items _ w c.in_ok-push.ensures.items (c.loop-string.invariant.kept w there);

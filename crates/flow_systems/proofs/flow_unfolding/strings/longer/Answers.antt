@@ -3,6 +3,7 @@ use Rattle.std.specs.List.{Contains}
 use Rattle.std.proofs.lemmas.Bool.{cases_lt}
 use Rattle.flow_systems.proofs.flow_unfolding.strings.longer.Goals as goal
 
+-- adding one more site in front of each string keeps those of the sites before it
 pub loop-s-preserved : goal.loop-s-preserved
 loop-s-preserved c = record {
   empty = c.add_longer.ensures.kept _ c.loop-s.invariant.empty;

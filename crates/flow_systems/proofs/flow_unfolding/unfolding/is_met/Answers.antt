@@ -8,6 +8,7 @@ use Rattle.flow_systems.proofs.FlowUnfolding.Low.{met_names, over_unmet}
 use Rattle.flow_systems.proofs.FlowUnfolding.Answering.{answered}
 use Rattle.flow_systems.proofs.flow_unfolding.unfolding.is_met.Goals as goal
 
+-- where a constant or a bound names no element, no assignment meets the unfolding
 pub returns-then-not-names_elements : goal.returns-then-not-names_elements
 returns-then-not-names_elements c other meets =
     let names = met_names c.args.graph.now c.args.lattice_no c.args.lattice.now.order c.args.depth other c.law.ensures.lattice.ordered meets in
@@ -19,6 +20,7 @@ raise_all-requires-clause-named c = c.if-not-names_elements.ensures.0 refl
 pub keeps_bounds-requires-clause-named : goal.keeps_bounds-requires-clause-named
 keeps_bounds-requires-clause-named c = c.if-not-names_elements.ensures.0 refl
 
+-- the least assignment that rises meets the unfolding where it keeps the bounds, and else none does
 pub returns : goal.returns
 returns c =
     let map : Assignment = map_of c.raise_all.new.map in

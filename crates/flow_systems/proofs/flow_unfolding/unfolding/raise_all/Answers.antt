@@ -6,6 +6,7 @@ use Rattle.flow_systems.specs.FlowUnfolding.Meeting.{AgreesBelow}
 use Rattle.flow_systems.proofs.FlowUnfolding.Rising.{all_rise}
 use Rattle.flow_systems.proofs.flow_unfolding.unfolding.raise_all.Goals as goal
 
+-- an assignment that a turn over all constraints and copies leaves as it is, rises along all of them
 pub returns-then-not-grew-clause-rises : goal.returns-then-not-grew-clause-rises
 returns-then-not-grew-clause-rises c =
     let Agrees : Assignment → Type 0 = λ k.

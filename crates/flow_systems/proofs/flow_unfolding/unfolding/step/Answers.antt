@@ -6,12 +6,14 @@ use Rattle.flow_systems.specs.FlowUnfolding.Meeting.{IsLow}
 use Rattle.flow_systems.proofs.FlowUnfolding.Low.{begins_inside, step_low, raised_both}
 use Rattle.flow_systems.proofs.flow_unfolding.unfolding.step.Goals as goal
 
+-- the element at the begin of a link is one of the lattice
 pub raise-requires-clause-elem : goal.raise-requires-clause-elem
 raise-requires-clause-elem c =
     rw c.begin_element-elem.ensures (begins_inside c.args.graph.now c.args.lattice_no c.args.lattice.now.order c.args.depth (map_of c.args.map.now) c.requires.named
     c.requires.low.elements c.args.at c.constraint-constraint.result.link c.args.sites.now
     (record { constraint = c.constraint-constraint.result; there = c.constraint-constraint.ensures.there; link_is = refl; carried = c.if-not-is_in.ensures.0 refl }))
 
+-- raising the end of a constraint in a copy leaves the assignment at or below each that rises
 pub returns-clause-low : goal.returns-clause-low
 returns-clause-low c =
     let Low : Assignment → Type 0 = λ k. IsLow c.args.graph.now c.args.lattice_no c.args.lattice.now.order c.args.depth (map_of k) in

@@ -7,6 +7,7 @@ use Rattle.flow_systems.proofs.FlowUnfolding.Longer.{true_more}
 use Rattle.flow_systems.proofs.flow_unfolding.unfolding.turn_at.Goals as goal
 use Rattle.flow_systems.proofs.flow_unfolding.unfolding.turn_at.Goals.{then-branch, else-branch}
 
+-- where nothing grew in one more copy, the assignment agrees there too
 pub loop-string-preserved : goal.loop-string-preserved
 loop-string-preserved c =
     let At : Assignment → List ℕ → Type 0 = λ k x. AgreesAt c.args.graph.now c.args.lattice_no c.args.lattice.now.order c.args.depth (map_of k) c.args.at x in

@@ -6,6 +6,7 @@ use Rattle.lattice_file.specs.Extents.{IsFront}
 use Rattle.lattice_file.proofs.FrontLemmas.{front_either}
 use Rattle.lattice_file.proofs.words.Given.name_front.Goals as goal
 
+-- the front of an entry's attribute that it does not have yet is the longest of those of all five
 pub returns : goal.returns
 returns c =
     let given = c.args.self.now in

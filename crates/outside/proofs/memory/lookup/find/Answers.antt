@@ -14,6 +14,7 @@ found [] i name d l e = absurd (omega arith)
 found (file ∷ files) zero name d l e = rw e refl
 found (file ∷ files) (suc i) name d l e = found files i name d (omega arith) e
 
+-- a file of the name is the first with it, so its bytes are the content of the name
 pub returns-then-eq-clause-content : goal.returns-then-eq-clause-content
 returns-then-eq-clause-content c =
     found c.args.files.now c.loop-i.i c.args.name.now c.index-files-i.result c.loop-i-test.true

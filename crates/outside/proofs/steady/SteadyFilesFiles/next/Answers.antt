@@ -5,6 +5,7 @@ use Rattle.outside.specs.Memory.{AreRead, files_of, rest_at}
 use Rattle.outside.proofs.Rests.{all_agree, moves_read}
 use Rattle.outside.proofs.steady.SteadyFilesFiles.next.Goals as goal
 
+-- a call for more moves bytes from the rest to the last reading, and none has failed
 pub invariant_of-self : goal.invariant_of-self
 invariant_of-self c =
     let files = files_of c.self.inside.files.items in

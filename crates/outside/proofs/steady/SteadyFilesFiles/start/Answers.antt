@@ -4,6 +4,7 @@ use Rattle.outside.specs.Memory.{AreRead, files_of, rest_at}
 use Rattle.outside.proofs.Rests.{all_agree, starts_read}
 use Rattle.outside.proofs.steady.SteadyFilesFiles.start.Goals as goal
 
+-- a start is a reading without bytes, of which the whole file is left, and none has failed
 pub invariant_of-self : goal.invariant_of-self
 invariant_of-self c =
     let files = files_of c.self.inside.files.items in

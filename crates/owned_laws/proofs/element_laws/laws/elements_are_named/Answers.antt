@@ -6,6 +6,7 @@ use Rattle.owned_laws.proofs.ElementLaws.Rows.{Flows}
 use Rattle.owned_laws.proofs.ElementLaws.Steps.{elements_are_named, lattices_are_named}
 use Rattle.owned_laws.proofs.element_laws.laws.elements_are_named.Goals as goal
 
+-- the constants and bounds of each program's constraints name elements
 pub returns : goal.returns
 returns c = record {
   named = elements_are_named law c.constraints_are_found.ensures;

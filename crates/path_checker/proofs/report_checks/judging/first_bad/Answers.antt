@@ -3,6 +3,7 @@ use Rattle.path_checker.specs.Report.{shape_of}
 use Rattle.path_checker.proofs.ReportChecks.Parts.{parts_at}
 use Rattle.path_checker.proofs.report_checks.judging.first_bad.Goals as goal
 
+-- a proof that fails, behind such as hold, is the first that fails
 pub returns-in-Err-clause-first : goal.returns-in-Err-clause-first
 returns-in-Err-clause-first c =
     let i = c.loop-proof.proof-index in
@@ -16,6 +17,7 @@ returns-in-Err-clause-first c =
       fails = c.in-Err.ensures.fails;
     }
 
+-- when no proof is left, the steps of each hold
 pub returns-clause-first : goal.returns-clause-first
 returns-clause-first c =
     let whole : length c.args.proofs.now ≤ c.loop-proof.proof-index = omega (arith, c.loop-proof-test.false) in

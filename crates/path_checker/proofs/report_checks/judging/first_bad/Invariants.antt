@@ -4,6 +4,7 @@ use Rattle.path_checker.specs.Report.{shape_of}
 use Rattle.path_checker.specs.ReportChecks.Checks.{StepsHold, Refutes}
 use Rattle.path_checker.proofs.report_checks.judging.first_bad.Given as goal
 
+-- the proofs before this one hold, and if there is one, the system is refuted
 abbrev pub invariant-loop-proof : goal.invariant-loop-proof
 invariant-loop-proof l =
     All (StepsHold l.graph (orders_of l.lattices)) (map shape_of (take l.proof-index l.proofs))

@@ -3,6 +3,7 @@ use Rattle.std.proofs.lemmas.Result.{IfOk-weaker}
 use Rattle.path_checker.proofs.ReportChecks.Unique.{comes_to_one}
 use Rattle.path_checker.proofs.report_checks.judging.judge_report.Goals as goal
 
+-- what is answered is the only thing that the text comes to
 pub returns-clause-only : goal.returns-clause-only
 returns-clause-only c =
     let a = c.args in

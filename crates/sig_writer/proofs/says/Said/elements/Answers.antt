@@ -4,6 +4,7 @@ use Rattle.sig_writer.specs.Saying.{elements_of, said_at, Saying}
 use Rattle.sig_writer.proofs.Sayings.{elements_else, elements_here}
 use Rattle.sig_writer.proofs.says.Said.elements.Goals as goal
 
+-- the elements at the index of a node are those that it says
 pub returns-in-Some-get : goal.returns-in-Some-get
 returns-in-Some-get c =
     let nodes = c.self.inside.nodes in
@@ -19,6 +20,7 @@ returns-in-Some-get c =
     read
     ∙ ap (λ (s : Saying). elements_of (said_at s c.args.at).low (said_at s c.args.at).high) c.self.view_is
 
+-- at a variable that is no node there are no elements
 pub returns-in-None : goal.returns-in-None
 returns-in-None c =
     c.no_elements-in-None.ensures

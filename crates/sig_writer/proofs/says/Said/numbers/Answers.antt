@@ -4,6 +4,7 @@ use Rattle.sig_writer.specs.Saying.{said_at, Saying}
 use Rattle.sig_writer.proofs.Sayings.{numbers_else, numbers_here}
 use Rattle.sig_writer.proofs.says.Said.numbers.Goals as goal
 
+-- the numbers at the index of a node are those that it says
 pub returns-in-Some-get : goal.returns-in-Some-get
 returns-in-Some-get c =
     let nodes = c.self.inside.nodes in
@@ -20,6 +21,7 @@ returns-in-Some-get c =
     read
     ∙ ap (λ (s : Saying). (said_at s c.args.at).numbers) c.self.view_is
 
+-- at a variable that is no node there are no numbers
 pub returns-in-None : goal.returns-in-None
 returns-in-None c =
     numbers_else c.self.inside.nodes c.self.inside.numbers.items c.self.inside.elements.items c.self.invariant

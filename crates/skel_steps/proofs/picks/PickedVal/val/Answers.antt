@@ -5,6 +5,7 @@ use Rattle.skel_steps.specs.Picks.{pick_by}
 use Rattle.skel_steps.proofs.Candidates.{picked_is}
 use Rattle.skel_steps.proofs.picks.PickedVal.val.Goals as goal
 
+-- the operand of a pick is what is picked of its candidates, with the fresh value at its token
 pub returns : goal.returns
 returns c = λ w shows all p.
     let k = c.args.known.now in

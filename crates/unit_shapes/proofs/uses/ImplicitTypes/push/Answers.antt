@@ -1,6 +1,7 @@
 use Rattle.unit_shapes.proofs.Implicit.{implicit}
 use Rattle.unit_shapes.proofs.uses.ImplicitTypes.push.Goals as goal
 
+-- the base type, `void`, texts and functions of unknown parameters are the implicit types once they are pushed
 pub returns-clause-implicit : goal.returns-clause-implicit
 returns-clause-implicit c =
     implicit c.args.types.now c.specified.new.self c.pointer.new.self c.function.new.self c.base-base.result

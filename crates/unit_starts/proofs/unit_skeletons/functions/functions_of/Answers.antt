@@ -12,6 +12,7 @@ use Rattle.unit_starts.proofs.UnitSkeletons.Gathering.{functions_next}
 use Rattle.unit_starts.proofs.unit_skeletons.functions.functions_of.Goals.{then-is_first_function+in_ok-push, else-is_first_function}
 use Rattle.unit_starts.proofs.unit_skeletons.functions.functions_of.Goals as goal
 
+-- one declaration more keeps the functions found and still to come those of all declarations
 pub loop-declared-preserved : goal.loop-declared-preserved
 loop-declared-preserved c =
     let t = type_of c.args.types.now in

@@ -6,6 +6,7 @@ use Rattle.name_state.specs.UnitNames.Shown.{declared_of}
 use Rattle.unit_shapes.specs.Views.{names_in}
 use Rattle.unit_starts.proofs.unit_skeletons.functions.functions_of.Given as goal
 
+-- invariant of the loop: the functions found and still to come are those of all declarations, by their links
 abbrev pub invariant-loop-declared : goal.invariant-loop-declared
 invariant-loop-declared l =
     let s = names_in l.types l.names in

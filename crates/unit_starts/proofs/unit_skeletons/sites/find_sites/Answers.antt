@@ -10,6 +10,7 @@ use Rattle.unit_starts.proofs.UnitSkeletons.Placing.{one_left}
 use Rattle.unit_starts.proofs.UnitSkeletons.Siting.{sites_next}
 use Rattle.unit_starts.proofs.unit_skeletons.sites.find_sites.Goals as goal
 
+-- one skeleton more keeps the sites found and still to come those of all, with the first at each place
 pub loop-start-preserved : goal.loop-start-preserved
 loop-start-preserved c =
     let it = c.loop-start.it in

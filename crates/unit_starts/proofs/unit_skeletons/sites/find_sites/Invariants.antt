@@ -6,6 +6,7 @@ use Rattle.unit_starts.specs.Views.{start_in}
 use Rattle.unit_starts.specs.UnitSkeletons.Numbers.{place_among}
 use Rattle.unit_starts.proofs.unit_skeletons.sites.find_sites.Given as goal
 
+-- invariant of the loop: the sites and their places, found and still to come, are those of all; no constraint, no owner
 abbrev pub invariant-loop-start : goal.invariant-loop-start
 invariant-loop-start l =
     record {

@@ -7,6 +7,7 @@ use Rattle.unit_starts.specs.UnitSkeletons.Found.{AreMarked, IsNumbering, found_
 use Rattle.unit_starts.proofs.UnitSkeletons.Placing.{found_all, numbering_on, one_left, none_left}
 use Rattle.unit_starts.proofs.unit_skeletons.skeletons.number_skeletons.Goals as goal
 
+-- behind the last skeleton the one found at each place is that among all
 pub returns-clause-found : goal.returns-clause-found
 returns-clause-found c = λ p.
     let rows = c.loop-start.it.vars in
@@ -18,6 +19,7 @@ returns-clause-found c = λ p.
     (none_left starts c.loop-start.start-index c.loop-start-test.false))
     ∙ c.loop-start.invariant.found p
 
+-- behind the last skeleton each skeleton of the table is one of those that were added
 pub returns-clause-marked : goal.returns-clause-marked
 returns-clause-marked c =
     let rows = c.loop-start.it.vars in
@@ -31,6 +33,7 @@ returns-clause-marked c =
     ∙ append-nil before)))
     c.loop-start.invariant.marked
 
+-- one skeleton more keeps the table and the index the numbering of the skeletons so far
 pub loop-start-preserved : goal.loop-start-preserved
 loop-start-preserved c =
     let it = c.loop-start.it in

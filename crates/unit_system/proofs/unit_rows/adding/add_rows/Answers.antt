@@ -8,11 +8,13 @@ use Rattle.skel_steps.specs.Stepping.{state_of}
 use Rattle.unit_system.proofs.UnitRows.Looping.{Reached, at_first, at_next, at_refused, at_want, split_at, one_more, all_taken}
 use Rattle.unit_system.proofs.unit_rows.adding.add_rows.Goals as goal
 
+-- before the first op the graph is as it was, and the stacks are empty
 pub loop-op-init : goal.loop-op-init
 loop-op-init c = λ w shows.
     at_first w c.args.graph.now (state_of c.args.known.now c.new-stacks.result)
     (ap (state_of c.args.known.now) c.new-stacks.ensures)
 
+-- behind one op more the graph has the rows of the ops so far, and the stacks their state
 pub loop-op-preserved : goal.loop-op-preserved
 loop-op-preserved c =
     let k = c.args.known.now in
@@ -27,6 +29,7 @@ loop-op-preserved c =
     (state_of k c.pass.new.stacks) (take c.loop-op.op-index tape) op (c.loop-op.invariant w shows)
     (c.in_ok-add_row.ensures.ok w shows) (c.in_ok-pass.ensures.ok w shows))
 
+-- behind the last op the graph has the rows of the whole tape
 pub returns : goal.returns
 returns c =
     let tape = c.args.tape.now in
@@ -38,6 +41,7 @@ returns c =
       err = tt;
     }
 
+-- where the row of an op halts, the rows of the tape halt in it
 pub returns-in_err-add_row-clause-err : goal.returns-in_err-add_row-clause-err
 returns-in_err-add_row-clause-err c =
     let k = c.args.known.now in
@@ -52,6 +56,7 @@ returns-in_err-add_row-clause-err c =
     (c.loop-op.invariant w shows) (split_at tape c.loop-op.op-index op c.op-item.is within)
     (c.in_err-add_row.ensures.err w shows))
 
+-- where the stacks want memory behind an op, the rows of the tape halt behind its row
 pub returns-in_err-pass-clause-err : goal.returns-in_err-pass-clause-err
 returns-in_err-pass-clause-err c =
     let k = c.args.known.now in

@@ -8,6 +8,7 @@ use Rattle.skel_steps.specs.Stepping.{tables_of, state_of}
 use Rattle.unit_system.proofs.UnitRows.RowLists.{Same, row_added, row_halted, none_halts}
 use Rattle.unit_system.proofs.unit_rows.flows.declared_row.Goals as goal
 
+-- the name of a declarator adds the row of what it names, or halts in it
 pub returns-in-Ok : goal.returns-in-Ok
 returns-in-Ok c =
     let k = c.args.known.now in

@@ -9,6 +9,7 @@ use Rattle.skel_steps.specs.Stepping.{tables_of, state_of}
 use Rattle.unit_system.proofs.UnitRows.RowLists.{Same, into_same, row_added, row_halted}
 use Rattle.unit_system.proofs.unit_rows.flows.leaf_row.Goals as goal
 
+-- a value in braces adds its flow into the member or element that is next, or halts in it
 pub returns : goal.returns
 returns c =
     let k = c.args.known.now in

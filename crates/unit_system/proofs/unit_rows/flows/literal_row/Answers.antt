@@ -6,6 +6,7 @@ use Rattle.skel_steps.specs.Stepping.{tables_of, state_of}
 use Rattle.unit_system.proofs.UnitRows.RowLists.{Same, row_added, row_halted}
 use Rattle.unit_system.proofs.unit_rows.flows.literal_row.Goals as goal
 
+-- a compound literal adds the row of its type, or halts in it
 pub returns : goal.returns
 returns c =
     let k = c.args.known.now in

@@ -5,6 +5,7 @@ use Rattle.name_state.specs.UnitNames.Shown.{use_of}
 use Rattle.unit_system.proofs.UnitRows.RowLists.{Same, row_added, row_halted}
 use Rattle.unit_system.proofs.unit_rows.flows.name_row.Goals as goal
 
+-- a name in an expression adds the row of what it is used as, or halts in it
 pub returns : goal.returns
 returns c =
     let k = c.args.known.now in

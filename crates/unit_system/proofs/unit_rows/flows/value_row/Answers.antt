@@ -10,6 +10,7 @@ use Rattle.skel_steps.specs.Stepping.{tables_of, state_of}
 use Rattle.unit_system.proofs.UnitRows.RowLists.{Same, into_same, row_added, row_halted}
 use Rattle.unit_system.proofs.unit_rows.flows.value_row.Goals as goal
 
+-- an initialiser adds the flow of its value into the name declared last, or halts in it
 pub returns : goal.returns
 returns c =
     let k = c.args.known.now in

@@ -9,6 +9,7 @@ use Rattle.skel_steps.specs.Stepping.{tables_of, state_of}
 use Rattle.unit_system.proofs.UnitRows.RowLists.{Same, row_added, row_halted}
 use Rattle.unit_system.proofs.unit_rows.forms.va_copy_row.Goals as goal
 
+-- `va_copy` adds the flow of one list into the other in all lattices, or halts in it
 pub returns : goal.returns
 returns c =
     let k = c.args.known.now in

@@ -8,6 +8,7 @@ use Rattle.row_world.specs.Shown.{val}
 use Rattle.unit_system.proofs.UnitRows.RowLists.{Same, row_added, row_halted}
 use Rattle.unit_system.proofs.unit_rows.operators.address_row.Goals as goal
 
+-- `&` at a place that was come to by a pointer adds what the pointer carries, or halts in it
 pub returns : goal.returns
 returns c =
     let k = c.args.known.now in

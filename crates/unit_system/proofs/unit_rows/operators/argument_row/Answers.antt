@@ -10,6 +10,7 @@ use Rattle.skel_steps.specs.Stepping.{tables_of, state_of}
 use Rattle.unit_system.proofs.UnitRows.RowLists.{Same, row_added, row_halted}
 use Rattle.unit_system.proofs.unit_rows.operators.argument_row.Goals as goal
 
+-- an argument adds its flow into the parameter of its number, or into the further ones, or halts in it
 pub returns : goal.returns
 returns c =
     let k = c.args.known.now in

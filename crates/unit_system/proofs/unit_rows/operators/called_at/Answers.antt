@@ -4,6 +4,7 @@ use Rattle.row_rules.specs.RowSteps.State as states
 use Rattle.skel_steps.specs.Stepping.{tables_of, state_of}
 use Rattle.unit_system.proofs.unit_rows.operators.called_at.Goals as goal
 
+-- the skeleton below the arguments is that of the function that is called
 pub returns : goal.returns
 returns c =
     let k = c.args.known.now in

@@ -7,6 +7,7 @@ use Rattle.skel_steps.specs.Stepping.{tables_of, state_of}
 use Rattle.unit_system.proofs.UnitRows.RowLists.{Same, row_added, row_halted}
 use Rattle.unit_system.proofs.unit_rows.operators.cond_row.Goals as goal
 
+-- a condition adds the flows of both its values into its own, or halts in them
 pub returns : goal.returns
 returns c =
     let k = c.args.known.now in

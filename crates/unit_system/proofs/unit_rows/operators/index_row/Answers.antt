@@ -8,6 +8,7 @@ use Rattle.skel_steps.specs.Stepping.{state_of}
 use Rattle.unit_system.proofs.UnitRows.RowLists.{Same, row_added, row_halted, none_added}
 use Rattle.unit_system.proofs.unit_rows.operators.index_row.Goals as goal
 
+-- an index into a vector adds nothing
 pub returns-then-is_vector_index : goal.returns-then-is_vector_index
 returns-then-is_vector_index c =
     let k = c.args.known.now in
@@ -23,6 +24,7 @@ returns-then-is_vector_index c =
       err = tt;
     }
 
+-- any other index adds the row of the pointer that it follows, or halts in it
 pub returns : goal.returns
 returns c =
     let k = c.args.known.now in

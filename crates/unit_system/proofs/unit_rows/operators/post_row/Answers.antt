@@ -8,6 +8,7 @@ use Rattle.skel_steps.specs.Stepping.{tables_of, state_of}
 use Rattle.unit_system.proofs.UnitRows.RowLists.{Same, row_added, row_halted}
 use Rattle.unit_system.proofs.unit_rows.operators.post_row.Goals as goal
 
+-- `++` or `--` behind its operand adds the bounds of a write to it, or halts in them
 pub returns : goal.returns
 returns c =
     let k = c.args.known.now in

@@ -11,6 +11,7 @@ use Rattle.row_world.specs.Shown.{val}
 use Rattle.unit_system.proofs.UnitRows.RowLists.{Same, row_added, row_halted}
 use Rattle.unit_system.proofs.unit_rows.operators.prefix_row.Goals as goal
 
+-- `&` that a pointer carries through adds the row of this, or halts in it
 pub returns-then-is_carrying : goal.returns-then-is_carrying
 returns-then-is_carrying c =
     let k = c.args.known.now in
@@ -25,6 +26,7 @@ returns-then-is_carrying c =
       err = row_halted c.address_row.result k c.args.graph.now c.address_row.new.graph _ _ same c.address_row.ensures.err;
     }
 
+-- any other operator before its operand adds the row of it by its sign, or halts in it
 pub returns : goal.returns
 returns c =
     let k = c.args.known.now in

@@ -7,6 +7,7 @@ use Rattle.skel_steps.specs.Stepping.{tables_of, state_of}
 use Rattle.unit_system.proofs.UnitRows.RowLists.{Same, row_added, row_halted}
 use Rattle.unit_system.proofs.unit_rows.picks.candidate_row.Goals as goal
 
+-- a candidate adds its flow into the value of its pick, in all lattices, or halts in it
 pub returns : goal.returns
 returns c =
     let k = c.args.known.now in

@@ -10,6 +10,7 @@ use Rattle.unit_system.specs.UnitRows.Picking.{picking_row}
 use Rattle.unit_system.proofs.UnitRows.RowLists.{rows_added, rows_halted, first_halted}
 use Rattle.unit_system.proofs.unit_rows.picks.choice_rows.Goals as goal
 
+-- the two candidates of a choice add their flows into its value, the deeper first
 pub returns : goal.returns
 returns c =
     let k = c.args.known.now in
@@ -21,6 +22,7 @@ returns c =
           (λ w. rows.flowing (states.is_zero_at 1 st) (states.value_at 1 st) (vals.own w c.args.token) (all_lattices w) (span w c.args.token c.args.token)) (λ w. picking_row w c.args.token (steps.candidate_at 0 st ∷ [])) c.in_ok-candidate_row.ensures.ok c.row_where.ensures.err;
     }
 
+-- where the flow of the first candidate halts, the choice halts in it
 pub returns-in_err-candidate_row-clause-err : goal.returns-in_err-candidate_row-clause-err
 returns-in_err-candidate_row-clause-err c =
     let k = c.args.known.now in

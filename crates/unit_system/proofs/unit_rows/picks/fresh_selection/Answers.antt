@@ -6,6 +6,7 @@ use Rattle.unit_system.specs.UnitRows.Picking.{picking_row}
 use Rattle.unit_system.proofs.UnitRows.RowLists.{rows_added, rows_halted, first_halted}
 use Rattle.unit_system.proofs.unit_rows.picks.fresh_selection.Goals as goal
 
+-- the flows of the candidates of a selection come behind what passes inside its value
 pub returns : goal.returns
 returns c =
     let k = c.args.known.now in
@@ -17,6 +18,7 @@ returns c =
           (λ w. rows.formed_here w c.args.token) (λ w. picking_row w c.args.token (steps.selected w c.args.token 0 c.args.count st)) c.in_ok-form_here.ensures.ok c.selection_rows.ensures.err;
     }
 
+-- where what passes inside the value of a selection halts, its whole row halts there
 pub returns-in_err-form_here-clause-err : goal.returns-in_err-form_here-clause-err
 returns-in_err-form_here-clause-err c =
     let k = c.args.known.now in

@@ -9,6 +9,7 @@ use Rattle.unit_system.specs.UnitRows.Picking.{picking_row}
 use Rattle.unit_system.proofs.UnitRows.RowLists.{Same, row_added, row_halted, none_added, append_none}
 use Rattle.unit_system.proofs.unit_rows.picks.row_where.Goals as goal
 
+-- an expression that is a candidate adds its flow into the value of the pick, or halts in it
 pub returns-then-is : goal.returns-then-is
 returns-then-is c =
     let k = c.args.known.now in
@@ -23,6 +24,7 @@ returns-then-is c =
       err = row_halted c.candidate_row.result k c.args.graph.now c.candidate_row.new.graph _ _ same c.candidate_row.ensures.err;
     }
 
+-- an expression that is no candidate adds nothing
 pub returns-else-is : goal.returns-else-is
 returns-else-is c =
     let k = c.args.known.now in

@@ -9,6 +9,7 @@ use Rattle.unit_system.proofs.UnitRows.RowLists.{Same, row_added, row_halted, no
 use Rattle.unit_system.proofs.UnitRows.Picking.{fresh_row, no_row}
 use Rattle.unit_system.proofs.unit_rows.picks.select_row.Goals as goal
 
+-- a selection with a value of its own adds what passes inside it and the flows of its candidates, or halts
 pub returns-then-is_fresh : goal.returns-then-is_fresh
 returns-then-is_fresh c =
     let k = c.args.known.now in
@@ -20,6 +21,7 @@ returns-then-is_fresh c =
       err = row_halted c.fresh_selection.result k c.args.graph.now c.fresh_selection.new.graph _ _ same c.fresh_selection.ensures.err;
     }
 
+-- a selection without a value of its own adds nothing
 pub returns-else-is_fresh : goal.returns-else-is_fresh
 returns-else-is_fresh c =
     let k = c.args.known.now in

@@ -7,6 +7,7 @@ use Rattle.unit_system.proofs.unit_rows.picks.selection_rows.Goals as goal
 pub loop-number-init : goal.loop-number-init
 loop-number-init c = λ w shows. at_begin w c.args.token c.args.count (state_of c.args.known.now c.args.stacks.now) c.args.graph.now
 
+-- behind one association more the graph has the flows of the candidates so far
 pub loop-number-preserved : goal.loop-number-preserved
 loop-number-preserved c = λ w shows.
     let test = c.loop-number-test.true in
@@ -15,6 +16,7 @@ loop-number-preserved c = λ w shows.
     (c.is_candidate-is.ensures w shows) c.depth_of-depth.ensures (c.loop-number.invariant w shows)
     (c.in_ok-row_where.ensures.ok w shows)
 
+-- behind the last association the graph has the flows of all candidates of the selection
 pub returns : goal.returns
 returns c =
     let test = c.loop-number-test.false in
@@ -24,6 +26,7 @@ returns c =
       err = tt;
     }
 
+-- where the flow of a candidate halts, the selection halts in it
 pub returns-in_err-row_where-clause-err : goal.returns-in_err-row_where-clause-err
 returns-in_err-row_where-clause-err c =
     let test = c.loop-number-test.true in

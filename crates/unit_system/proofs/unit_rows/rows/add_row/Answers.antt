@@ -4,6 +4,7 @@ use Rattle.skel_steps.specs.Stepping.{tables_of, state_of}
 use Rattle.unit_system.proofs.UnitRows.RowLists.{Same, row_added, row_halted, none_added}
 use Rattle.unit_system.proofs.unit_rows.rows.add_row.Goals as goal
 
+-- an op where the stacks are quiet adds nothing
 pub returns-then-is_quiet : goal.returns-then-is_quiet
 returns-then-is_quiet c =
     let k = c.args.known.now in
@@ -14,6 +15,7 @@ returns-then-is_quiet c =
       err = tt;
     }
 
+-- an op where the stacks are not quiet adds its row, or halts in it
 pub returns : goal.returns
 returns c =
     let k = c.args.known.now in

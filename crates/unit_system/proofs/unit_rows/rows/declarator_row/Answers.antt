@@ -4,6 +4,7 @@ use Rattle.skel_steps.specs.Stepping.{state_of}
 use Rattle.unit_system.proofs.UnitRows.RowLists.{row_added, row_halted, none_added}
 use Rattle.unit_system.proofs.unit_rows.rows.declarator_row.Goals as goal
 
+-- the name of a declarator adds the row of what it names, by the op for it, or halts in it
 pub returns-in-DeclName : goal.returns-in-DeclName
 returns-in-DeclName c =
     let k = c.args.known.now in
@@ -13,6 +14,7 @@ returns-in-DeclName c =
       err = row_halted c.declared_row.result k c.args.graph.now c.declared_row.new.graph _ _ (λ w shows. ap (op_rows.declr_row w st) (sym c.in-DeclName.is)) c.declared_row.ensures.err;
     }
 
+-- the begin of a list of parameters gives no constraint
 pub returns-in-ParamsBegin : goal.returns-in-ParamsBegin
 returns-in-ParamsBegin c =
     let k = c.args.known.now in
@@ -22,6 +24,7 @@ returns-in-ParamsBegin c =
       err = tt;
     }
 
+-- the end of a parameter gives no constraint
 pub returns-in-Param : goal.returns-in-Param
 returns-in-Param c =
     let k = c.args.known.now in
@@ -31,6 +34,7 @@ returns-in-Param c =
       err = tt;
     }
 
+-- the end of a list of parameters gives no constraint
 pub returns-in-ParamsEnd : goal.returns-in-ParamsEnd
 returns-in-ParamsEnd c =
     let k = c.args.known.now in
@@ -40,6 +44,7 @@ returns-in-ParamsEnd c =
       err = tt;
     }
 
+-- a pointer of a declarator gives no constraint
 pub returns-in-Pointer : goal.returns-in-Pointer
 returns-in-Pointer c =
     let k = c.args.known.now in
@@ -49,6 +54,7 @@ returns-in-Pointer c =
       err = tt;
     }
 
+-- an array of a declarator gives no constraint
 pub returns-in-Array : goal.returns-in-Array
 returns-in-Array c =
     let k = c.args.known.now in
@@ -58,6 +64,7 @@ returns-in-Array c =
       err = tt;
     }
 
+-- a function of a declarator gives no constraint
 pub returns-in-Function : goal.returns-in-Function
 returns-in-Function c =
     let k = c.args.known.now in
@@ -67,6 +74,7 @@ returns-in-Function c =
       err = tt;
     }
 
+-- the declaring of a name gives no constraint
 pub returns-in-Declare : goal.returns-in-Declare
 returns-in-Declare c =
     let k = c.args.known.now in
@@ -76,6 +84,7 @@ returns-in-Declare c =
       err = tt;
     }
 
+-- the declaring of a member gives no constraint
 pub returns-in-Member : goal.returns-in-Member
 returns-in-Member c =
     let k = c.args.known.now in
@@ -85,6 +94,7 @@ returns-in-Member c =
       err = tt;
     }
 
+-- the end of a type name gives no constraint
 pub returns-in-TypeName : goal.returns-in-TypeName
 returns-in-TypeName c =
     let k = c.args.known.now in
@@ -94,6 +104,7 @@ returns-in-TypeName c =
       err = tt;
     }
 
+-- the end of a declaration gives no constraint
 pub returns-in-DeclarationEnd : goal.returns-in-DeclarationEnd
 returns-in-DeclarationEnd c =
     let k = c.args.known.now in
@@ -103,6 +114,7 @@ returns-in-DeclarationEnd c =
       err = tt;
     }
 
+-- the begin of a declaration whose type its initialiser gives gives no constraint
 pub returns-in-AutoBegin : goal.returns-in-AutoBegin
 returns-in-AutoBegin c =
     let k = c.args.known.now in
@@ -112,6 +124,7 @@ returns-in-AutoBegin c =
       err = tt;
     }
 
+-- the end of a declaration whose type its initialiser gives gives no constraint
 pub returns-in-AutoEnd : goal.returns-in-AutoEnd
 returns-in-AutoEnd c =
     let k = c.args.known.now in
@@ -121,6 +134,7 @@ returns-in-AutoEnd c =
       err = tt;
     }
 
+-- an identifier in a list of them gives no constraint
 pub returns-in-Identifier : goal.returns-in-Identifier
 returns-in-Identifier c =
     let k = c.args.known.now in
@@ -130,6 +144,7 @@ returns-in-Identifier c =
       err = tt;
     }
 
+-- a parameter that is declared behind a list of identifiers gives no constraint
 pub returns-in-OldParam : goal.returns-in-OldParam
 returns-in-OldParam c =
     let k = c.args.known.now in

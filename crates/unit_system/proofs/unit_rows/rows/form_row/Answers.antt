@@ -4,6 +4,7 @@ use Rattle.skel_steps.specs.Stepping.{state_of}
 use Rattle.unit_system.proofs.UnitRows.RowLists.{row_added, row_halted, none_added}
 use Rattle.unit_system.proofs.unit_rows.rows.form_row.Goals as goal
 
+-- the op of a cast adds its row, or halts in it
 pub returns-in-Cast : goal.returns-in-Cast
 returns-in-Cast c =
     let k = c.args.known.now in
@@ -13,6 +14,7 @@ returns-in-Cast c =
       err = row_halted c.cast_row.result k c.args.graph.now c.cast_row.new.graph _ _ (λ w shows. ap (op_rows.form_row w st) (sym c.in-Cast.is)) c.cast_row.ensures.err;
     }
 
+-- `sizeof` gives no constraint
 pub returns-in-Sizeof : goal.returns-in-Sizeof
 returns-in-Sizeof c =
     let k = c.args.known.now in
@@ -22,6 +24,7 @@ returns-in-Sizeof c =
       err = tt;
     }
 
+-- a statement in an expression gives no constraint
 pub returns-in-StmtExpr : goal.returns-in-StmtExpr
 returns-in-StmtExpr c =
     let k = c.args.known.now in
@@ -31,6 +34,7 @@ returns-in-StmtExpr c =
       err = tt;
     }
 
+-- the op of `va_arg` adds its row, or halts in it
 pub returns-in-VaArg : goal.returns-in-VaArg
 returns-in-VaArg c =
     let k = c.args.known.now in
@@ -40,6 +44,7 @@ returns-in-VaArg c =
       err = row_halted c.va_arg_row.result k c.args.graph.now c.va_arg_row.new.graph _ _ (λ w shows. ap (op_rows.form_row w st) (sym c.in-VaArg.is)) c.va_arg_row.ensures.err;
     }
 
+-- the op of `va_start` adds its row, or halts in it
 pub returns-in-VaStart : goal.returns-in-VaStart
 returns-in-VaStart c =
     let k = c.args.known.now in
@@ -49,6 +54,7 @@ returns-in-VaStart c =
       err = row_halted c.va_start_row.result k c.args.graph.now c.va_start_row.new.graph _ _ (λ w shows. ap (op_rows.form_row w st) (sym c.in-VaStart.is)) c.va_start_row.ensures.err;
     }
 
+-- the op of `va_copy` adds its row, or halts in it
 pub returns-in-VaCopy : goal.returns-in-VaCopy
 returns-in-VaCopy c =
     let k = c.args.known.now in
@@ -58,6 +64,7 @@ returns-in-VaCopy c =
       err = row_halted c.va_copy_row.result k c.args.graph.now c.va_copy_row.new.graph _ _ (λ w shows. ap (op_rows.form_row w st) (sym c.in-VaCopy.is)) c.va_copy_row.ensures.err;
     }
 
+-- a member in `offsetof` gives no constraint
 pub returns-in-OffsetMember : goal.returns-in-OffsetMember
 returns-in-OffsetMember c =
     let k = c.args.known.now in
@@ -67,6 +74,7 @@ returns-in-OffsetMember c =
       err = tt;
     }
 
+-- an index in `offsetof` gives no constraint
 pub returns-in-OffsetIndex : goal.returns-in-OffsetIndex
 returns-in-OffsetIndex c =
     let k = c.args.known.now in
@@ -76,6 +84,7 @@ returns-in-OffsetIndex c =
       err = tt;
     }
 
+-- `offsetof` gives no constraint
 pub returns-in-Offset : goal.returns-in-Offset
 returns-in-Offset c =
     let k = c.args.known.now in
@@ -85,6 +94,7 @@ returns-in-Offset c =
       err = tt;
     }
 
+-- a test whether types are compatible gives no constraint
 pub returns-in-Compat : goal.returns-in-Compat
 returns-in-Compat c =
     let k = c.args.known.now in
@@ -94,6 +104,7 @@ returns-in-Compat c =
       err = tt;
     }
 
+-- the end of the control of a selection by a type gives no constraint
 pub returns-in-Control : goal.returns-in-Control
 returns-in-Control c =
     let k = c.args.known.now in
@@ -103,6 +114,7 @@ returns-in-Control c =
       err = tt;
     }
 
+-- the missing type of a `default` association gives no constraint
 pub returns-in-NoType : goal.returns-in-NoType
 returns-in-NoType c =
     let k = c.args.known.now in
@@ -112,6 +124,7 @@ returns-in-NoType c =
       err = tt;
     }
 
+-- the op of a choice adds its row, or halts in it
 pub returns-in-Choose : goal.returns-in-Choose
 returns-in-Choose c =
     let k = c.args.known.now in
@@ -121,6 +134,7 @@ returns-in-Choose c =
       err = row_halted c.choose_row.result k c.args.graph.now c.choose_row.new.graph _ _ (λ w shows. ap (op_rows.form_row w st) (sym c.in-Choose.is)) c.choose_row.ensures.err;
     }
 
+-- the op of a selection by a type adds its row, or halts in it
 pub returns-in-Generic : goal.returns-in-Generic
 returns-in-Generic c =
     let k = c.args.known.now in

@@ -4,6 +4,7 @@ use Rattle.skel_steps.specs.Stepping.{state_of}
 use Rattle.unit_system.proofs.UnitRows.RowLists.{row_added, row_halted, none_added}
 use Rattle.unit_system.proofs.unit_rows.rows.statement_row.Goals as goal
 
+-- the begin of what is not evaluated gives no constraint
 pub returns-in-Quiet : goal.returns-in-Quiet
 returns-in-Quiet c =
     let k = c.args.known.now in
@@ -13,6 +14,7 @@ returns-in-Quiet c =
       err = tt;
     }
 
+-- the end of what is not evaluated gives no constraint
 pub returns-in-Loud : goal.returns-in-Loud
 returns-in-Loud c =
     let k = c.args.known.now in
@@ -22,6 +24,7 @@ returns-in-Loud c =
       err = tt;
     }
 
+-- the end of an expression statement or of a condition gives no constraint
 pub returns-in-Pop : goal.returns-in-Pop
 returns-in-Pop c =
     let k = c.args.known.now in
@@ -31,6 +34,7 @@ returns-in-Pop c =
       err = tt;
     }
 
+-- the op of a `return` with a value adds its row, or halts in it
 pub returns-in-Return : goal.returns-in-Return
 returns-in-Return c =
     let k = c.args.known.now in
@@ -40,6 +44,7 @@ returns-in-Return c =
       err = row_halted c.return_row.result k c.args.graph.now c.return_row.new.graph _ _ (λ w shows. ap (op_rows.stmt_row w st) (sym c.in-Return.is)) c.return_row.ensures.err;
     }
 
+-- the begin of a block gives no constraint
 pub returns-in-Enter : goal.returns-in-Enter
 returns-in-Enter c =
     let k = c.args.known.now in
@@ -49,6 +54,7 @@ returns-in-Enter c =
       err = tt;
     }
 
+-- the end of a block gives no constraint
 pub returns-in-Leave : goal.returns-in-Leave
 returns-in-Leave c =
     let k = c.args.known.now in
@@ -58,6 +64,7 @@ returns-in-Leave c =
       err = tt;
     }
 
+-- the begin of the body of a function gives no constraint
 pub returns-in-FunctionBody : goal.returns-in-FunctionBody
 returns-in-FunctionBody c =
     let k = c.args.known.now in
@@ -67,6 +74,7 @@ returns-in-FunctionBody c =
       err = tt;
     }
 
+-- the end of the body of a function gives no constraint
 pub returns-in-FunctionEnd : goal.returns-in-FunctionEnd
 returns-in-FunctionEnd c =
     let k = c.args.known.now in

@@ -2,6 +2,7 @@ use Rattle.std.proofs.Common.{rules, ◌≡◌, ◌+◌, ◌∙◌, ap, ℕ, Som
 use Rattle.c_types.proofs.SourceSpelling.Keys.{put_text, none_of}
 use Rattle.c_types.proofs.source_spelling.earlier.EarlierNames.add.Goals as goal
 
+-- a spelling has the key it had, or else the count and the name, where it is the one that was added
 pub returns-clause-keys : goal.returns-clause-keys
 returns-clause-keys c =
     let number : c.new.result ≡ c.args.self.now.count + c.args.name = search rules in

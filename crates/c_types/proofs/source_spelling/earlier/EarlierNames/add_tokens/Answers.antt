@@ -4,6 +4,7 @@ use Rattle.c_types.specs.SourceSpelling.Keys.{key_at, past, name_of_token, name_
 use Rattle.c_types.proofs.SourceSpelling.Keys.{or_twice, named_on}
 use Rattle.c_types.proofs.source_spelling.earlier.EarlierNames.add_tokens.Goals as goal
 
+-- one token more: its name and those of the tokens behind it still add up to what all tokens add
 pub loop-number-preserved : goal.loop-number-preserved
 loop-number-preserved c =
     let lexed = c.args.tokens.now in

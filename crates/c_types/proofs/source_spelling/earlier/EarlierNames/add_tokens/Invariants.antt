@@ -3,6 +3,7 @@ use Rattle.c_types.specs.SourceSpelling.Tokens.{or_behind, name_among}
 use Rattle.c_types.specs.SourceSpelling.Keys.{key_at, past}
 use Rattle.c_types.proofs.source_spelling.earlier.EarlierNames.add_tokens.Given as goal
 
+-- the keys so far, with those of the tokens that are left, are as with those of all tokens; the count stays
 abbrev pub invariant-loop-number : goal.invariant-loop-number
 invariant-loop-number l =
     record {

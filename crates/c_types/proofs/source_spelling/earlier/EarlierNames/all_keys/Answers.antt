@@ -4,6 +4,7 @@ use Rattle.c_types.specs.SourceSpelling.Keys.{text_at, key_by}
 use Rattle.c_types.proofs.SourceSpelling.Keys.{texts_on}
 use Rattle.c_types.proofs.source_spelling.earlier.EarlierNames.all_keys.Goals as goal
 
+-- one token further to the front: the keys are those of the spellings of names from that token on
 pub loop-number-preserved : goal.loop-number-preserved
 loop-number-preserved c =
     let it = c.args.self.now in

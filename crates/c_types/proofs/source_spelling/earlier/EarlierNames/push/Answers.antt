@@ -2,6 +2,7 @@ use Rattle.std.proofs.Common.{rules, ◌≡◌, ◌+◌, length}
 use Rattle.c_types.proofs.SourceSpelling.Keys.{unit_more}
 use Rattle.c_types.proofs.source_spelling.earlier.EarlierNames.push.Goals as goal
 
+-- the names of earlier units become those of one unit more, whose tokens are put behind them
 pub returns : goal.returns
 returns c =
     let old = c.args.self.now in

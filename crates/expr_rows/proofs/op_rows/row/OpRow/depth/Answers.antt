@@ -5,6 +5,7 @@ use Rattle.expr_rows.specs.OpRows.Rows.{stack_of}
 use Rattle.expr_rows.proofs.OpRows.Stacks.{how_many_wait}
 use Rattle.expr_rows.proofs.op_rows.row.OpRow.depth.Goals as goal
 
+-- the depth of a row is the number of operands that wait, and one for the last
 pub returns : goal.returns
 returns c =
     let ws = c.args.self.now.waiting.items in

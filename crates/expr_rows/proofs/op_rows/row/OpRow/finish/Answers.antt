@@ -4,6 +4,7 @@ use Rattle.expr_rows.specs.OpRows.Rows.{settled_at}
 use Rattle.expr_rows.proofs.OpRows.Stacks.{finished_all}
 use Rattle.expr_rows.proofs.op_rows.row.OpRow.finish.Goals as goal
 
+-- the tree that all joins leave is that of the finished row
 pub returns : goal.returns
 returns c =
     let ws = c.args.self.waiting.items in

@@ -7,6 +7,7 @@ use Rattle.expr_rows.specs.OpRows.Rows.{stack_of}
 use Rattle.expr_rows.proofs.OpRows.Stacks.{stack_of-push}
 use Rattle.expr_rows.proofs.op_rows.row.OpRow.put.Goals as goal
 
+-- a row with an operator and operand put on it waits with the last operand and the operator
 pub returns-in-Ok : goal.returns-in-Ok
 returns-in-Ok c =
     let newest : Waiting = record { left = c.args.self.last; op = c.args.op; token = c.args.token } in

@@ -4,6 +4,7 @@ use Rattle.flow_systems.specs.FlowUnfolding.Assignment.{last_change}
 use Rattle.flow_systems.proofs.FlowUnfolding.Changes.{last-step}
 use Rattle.flow_systems.proofs.flow_unfolding.assignment.Assignment.get.Goals as goal
 
+-- one more change is the last of this copy so far, or is of another copy
 pub loop-change-preserved : goal.loop-change-preserved
 loop-change-preserved c =
     let items : List Change = c.args.self.now.changes.items in

@@ -5,6 +5,7 @@ use Rattle.outside.specs.Memory.{AreRead, files_of, rest_at}
 use Rattle.outside.proofs.Rests.{all_agree, fails_read, moves_read, shown_on, shown_same}
 use Rattle.outside.proofs.memory.files.MemFilesFiles.next.Goals as goal
 
+-- a call for more that fails breaks the last reading, and leaves the rest as it is
 pub invariant_of-self : goal.invariant_of-self
 invariant_of-self c =
     let files = files_of c.self.inside.files.items in
@@ -16,6 +17,7 @@ invariant_of-self c =
 pub returns-then-contains-clause-agrees : goal.returns-then-contains-clause-agrees
 returns-then-contains-clause-agrees c = all_agree _ _ _ (invariant_of-self c).0
 
+-- a call for more moves bytes from the rest to the last reading
 pub invariant_of-self-2 : goal.invariant_of-self-2
 invariant_of-self-2 c =
     let files = files_of c.self.inside.files.items in

@@ -4,6 +4,7 @@ use Rattle.outside.specs.Memory.{AreRead, files_of, rest_at}
 use Rattle.outside.proofs.Rests.{all_agree, no_start, shown_on, shown_same, starts_read}
 use Rattle.outside.proofs.memory.files.MemFilesFiles.start.Goals as goal
 
+-- a start that fails is a broken reading without bytes
 pub invariant_of-self : goal.invariant_of-self
 invariant_of-self c =
     let files = files_of c.self.inside.files.items in
@@ -15,6 +16,7 @@ invariant_of-self c =
 pub returns-then-is_none-clause-agrees : goal.returns-then-is_none-clause-agrees
 returns-then-is_none-clause-agrees c = all_agree _ _ _ (invariant_of-self c).0
 
+-- a start of a file is a reading without bytes, of which the whole file is left
 pub invariant_of-self-2 : goal.invariant_of-self-2
 invariant_of-self-2 c =
     let files = files_of c.self.inside.files.items in

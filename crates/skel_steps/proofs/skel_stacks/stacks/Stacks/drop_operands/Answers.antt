@@ -5,6 +5,7 @@ use Rattle.skel_steps.specs.SkelStacks.Views.{state_in}
 use Rattle.skel_steps.proofs.SkelStacks.Lists.{dropped_viewed}
 use Rattle.skel_steps.proofs.skel_stacks.stacks.Stacks.drop_operands.Goals as goal
 
+-- so many operands that are dropped from the stack are dropped from the state
 pub returns : goal.returns
 returns c =
     λ t. dropped_viewed t c.args.count

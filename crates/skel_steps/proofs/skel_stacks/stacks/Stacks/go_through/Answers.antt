@@ -7,6 +7,7 @@ use Rattle.skel_steps.specs.SkelStacks.Views.{state_in, skel_in}
 use Rattle.skel_steps.proofs.SkelStacks.Lists.{gone_viewed}
 use Rattle.skel_steps.proofs.skel_stacks.stacks.Stacks.go_through.Goals as goal
 
+-- going through an initialiser takes its operands as leaves, at this target, as in the state
 pub returns : goal.returns
 returns c =
     on_ok_weaker c.push.result (λ pushed t. gone_viewed t

@@ -6,6 +6,7 @@ use Rattle.skel_steps.specs.SkelStacks.Views.{state_in}
 use Rattle.skel_steps.proofs.SkelStacks.Lists.{left_viewed, none_kept}
 use Rattle.skel_steps.proofs.skel_stacks.stacks.Stacks.leave.Goals as goal
 
+-- leaving an initialiser drops its operands and its list, as in the state
 pub returns : goal.returns
 returns c =
     λ t. left_viewed t

@@ -7,6 +7,7 @@ use Rattle.skel_steps.specs.SkelStacks.Views.{state_in, operand_in}
 use Rattle.skel_steps.proofs.SkelStacks.Lists.{put_viewed}
 use Rattle.skel_steps.proofs.skel_stacks.stacks.Stacks.put_operand.Goals as goal
 
+-- an operand that takes the place of so many others does so in the state
 pub returns : goal.returns
 returns c =
     on_ok_weaker c.push.result (λ pushed t. put_viewed t c.args.count

@@ -2,6 +2,7 @@ use Rattle.std.proofs.Common.{sym, ◌∙◌}
 use Rattle.unit_starts.proofs.UnitSkeletons.Counting.{some_number, no_number}
 use Rattle.unit_starts.proofs.unit_skeletons.place_numbers.PlaceNumbers.number.Goals as goal
 
+-- a place that is there has its index as its number
 pub returns-in-Some : goal.returns-in-Some
 returns-in-Some c =
     let is = c.self.invariant.numbers c.args.at.now in
@@ -9,6 +10,7 @@ returns-in-Some c =
     (sym is ∙ sym c.get.ensures ∙ c.in-Some.is) in
     let view = c.self.view_is in cc
 
+-- a place that is not there has the count of all as its number
 pub returns-in-None : goal.returns-in-None
 returns-in-None c =
     let is = c.self.invariant.numbers c.args.at.now in
