@@ -133,7 +133,6 @@ begins_abstract kind = is_star kind || is_open_paren kind || is_open_bracket kin
 
 -- Levels, rooms and scopes.
 
--- the least level of an expression of each reach, from 0 with commas to 14 of unary forms
 abbrev pub reach_level : Reach → ℕ
 reach_level Whole = 0
 reach_level Assigned = 1
@@ -154,7 +153,6 @@ abbrev pub least_with : {A : Type 0} → List A → ℕ
 least_with [] = 0
 least_with (x ∷ xs) = 2
 
--- the least height of a pointer's words: 2 where an attribute is one, else 0
 abbrev pub least_pointer_words : List PointerWord → ℕ
 least_pointer_words [] = 0
 least_pointer_words (pointer_words.Qual q ∷ ws) = least_pointer_words ws
@@ -193,20 +191,17 @@ param_scopes ws d s =
 
 -- What of the first operand was read already.
 
--- what was read of a first operand, spelled before other tokens
 abbrev pub begun_text : Begun → List Lexeme → List Lexeme
 begun_text nothing k = k
 begun_text (extensions tokens) k = extensions_text tokens k
 begun_text (star token) k = sign_text puncts.Star token k
 
--- an expression begins with these `__extension__` keywords
 abbrev pub exts_begin : List ℕ → Expr → Type 0
 exts_begin tokens (operation e op token e2) = exts_begin tokens e
 exts_begin [] e = Unit {0}
 exts_begin (token ∷ tokens) (extension keyword e) = (token ≡ keyword) × exts_begin tokens e
 exts_begin (token ∷ tokens) e = ⊥
 
--- an expression begins with the `*` of this token
 abbrev pub star_begins : ℕ → Expr → Type 0
 star_begins token (operation e op token2 e2) = star_begins token e
 star_begins token (prefix token2 p e) = (token ≡ token2) × (p ≡ puncts.Star)

@@ -209,7 +209,6 @@ first_typedef w h e = by_word (ap is_typedef_word e) h
     by_word {b = true} p q = cc
     by_word {b = false} p q = cc
 
--- storage words that fail the test for `typedef` hold none
 pub no_typedef : (ws : List Keyword) → has_typedef_word ws ≡ false → ¬ Contains ws keywords.Typedef
 no_typedef [] h (k, l, e) = absurd (omega (arith, l))
 no_typedef (w ∷ ws) h (zero, l, e) = if_ok (is_typedef_word w) h (λ is e2. absurd cc) (λ is e2. first_typedef w is e)
@@ -225,7 +224,6 @@ typedef_is : (w : Keyword) → is_typedef_word w ≡ true → w ≡ keywords.Typ
 typedef_is keywords.Typedef h = refl
 typedef_is w h = absurd cc
 
--- storage words that hold no `typedef` fail the test for it
 pub bare_words : (ws : List Keyword) → (Contains ws keywords.Typedef → ⊥) → has_typedef_word ws ≡ false
 bare_words [] h = refl
 bare_words (w ∷ ws) h = by_word (is_typedef_word w) refl (bare_words ws (λ c. h (contains_later w ws c)))
@@ -235,7 +233,6 @@ bare_words (w ∷ ws) h = by_word (is_typedef_word w) refl (bare_words ws (λ c.
     by_word true is later = absurd (h (contains_first w ws (typedef_is w is)))
     by_word false is later = later
 
--- storage words that pass the test for `typedef` hold it
 pub among_typedef : (ws : List Keyword) → has_typedef_word ws ≡ true → Contains ws keywords.Typedef
 among_typedef [] h = absurd cc
 among_typedef (w ∷ ws) h = by_word (is_typedef_word w) refl (among_typedef ws) h

@@ -57,7 +57,6 @@ pub take_falls : (s : HeldScopes) (ts : List Lexeme) (x : Found ℕ) → take_on
 take_falls s [] x e = absurd cc
 take_falls s (t ∷ ts) x e = ap (λ (x : Found ℕ). suc (length x.rest)) (sym (ok_is e))
 
--- a reader of one token that passes a test leaves one token fewer
 pub token_falls : (test : TokenKind → Bool) (s : HeldScopes) (ts : List Lexeme) (x : Found ℕ)
     → token_at test s ts ≡ done x → suc (length x.rest) ≡ length ts
 token_falls test s [] x e = absurd cc

@@ -43,7 +43,6 @@ ends_no_equal : (kind : TokenKind) → ends_expr Assigned kind ≡ true → is_e
 ends_no_equal (kinds.Punct puncts.Equal) e = absurd cc
 ends_no_equal kind e = refl
 
--- what ends an expression without commas is no suffix of a declarator
 ends_no_suffix : (kind : TokenKind) → ends_expr Assigned kind ≡ true → ends_suffix kind ≡ true
 ends_no_suffix (kinds.Punct puncts.OpenParen) e = absurd cc
 ends_no_suffix (kinds.Punct puncts.OpenBracket) e = absurd cc

@@ -65,7 +65,6 @@ append_fits : (all : List Lexeme) (ws more : SpecWords) → AreSpecWords all ws 
 append_fits all no_words more h m = m
 append_fits all (more_words w ws) more h m = (h.0, append_fits all ws more h.1 m)
 
--- specifiers followed by more give the scopes that the latter give behind the former
 append_scopes : (ws more : SpecWords) (s t u : HeldScopes) → spec_words_scopes ws s ≡ Some t
     → spec_words_scopes more t ≡ Some u → spec_words_scopes (append_words ws more) s ≡ Some u
 append_scopes no_words more s t u h m = subst (λ (t : HeldScopes). spec_words_scopes more t ≡ Some u) (sym cc) m

@@ -50,7 +50,6 @@ use Rattle.c_tree.specs.Groups.{IsGroup}
 
 -- first tokens of declarators
 
--- what begins a declarator with a name begins no word of a pointer
 pub named_no_pointer_word : (kind : TokenKind) → begins_named kind ≡ true → begins_pointer_word kind ≡ false
 named_no_pointer_word (kinds.Punct puncts.Star) e = refl
 named_no_pointer_word (kinds.Punct puncts.OpenParen) e = refl
@@ -58,28 +57,24 @@ named_no_pointer_word (kinds.Name name) e = refl
 named_no_pointer_word (kinds.Keyword keywords.BaseWord) e = refl
 named_no_pointer_word kind e = absurd cc
 
--- what begins a declarator without a name begins no word of a pointer
 pub abstract_no_pointer_word : (kind : TokenKind) → begins_abstract kind ≡ true → begins_pointer_word kind ≡ false
 abstract_no_pointer_word (kinds.Punct puncts.Star) e = refl
 abstract_no_pointer_word (kinds.Punct puncts.OpenParen) e = refl
 abstract_no_pointer_word (kinds.Punct puncts.OpenBracket) e = refl
 abstract_no_pointer_word kind e = absurd cc
 
--- what begins a declarator without a name begins no specifiers
 abstract_no_specs : (s : HeldScopes) (kind : TokenKind) → begins_abstract kind ≡ true → begins_specs s kind ≡ false
 abstract_no_specs s (kinds.Punct puncts.Star) e = refl
 abstract_no_specs s (kinds.Punct puncts.OpenParen) e = refl
 abstract_no_specs s (kinds.Punct puncts.OpenBracket) e = refl
 abstract_no_specs s kind e = absurd cc
 
--- what begins a declarator without a name may stand behind a `(` in each mode
 abstract_opens : (mode : Mode) (kind : TokenKind) → begins_abstract kind ≡ true → opens_declr mode kind ≡ true
 abstract_opens mode (kinds.Punct puncts.Star) e = refl
 abstract_opens mode (kinds.Punct puncts.OpenParen) e = refl
 abstract_opens mode (kinds.Punct puncts.OpenBracket) e = refl
 abstract_opens mode kind e = absurd cc
 
--- what begins a declarator with a name, but a base word, may stand behind a `(` in each mode that takes names
 named_opens : (mode : Mode) (kind : TokenKind) → takes_name mode ≡ true → begins_named kind ≡ true
     → is_base_word kind ≡ false → opens_declr mode kind ≡ true
 named_opens mode (kinds.Punct puncts.Star) takes e base = refl
@@ -112,7 +107,6 @@ specs_no_identifier s (kinds.Qual lattice elem) e = and_false (is_wide s)
 specs_no_identifier s kinds.Index e = and_false (is_wide s)
 specs_no_identifier s kind e = and_false (is_wide s)
 
--- a declarator is at least 1 high
 pub declr_high : (d : Declr) → 1 ≤ declr_height d
 declr_high (pointer star words d) = omega arith
 declr_high (declr_name token name) = omega arith
@@ -172,7 +166,6 @@ Suits Abstract true = ⊥
 Suits Abstract false = Unit {0}
 Suits Either named = Unit {0}
 
--- in a mode where a name may be left out, the declarator shows no type name
 abbrev pub Shows : Mode → HeldScopes → Declr → Type 0
 Shows Named s d = Unit {0}
 Shows Abstract s d = Unit {0}
@@ -190,7 +183,6 @@ pub inner_number : (flag : Bool) (room n : ℕ) → declr_number flag room < suc
 inner_number true room n less least = omega (arith, less, least)
 inner_number false room n less least = omega (arith, less, least)
 
--- the room of a declarator, one more where its parameters are a function's, is below the reader's number
 pub room_most : (flag : Bool) (closed : Option HeldScope) (room n : ℕ) → declr_number flag room < suc n
     → declr_room flag closed room ≤ n
 room_most true (Some scope) room n less = omega (arith, less)
@@ -255,19 +247,16 @@ pub some_closed_high : (wanted : Option Kind) (d : SomeDeclr) (s : HeldScopes) (
 some_closed_high wanted no_declr s scope e = absurd cc
 some_closed_high wanted (some_declr d) s scope e = closed_high wanted d s scope e
 
--- the least height for a pointer's words is at most one above their height
 pub words_least : (words : List PointerWord) → least_pointer_words words ≤ pointer_words_height words + 1
 words_least [] = omega arith
 words_least (pointer_words.Qual q ∷ words) = words_least words
 words_least (pointer_words.Attr a ∷ words) = omega arith
 
--- the least height for a pointer's words is at most 2
 pub words_two : (words : List PointerWord) → least_pointer_words words ≤ 2
 words_two [] = omega arith
 words_two (pointer_words.Qual q ∷ words) = words_two words
 words_two (pointer_words.Attr a ∷ words) = omega arith
 
--- three tests that hold together hold each
 pub all_three : (a b c : Bool) → (a && b && c) ≡ true → (a ≡ true) × (b ≡ true) × (c ≡ true)
 all_three true true true e = (refl, refl, refl)
 all_three true true false e = absurd cc
@@ -278,7 +267,6 @@ or_true : (b : Bool) → (b || true) ≡ true
 or_true true = refl
 or_true false = refl
 
--- a mode in which a declarator with a name stands takes names
 named_takes : (mode : Mode) → Suits mode true → takes_name mode ≡ true
 named_takes Named suits = refl
 named_takes Abstract suits = absurd suits

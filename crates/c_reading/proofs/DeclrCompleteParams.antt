@@ -65,7 +65,6 @@ abbrev is_attribute_start : SpecStart → Bool
 is_attribute_start starts.Attribute = true
 is_attribute_start start = false
 
--- whether a word of specifiers begins as a qualifier does
 abbrev is_qual_start : SpecStart → Bool
 is_qual_start (starts.Word keyword) = true
 is_qual_start starts.Element = true
@@ -85,7 +84,6 @@ no_attribute : (kind : TokenKind) (s : HeldScopes) → is_attribute_start (start
 no_attribute (kinds.Keyword keywords.Attribute) s e = absurd cc
 no_attribute kind s e = refl
 
--- a token that begins no qualifier among specifiers makes none
 no_qual : (kind : TokenKind) (s : HeldScopes) → is_qual_start (start_at s false kind) ≡ false
     → is_made (word_qual_of kind) ≡ false
 no_qual (kinds.Keyword keywords.Const) s e = absurd cc

@@ -17,7 +17,6 @@ use Rattle.c_reading.proofs.Aims.{own_scope_in, some_own_params, closed_of}
 
 -- declarators without a name have no parameters around one
 
--- a declarator without a name has no parameters directly around one
 pub own_none : (d : Declr) → is_named d ≡ false → own_params d ≡ None
 own_none (pointer sign words d) e = absurd cc
 own_none (declr_name token name) e = absurd cc
@@ -31,7 +30,6 @@ own_none (abs_paren opening attrs d closing) e = refl
 own_none (abs_array d opening words size closing) e = refl
 own_none (abs_params d opening ps dots closing) e = refl
 
--- a declarator without a name is not a bare name
 pub bare_none : (d : Declr) → is_named d ≡ false → bare_name d ≡ None
 bare_none (pointer sign words d) e = absurd cc
 bare_none (declr_name token name) e = absurd cc
@@ -47,7 +45,6 @@ bare_none (abs_params d opening ps dots closing) e = refl
 
 -- what stands in a pointer, parentheses, brackets has the parameters around its name
 
--- a pointer has the parameters around the name that what it points from has
 pub own_pointer : (token : ℕ) (words : List PointerWord) (d : SomeDeclr)
     → own_params (with_pointer token words d) ≡ some_own_params d
 own_pointer token words no_declr = refl
@@ -58,7 +55,6 @@ own_pointer token words (some_declr d) = either (is_named d) refl
     either true is = refl
     either false is = sym (own_none d is)
 
--- a declarator in parentheses has the parameters around the name that it has without them
 pub own_paren : (opening : ℕ) (attrs : List Attr) (d : Declr) (closing : ℕ)
     → own_params (with_paren opening attrs d closing) ≡ own_params d
 own_paren opening attrs d closing = either (is_named d) refl
@@ -68,7 +64,6 @@ own_paren opening attrs d closing = either (is_named d) refl
     either true is = refl
     either false is = sym (own_none d is)
 
--- an array has the parameters around the name that its declarator has
 pub own_array : (d : SomeDeclr) (opening : ℕ) (words : List ArrayWord) (size : SomeSize) (closing : ℕ)
     → own_params (with_array d opening words size closing) ≡ some_own_params d
 own_array no_declr opening words size closing = refl
@@ -84,7 +79,6 @@ abbrev pub some_bare : SomeDeclr → Option ℕ
 some_bare no_declr = None
 some_bare (some_declr d) = bare_name d
 
--- parameters behind a bare name are those around it; behind other declarators those inside stay
 pub own_with_params : (d : SomeDeclr) (opening : ℕ) (ps : Params) (dots : Option Dots) (closing : ℕ)
     → own_params (with_params d opening ps dots closing) ≡ or_those_of (some_bare d) ps (some_own_params d)
 own_with_params no_declr opening ps dots closing = refl
@@ -159,7 +153,6 @@ bare_is (abs_paren opening attrs d closing) e = absurd cc
 bare_is (abs_array d opening words size closing) e = absurd cc
 bare_is (abs_params d opening ps dots closing) e = absurd cc
 
--- a declarator that is a bare name has a name
 pub bare_named : (d : Declr) → is_some (bare_name d) ≡ true → is_named d ≡ true
 bare_named d bare = by_named (is_named d) refl
   where

@@ -45,7 +45,6 @@ use Rattle.c_tree.specs.Groups.{IsGroup}
 some_scopes : {s t : HeldScopes} → Some s ≡ Some t → s ≡ t
 some_scopes e = cc
 
--- a pointer's words are lower than the greater of 1 and their least height
 low_pointer_words : (words : List PointerWord) → pointer_words_height words + 1 ≤ max 1 (least_pointer_words words)
 low_pointer_words [] = omega arith
 low_pointer_words (pointer_words.Qual q ∷ words) = low_pointer_words words
@@ -259,7 +258,6 @@ pub wide_names : (names : List Identifier) (s : HeldScopes) (r : Option HeldScop
     behind (where_true (is_wide s) s) (identifiers_scopes names) ≡ r
 wide_names names s r wide e = rw wide e
 
--- a declarator is given at most one level more than its room
 room_most : (room : ℕ) (d : Declared) (kind : TokenKind) → room_at true room d kind ≤ suc room
 room_most room d kind = by_test (is_some d.closed || (is_open_paren kind && is_bare d.declr))
   where

@@ -121,7 +121,6 @@ attrs_plain : (attrs : List Attr) → has_auto (words_of_attrs attrs) ≡ false
 attrs_plain [] = refl
 attrs_plain (a ∷ attrs) = attrs_plain attrs
 
--- words without `__auto_type` followed by such words have none
 pub append_plain : (ws more : SpecWords) → has_auto ws ≡ false → has_auto more ≡ false
     → has_auto (append_words ws more) ≡ false
 append_plain no_words more h g = g

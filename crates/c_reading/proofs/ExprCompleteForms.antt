@@ -34,7 +34,6 @@ use Rattle.c_reading.proofs.ExprFalls.{postfix_turn_shrinks, next_argument_falls
 use Rattle.c_reading.proofs.ExprLists.{exprs_items, exprs_back, exprs_are, exprs_fit_back, exprs_named, exprs_high}
 use Rattle.c_reading.proofs.ExprStacks.{right_thirteen}
 
--- the level of an operator is at most 12
 pub operator_twelve : (op : Operator) → operator_level op ≤ 12
 operator_twelve comma = omega arith
 operator_twelve (assign p) = omega arith
@@ -74,7 +73,6 @@ ends_castable kind h = both h (by_infix (infix_of kind))
     by_infix infixes.Question = refl
     by_infix (infixes.Binary p) = refl
 
--- what ends a unary form ends an expression of that reach
 pub ends_unary_expr : (kind : TokenKind) → ends_unary kind ≡ true → ends_expr Unary kind ≡ true
 ends_unary_expr kind h = both h (by_infix (infix_of kind))
   where
@@ -85,7 +83,6 @@ ends_unary_expr kind h = both h (by_infix (infix_of kind))
     by_infix infixes.Question = refl
     by_infix (infixes.Binary p) = refl
 
--- what ends a unary form is no postfix form
 pub ends_no_form : (kind : TokenKind) → ends_unary kind ≡ true → form_of kind ≡ forms.Nothing
 ends_no_form kind h = by_form (form_of kind) (both_left (is_no_form (form_of kind)) (not (is_text kind)) (both_left (is_no_form (form_of kind) && not (is_text kind)) (not (is_open_brace kind)) h))
   where

@@ -36,7 +36,6 @@ abbrev pub spread : Stack → Expr → Row
 spread w (operation e op token e2) = spread (above w (record { tree = e; operator = op; token = token })) e2
 spread w e = record { waiting = w; last = e }
 
--- a tree spread into operands and operators that wait becomes the same when all are joined
 pub spread_finished : (w : Stack) (e : Expr) → finished (spread w e).waiting (spread w e).last ≡ finished w e
 spread_finished w (operation e op token e2) = spread_finished (above w (record { tree = e; operator = op; token = token })) e2
 spread_finished w (index e opening e2 closing) = refl
@@ -54,14 +53,12 @@ right_up (assign p) = omega arith
 right_up (cond middle colon) = omega arith
 right_up (binary p) = omega arith
 
--- no operator asks for less on its left than it is itself
 pub left_up : (op : Operator) → operator_level op ≤ left_level op
 left_up comma = omega arith
 left_up (assign p) = omega arith
 left_up (cond middle colon) = omega arith
 left_up (binary p) = omega arith
 
--- a number that is greater than another is not at most that one
 not_le : (a b : ℕ) → a < b → nat_le b a ≡ false
 not_le a b h = by_test (nat_le b a) refl
   where
@@ -69,7 +66,6 @@ not_le a b h = by_test (nat_le b a) refl
     by_test false is = is
     by_test true is = absurd (let less : b ≤ a = leb-true b a is in omega (arith, h, less))
 
--- a spread tree whose right side ends before a level is joined again where what waits settles for that level
 spread_settles : (n : ℕ) (w : Stack) (e : Expr) → Tight n e → settled (spread w e) n ≡ settle_of n w e
 spread_settles n w (operation e op token e2) h =
     spread_settles n (above w (record { tree = e; operator = op; token = token })) e2 h.1 ∙ settle_joins n w (record { tree = e; operator = op; token = token }) e2 (not_le n (right_level op) h.0)
@@ -132,7 +128,6 @@ binary_ends puncts.MinusMinus h = absurd (omega (arith, h))
 binary_ends puncts.OpenBrace h = absurd (omega (arith, h))
 binary_ends p h = refl
 
--- an assignment sign ends a unary form
 assign_ends : (p : Punct) → is_assignment p ≡ true → ends_unary (kinds.Punct p) ≡ true
 assign_ends puncts.OpenBracket h = absurd cc
 assign_ends puncts.OpenParen h = absurd cc
@@ -165,7 +160,6 @@ binary_infix puncts.Slash h = refl
 binary_infix puncts.Percent h = refl
 binary_infix p h = absurd (omega (arith, h))
 
--- an assignment sign is an infix sign of assignment
 assign_infix : (p : Punct) → is_assignment p ≡ true → infix_of (kinds.Punct p) ≡ infixes.Assign p
 assign_infix puncts.Comma h = absurd cc
 assign_infix puncts.Question h = absurd cc
@@ -193,7 +187,6 @@ unfolding and_then
 then_all (Ok x) f g = refl
 then_all (Err d) f g = refl
 
--- a reach of level 0 takes commas
 takes_of_comma : (reach : Reach) → reach_level reach ≤ 0 → takes_comma reach ≡ true
 takes_of_comma Whole h = refl
 takes_of_comma Assigned h = absurd (omega (arith, h))
@@ -201,7 +194,6 @@ takes_of_comma Conditional h = absurd (omega (arith, h))
 takes_of_comma Castable h = absurd (omega (arith, h))
 takes_of_comma Unary h = absurd (omega (arith, h))
 
--- a reach of level 1 or lower takes assignments
 takes_of_assign : (reach : Reach) → reach_level reach ≤ 1 → takes_assign reach ≡ true
 takes_of_assign Whole h = refl
 takes_of_assign Assigned h = refl

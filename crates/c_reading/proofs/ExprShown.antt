@@ -12,7 +12,6 @@ use Rattle.c_reading.proofs.ExprCompleteRows.{expr_read, expr_begun_read}
 within : (room n : ℕ) → room < suc n → room ≤ n
 within room n h = omega (arith, h)
 
--- the reader of expressions over lawful readers is lawful at the next number
 pub expr_laws : (all : List Lexeme) → IsNumbered all → TokenLaws all → FirstLaws all → (n : ℕ) (inner : Inner)
     → Laws all n inner → ExprLaws all (suc n) (expr_with inner)
 expr_laws all numbered tokens firsts n inner laws = record {

@@ -51,7 +51,6 @@ binary_ten puncts.Slash = omega arith
 binary_ten puncts.Percent = omega arith
 binary_ten p = omega arith
 
--- the level that an operator asks for on its right is at most 13
 pub right_thirteen : (op : Operator) → right_level op ≤ 13
 right_thirteen comma = omega arith
 right_thirteen (assign p) = omega arith

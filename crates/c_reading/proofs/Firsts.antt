@@ -51,7 +51,6 @@ other_stops (Some mix) e = by_types mix.types e
     by_types Named e = absurd cc
     by_types (Words base mark) e = absurd cc
 
--- no mix goes on with a keyword that is no part of a basic type
 stops : (keyword : Keyword) (words : SpecWords) → part_of keyword ≡ parts.Other
     → goes_on words (classes.Spells keyword) ≡ true → ⊥
 stops keyword words other e = by_mix (mix_of words) e
@@ -60,7 +59,6 @@ stops keyword words other e = by_mix (mix_of words) e
     by_mix None e = absurd cc
     by_mix (Some mix) e = other_stops (Some mix) (ap (λ (part : _). is_some (with_types mix (with_part mix.types part))) (sym other) ∙ e)
 
--- a keyword with which some mix goes on begins a basic type word
 pub basic_starts : (keyword : Keyword) (words : SpecWords) → goes_on words (classes.Spells keyword) ≡ true
     → keyword_start keyword ≡ starts.Basic keyword
 basic_starts keywords.Void words e = refl
@@ -79,7 +77,6 @@ basic_starts keywords.BaseWord words e = refl
 basic_starts keywords.Int128 words e = refl
 basic_starts keyword words e = absurd (stops keyword words refl e)
 
--- a storage keyword begins a storage word
 pub storage_starts : (keyword : Keyword) → is_storage keyword ≡ true → keyword_start keyword ≡ starts.Storage keyword
 storage_starts keywords.Typedef e = refl
 storage_starts keywords.Extern e = refl
@@ -88,7 +85,6 @@ storage_starts keywords.Auto e = refl
 storage_starts keywords.Register e = refl
 storage_starts keyword e = absurd cc
 
--- a qualifier keyword that forms no type begins a qualifier
 pub qual_starts : (keyword : Keyword) → is_qual keyword ≡ true → not (is_type_former keyword) ≡ true
     → keyword_start keyword ≡ starts.Word keyword
 qual_starts keywords.Const e word = refl
@@ -108,7 +104,6 @@ former_some : (keyword : Keyword) → is_start (former_start keyword) ≡ true
 former_some keywords.AtomicType = refl
 former_some keyword = refl
 
--- `struct` and `union` begin a struct type
 pub struct_starts : (keyword : Keyword) → is_struct keyword ≡ true → keyword_start keyword ≡ starts.Struct keyword
 struct_starts keywords.Struct e = refl
 struct_starts keywords.Union e = refl
@@ -137,7 +132,6 @@ start_of (typeof_type w opening ws d closing) = former_start w.keyword
 start_of (align a) = starts.Align
 start_of (auto_word token) = starts.Auto
 
--- each specifier has a first token that begins one
 pub starts_some : (w : SpecWord) → is_start (start_of w) ≡ true
 starts_some (storage w) = refl
 starts_some (thread token) = refl
@@ -177,7 +171,6 @@ no_type_of_none (at, set, less, is, same) =
     let wrong : true ≡ false = sym yes in
     absurd cc
 
--- no words are no mix
 pub no_mix_of_none : (ws : SpecWords) → ws ≡ no_words → IsMix ws → ⊥
 no_mix_of_none no_words is (inl one, stores) = no_type_of_none one.1
 no_mix_of_none no_words is (inr one, stores) = let zero_is_one : 0 ≡ 1 = one.0 in omega (arith, zero_is_one)
@@ -286,21 +279,18 @@ rest_plain : (a b : Bool) → (a || b) ≡ false → b ≡ false
 rest_plain true b h = absurd cc
 rest_plain false b h = h
 
--- the first of words that fit a role may stand in it
 pub role_stands : (all : List Lexeme) (role : Role) (w : SpecWord) (ws : SpecWords)
     → FitsRole all role (more_words w ws) → may_stand role (start_of w) ≡ true
 role_stands all Declaring w ws fits = refl
 role_stands all Typed w ws fits = plain_stands w (first_plain (is_auto w) (has_auto ws) fits.1)
 role_stands all Naming w ws fits = stands w fits.1
 
--- the first of words that fit a role is a well-formed specifier
 pub role_word : (all : List Lexeme) (role : Role) (w : SpecWord) (ws : SpecWords) → FitsRole all role (more_words w ws)
     → IsSpecWord all w
 role_word all Declaring w ws fits = fits.0
 role_word all Typed w ws fits = fits.0.0
 role_word all Naming w ws fits = fits.0
 
--- the words behind the first of words that fit a role fit it too
 pub role_words : (all : List Lexeme) (role : Role) (w : SpecWord) (ws : SpecWords) → FitsRole all role (more_words w ws)
     → FitsRole all role ws
 role_words all Declaring w ws fits = fits.1
@@ -319,7 +309,6 @@ module _ (all : List Lexeme) (numbered : IsNumbered all) (goes : MixesGoOn) wher
 
 -- expressions
 
--- the level of a binary operator is at most 10
 binary_most : (p : Punct) → binary_level p ≤ 10
 binary_most puncts.BarBar = omega arith
 binary_most puncts.AmpersandAmpersand = omega arith
@@ -341,14 +330,12 @@ binary_most puncts.Slash = omega arith
 binary_most puncts.Percent = omega arith
 binary_most _ = omega arith
 
--- the level of an operator is at most 12
 pub operator_most : (op : Operator) → operator_level op ≤ 12
 operator_most comma = omega arith
 operator_most (assign p) = omega arith
 operator_most (cond middle colon) = omega arith
 operator_most (binary p) = let most = binary_most p in omega (arith, most)
 
--- the level of an expression is at most 16
 level_most : (e : Expr) → expr_level e ≤ 16
 level_most (operation e op token e2) = let most = operator_most op in omega (arith, most)
 level_most (cast opening ws d closing e) = omega arith
@@ -366,7 +353,6 @@ level_most (complex_part keyword e) = omega arith
 level_most (label_use token name) = omega arith
 level_most _ = omega arith
 
--- a sign that is a prefix operator, of level 16 at most, begins an expression
 prefix_begins : (s : HeldScopes) (p : Punct) → prefix_level p ≤ 16 → begins_expr s (kinds.Punct p) ≡ true
 prefix_begins s puncts.PlusPlus h = refl
 prefix_begins s puncts.MinusMinus h = refl
@@ -378,7 +364,6 @@ prefix_begins s puncts.Tilde h = refl
 prefix_begins s puncts.Bang h = refl
 prefix_begins s p h = absurd (omega (arith, h))
 
--- `sizeof` and `alignof` begin an expression
 sizeof_begins : (s : HeldScopes) (keyword : Keyword) → is_sizeof keyword ≡ true
     → begins_expr s (kinds.Keyword keyword) ≡ true
 sizeof_begins s keywords.Sizeof h = refl
@@ -472,7 +457,6 @@ module _ (all : List Lexeme) where
   abstract_begins (abs_params (some_declr d) opening ps dots closing) k fits is = abstract_begins d _ fits.0.0 fits.0.1
   abstract_begins d k fits is = absurd cc
 
--- specifiers, expressions and declarators begin with the tokens that they are told by
 pub first_laws : (goes : MixesGoOn) (all : List Lexeme) → IsNumbered all → FirstLaws all
 first_laws goes all numbered = record {
   words_begin = words_begin all numbered goes;

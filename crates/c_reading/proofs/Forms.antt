@@ -141,7 +141,6 @@ module _ (all : List Lexeme) where
       by_name (Some n) is e =
           at_end (TookTag s (t ∷ ts)) e (record { spelled = ap (λ (t : Lexeme). t ∷ ts) (lexeme_is t (kinds.Name n) (name_kind t.kind n is)); same = refl; left = tail_of all t ts tail })
 
--- a name that is read leaves one token fewer
 pub name_falls : (s : HeldScopes) (ts : List Lexeme) (x : Found Identifier) → name_at s ts ≡ done x
     → suc (length x.rest) ≡ length ts
 name_falls s [] x e = absurd cc
@@ -151,7 +150,6 @@ name_falls s (t ∷ ts) x e = by_name (spelled_name t.kind) e
     by_name None e = absurd cc
     by_name (Some n) e = ap (λ (x : Found Identifier). suc (length x.rest)) (sym (ok_is e))
 
--- a tag, read or absent, leaves no more tokens than were given
 pub tag_falls : (s : HeldScopes) (ts : List Lexeme) (x : Found (Option Identifier)) → tag_at s ts ≡ done x
     → length x.rest ≤ length ts
 tag_falls s [] x e = let is = ap (λ (x : Found (Option Identifier)). length x.rest) (ok_is e) in omega (arith, is)

@@ -50,7 +50,6 @@ bracket_shrinks state s ts x e = by_brackets state.brackets ts e
     by_brackets [] ts e = absurd cc
     by_brackets (b ∷ bs) ts e = by_step b bs ts cc
 
--- the loop over brackets leaves no more tokens than it was given
 run_falls : (state : Opened) → Falls (λ s ts. run bracket_turn state s ts)
 run_falls state s ts x e =
     run-keep bracket_turn (λ a t k. length k ≤ length ts)
@@ -66,7 +65,6 @@ group_shrinks s ts x e =
 
 -- balanced tokens
 
--- balanced tokens followed by balanced tokens are balanced
 balanced_append : {xs : List Lexeme} (ys : List Lexeme) → IsBalanced xs → IsBalanced ys → IsBalanced (xs ++ ys)
 balanced_append ys nothing h = h
 balanced_append ys (inner t k is b) h = inner t (k ++ ys) is (balanced_append ys b h)
@@ -79,26 +77,22 @@ balanced_one t is = inner t [] is nothing
 
 -- what a token is inside brackets, by its kind
 
--- the token that opens a bracket
 abbrev pub opens_with : Bracket → TokenKind → Type 0
 opens_with Paren kind = kind ≡ kinds.Punct puncts.OpenParen
 opens_with Square kind = kind ≡ kinds.Punct puncts.OpenBracket
 opens_with Brace kind = kind ≡ kinds.Punct puncts.OpenBrace
 
--- the token that closes a bracket
 abbrev pub closes_with : Bracket → TokenKind → Type 0
 closes_with Paren kind = kind ≡ kinds.Punct puncts.CloseParen
 closes_with Square kind = kind ≡ kinds.Punct puncts.CloseBracket
 closes_with Brace kind = kind ≡ kinds.Punct puncts.CloseBrace
 
--- what a token does inside brackets agrees with its kind: it opens or closes one, is plain, or stops
 abbrev pub Says : Inside → TokenKind → Type 0
 Says (Opens b) kind = opens_with b kind
 Says (Closes b) kind = closes_with b kind
 Says Plain kind = is_inner kind ≡ true
 Says Stops kind = kind ≡ kinds.End
 
--- each token does inside brackets what its kind says
 says : (kind : TokenKind) → Says (inside_of kind) kind
 says (kinds.Punct puncts.OpenParen) = refl
 says (kinds.Punct puncts.CloseParen) = refl
@@ -109,14 +103,12 @@ says (kinds.Punct puncts.CloseBrace) = refl
 says kinds.End = refl
 says kind = refl
 
--- a token that opens a bracket and one that closes the same match
 matched : (b : Bracket) (opening closing : TokenKind) → opens_with b opening → closes_with b closing
     → are_brackets opening closing ≡ true
 matched Paren opening closing o c = rw (o, c) refl
 matched Square opening closing o c = rw (o, c) refl
 matched Brace opening closing o c = rw (o, c) refl
 
--- brackets that pass the test for being the same are equal
 same_is : (a b : Bracket) → is_same a b ≡ true → a ≡ b
 same_is Paren Paren e = refl
 same_is Square Square e = refl
@@ -151,7 +143,6 @@ nest_open : {b : Bracket} {bs : List Bracket} {last : ℕ} {xs : List Lexeme} (o
     → Nest (b ∷ bs) last xs → opens_with other t.kind → Nest (other ∷ b ∷ bs) t.at (xs ++ t ∷ [])
 nest_open {b = b} {bs = bs} {last = last} {xs = xs} other t n o = deeper t.at other b bs xs t [] (nest_at t.at n) o nothing
 
--- a token that closes the innermost open bracket leaves those outside it open, or the group closed
 nest_close : {b : Bracket} {bs : List Bracket} {last : ℕ} {xs : List Lexeme} (t : Lexeme) → Nest (b ∷ bs) last xs
     → closes_with b t.kind → Nest bs t.at (xs ++ t ∷ [])
 nest_close t (outermost last inside h) c = closed inside t c h
@@ -159,7 +150,6 @@ nest_close t (deeper last b b' bs outer opening inside n o h) c =
     subst (Nest (b' ∷ bs) t.at) (sym (append_assoc outer (opening ∷ inside) (t ∷ [])))
     (nest_more (opening ∷ (inside ++ t ∷ [])) (nest_at t.at n) (bracketed opening t inside [] (matched b opening.kind t.kind o c) h nothing))
 
--- what stands behind the first of the tokens dropped to a number are those dropped to the next
 drop_next : (all : List Lexeme) (m : ℕ) (t : Lexeme) (ts : List Lexeme) → t ∷ ts ≡ drop m all → ts ≡ drop (suc m) all
 drop_next [] zero t ts h = absurd cc
 drop_next [] (suc m) t ts h = absurd cc
@@ -358,7 +348,6 @@ module _ (all : List Lexeme) (numbered : IsNumbered all) where
 
 -- a group is read as it is spelled
 
--- two tokens that match open and close one bracket
 inside_opens : (opening closing : TokenKind) → are_brackets opening closing ≡ true
     → (b : Bracket) × (inside_of opening ≡ Opens b) × (inside_of closing ≡ Closes b)
 inside_opens (kinds.Punct puncts.OpenParen) (kinds.Punct puncts.CloseParen) e = (Paren, refl, refl)
@@ -366,7 +355,6 @@ inside_opens (kinds.Punct puncts.OpenBracket) (kinds.Punct puncts.CloseBracket) 
 inside_opens (kinds.Punct puncts.OpenBrace) (kinds.Punct puncts.CloseBrace) e = (Brace, refl, refl)
 inside_opens opening closing e = absurd cc
 
--- a token that is no bracket and not the end is plain inside brackets
 inside_plain : (kind : TokenKind) → is_inner kind ≡ true → inside_of kind ≡ Plain
 inside_plain (kinds.Punct puncts.OpenParen) e = absurd cc
 inside_plain (kinds.Punct puncts.CloseParen) e = absurd cc
@@ -377,7 +365,6 @@ inside_plain (kinds.Punct puncts.CloseBrace) e = absurd cc
 inside_plain kinds.End e = absurd cc
 inside_plain kind e = refl
 
--- each bracket passes the test for being the same as itself
 same_self : (b : Bracket) → is_same b b ≡ true
 same_self Paren = refl
 same_self Square = refl
@@ -440,7 +427,6 @@ group_read all g s k h =
     ap (λ (ts : List Lexeme). group_at s (record { kind = kinds.Punct puncts.OpenParen; at = g.first } ∷ ts)) (append_assoc h.inside (closing ∷ []) k) ∙
     bind_is _ refl (bind_is _ whole refl)
 
--- a group is read back from its text, before any token
 pub group_complete : (all : List Lexeme) (room : ℕ) → IsComplete (group_form all) always room group_at
 group_complete all room g s s' k h n l ended = group_read all g s k h ∙ ap (λ (t : HeldScopes). done (found g t k)) (some_is s s' n)
   where

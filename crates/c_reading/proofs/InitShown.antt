@@ -37,7 +37,6 @@ dot_kind : (kind : TokenKind) → is_dot kind ≡ true → kind ≡ kinds.Punct 
 dot_kind (kinds.Punct puncts.Dot) e = refl
 dot_kind kind e = absurd cc
 
--- what begins a designator and is no `.` is `[`
 desig_kind : (kind : TokenKind) → begins_desig kind ≡ true → is_dot kind ≡ false → kind ≡ kinds.Punct puncts.OpenBracket
 desig_kind (kinds.Punct puncts.OpenBracket) e f = refl
 desig_kind (kinds.Punct puncts.Dot) e f = absurd cc
@@ -48,7 +47,6 @@ init_no_close : (s : HeldScopes) (kind : TokenKind) → begins_init s kind ≡ t
 init_no_close s (kinds.Punct puncts.CloseBrace) e = absurd cc
 init_no_close s kind e = refl
 
--- what begins an initialiser begins no designator
 init_no_desig : (s : HeldScopes) (kind : TokenKind) → begins_init s kind ≡ true → begins_desig kind ≡ false
 init_no_desig s (kinds.Punct puncts.Dot) e = absurd cc
 init_no_desig s (kinds.Punct puncts.OpenBracket) e = absurd cc
@@ -651,7 +649,6 @@ module _ (all : List Lexeme) (numbered : IsNumbered all) (tokens : TokenLaws all
 within : (room n : ℕ) → room < suc n → room ≤ n
 within room n h = omega (arith, h)
 
--- the reader of braced initialisers over lawful readers is lawful at the next number
 pub init_list_laws : (all : List Lexeme) → IsNumbered all → TokenLaws all → FirstLaws all → (n : ℕ) (inner : Inner)
     → Laws all n inner → InitListLaws all (suc n) (init_list_with inner)
 init_list_laws all numbered tokens firsts n inner laws = record {

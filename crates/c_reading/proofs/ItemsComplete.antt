@@ -148,7 +148,6 @@ words_high : (ws : SpecWords) → 1 ≤ specs_height ws
 words_high no_words = omega arith
 words_high (more_words w ws) = let rest : 1 ≤ specs_height ws = words_high ws in omega (arith, rest)
 
--- a tree found with two scopes that are equal as options is the same find
 same_found : {A : Type 0} (x : A) (s s' : HeldScopes) (k : List Lexeme) → Some s ≡ Some s'
     → done (found x s k) ≡ done (found x s' k)
 same_found x s s' k e = ap (λ (o : Option HeldScopes). done (found x (from o) k)) e
@@ -171,7 +170,6 @@ listed_named (abs_paren opening attrs d closing) h = absurd cc
 listed_named (abs_array d opening words size closing) h = absurd cc
 listed_named (abs_params d opening ps dots closing) h = absurd cc
 
--- a declarator that is no more than a name, in parentheses or not, has one as its bare name
 bare_back : (d : Declr) → is_bare_name d ≡ true → is_some (bare_name d) ≡ true
 bare_back (declr_name token name) h = refl
 bare_back (declr_paren opening attrs d closing) h = bare_back d h
@@ -185,7 +183,6 @@ bare_back (abs_paren opening attrs d closing) h = absurd cc
 bare_back (abs_array d opening words size closing) h = absurd cc
 bare_back (abs_params d opening ps dots closing) h = absurd cc
 
--- a declarator with a list of identifiers is not a bare name
 listed_not_bare : (d : Declr) → lists_identifiers d ≡ true → bare_name d ≡ None
 listed_not_bare (declr_name token name) h = absurd cc
 listed_not_bare (declr_paren opening attrs d closing) h = listed_not_bare d h
@@ -199,7 +196,6 @@ listed_not_bare (abs_paren opening attrs d closing) h = refl
 listed_not_bare (abs_array d opening words size closing) h = refl
 listed_not_bare (abs_params d opening ps dots closing) h = refl
 
--- a declarator with a list of identifiers closes a scope of its parameters
 listed_closed : (all : List Lexeme) (d : Declr) (s t : HeldScopes) → IsDeclr all d → lists_identifiers d ≡ true
     → declr_scopes (Some Value) d s ≡ Some t → is_some (closed_of (Some Value) (some_declr d) s) ≡ true
 listed_closed all (identifiers d opening names closing) s t fit h named =

@@ -55,7 +55,6 @@ round_more (abs_params d opening ps dots closing) h = absurd cc
 round_more (identifiers d opening names closing) h = absurd cc
 round_more (base_name token) h = absurd cc
 
--- a declarator that is a bare name is one that parameters may stand around
 bare_round : (d : Declr) (name : ℕ) → bare_name d ≡ Some name → is_round_name d true ≡ true
 bare_round (declr_name token n) name h = refl
 bare_round (declr_paren opening attrs d closing) name h = bare_round d name h
@@ -69,7 +68,6 @@ bare_round (abs_params d opening ps dots closing) name h = absurd cc
 bare_round (identifiers d opening names closing) name h = absurd cc
 bare_round (base_name token) name h = absurd cc
 
--- a declarator without a list of identifiers that has parameters around its name declares a function
 pub own_round : (d : Declr) (p : OwnParams) → lists_identifiers d ≡ false → own_params d ≡ Some p
     → declares_function d ≡ true
 own_round (declr_name token n) p plain h = absurd cc
@@ -96,7 +94,6 @@ record Closes (d : Declr) (s : HeldScopes) (closed : HeldScope) : Type 0 where
   same : innermost inside ≡ closed
   round : declares_function d ≡ true
 
--- the scope that such a declarator closes is that of its own parameters, and it declares a function
 closes : (d : Declr) (s : HeldScopes) (closed : HeldScope) → lists_identifiers d ≡ false
     → Some closed ≡ option_map innermost (own_scope (own_params d) s) → Closes d s closed
 closes d s closed plain h = by_own (own_params d) refl h

@@ -181,7 +181,6 @@ named_ends_specs (kinds.Name name) e base = refl
 named_ends_specs (kinds.Keyword keywords.BaseWord) e base = absurd cc
 named_ends_specs kind e base = absurd cc
 
--- what begins a declarator without a name ends specifiers
 pub abstract_ends_specs : (kind : TokenKind) → begins_abstract kind ≡ true → ends_specs kind ≡ true
 abstract_ends_specs (kinds.Punct puncts.Star) e = refl
 abstract_ends_specs (kinds.Punct puncts.OpenParen) e = refl

@@ -47,7 +47,6 @@ abbrev types_of : Bool → ℕ
 types_of true = 1
 types_of false = 0
 
--- one word more counts one more type where it is one
 types_more : (w : SpecWord) (ws : SpecWords) → types_in (more_words w ws) ≡ types_of (is_type_word w) + types_in ws
 types_more (basic w) ws = omega arith
 types_more (struct_type a b c d) ws = omega arith
@@ -55,7 +54,6 @@ types_more (enum_type e) ws = omega arith
 types_more (typedef_name name) ws = omega arith
 types_more w ws = omega arith
 
--- words followed by others count the types of both
 types_append : (ws more : SpecWords) → types_in (append_words ws more) ≡ types_in ws + types_in more
 types_append no_words more = omega arith
 types_append (more_words w ws) more =
@@ -64,7 +62,6 @@ types_append (more_words w ws) more =
     let again = types_append ws more in
     omega (arith, one, other, again)
 
--- words followed by others count at least as many types that are no basic words as the latter
 count_append : (ws more : SpecWords) → type_count more ≤ type_count (append_words ws more)
 count_append no_words more = omega arith
 count_append (more_words (struct_type a b c d) ws) more = let again = count_append ws more in omega (arith, again)
@@ -75,7 +72,6 @@ count_append (more_words (typeof_type a b ws2 d c) ws) more = let again = count_
 count_append (more_words (auto_word a) ws) more = let again = count_append ws more in omega (arith, again)
 count_append (more_words w ws) more = count_append ws more
 
--- words among which a type stands count at least one
 typed_is : (ws : SpecWords) → is_typed ws ≡ true → 1 ≤ types_in ws
 typed_is no_words e = absurd cc
 typed_is (more_words w ws) e = by_word (is_type_word w) (types_more w ws) (λ e. typed_is ws e) e
@@ -86,7 +82,6 @@ typed_is (more_words w ws) e = by_word (is_type_word w) (types_more w ws) (λ e.
     by_word true sum again e = omega (arith, sum)
     by_word false sum again e = let some = again e in omega (arith, sum, some)
 
--- words among which no type stands count none
 untyped_is : (ws : SpecWords) → is_typed ws ≡ false → types_in ws ≡ 0
 untyped_is no_words e = omega arith
 untyped_is (more_words w ws) e = by_word (is_type_word w) (types_more w ws) (λ e. untyped_is ws e) e
@@ -146,7 +141,6 @@ former_least : (keyword : Keyword) (h : ℕ) → 3 ≤ h → least_of (former_st
 former_least keywords.AtomicType h more = omega (arith, more)
 former_least keyword h more = omega (arith, more)
 
--- the class of a word is that which its first token tells
 class_is : (w : SpecWord) → class_of_start (start_of w) ≡ class_of w
 class_is (storage w) = refl
 class_is (thread token) = refl
@@ -167,7 +161,6 @@ class_is (auto_word token) = refl
 
 -- heights
 
--- the least height that a word's first token tells is at most one above the word's
 least_high : (w : SpecWord) → least_of (start_of w) ≤ spec_word_height w + 1
 least_high (storage w) = omega arith
 least_high (thread token) = omega arith
@@ -188,7 +181,6 @@ least_high (typeof_type w opening ws d closing) =
 least_high (align a) = omega arith
 least_high (auto_word token) = omega arith
 
--- words that fit a room with others behind them fit it alone
 append_left : (a b : SpecWords) (room : ℕ) → specs_height (append_words a b) ≤ room → specs_height a ≤ room
 append_left no_words b room h = let one : 1 ≤ specs_height b = specs_high b in omega (arith, h, one)
 append_left (more_words w a) b room h =

@@ -50,7 +50,6 @@ exts_room : (exts : List ℕ) (room : ℕ) → 2 ≤ room → least_with exts �
 exts_room [] room h = omega arith
 exts_room (x ∷ xs) room h = h
 
--- an expression is at least 1 high
 pub expr_high : (e : Expr) → 1 ≤ expr_height e
 expr_high (operation e op token e2) = omega arith
 expr_high (cast opening ws d closing e) = omega arith

@@ -59,7 +59,6 @@ IsStart s starts.Align kind = kind ≡ kinds.Keyword keywords.Alignas
 IsStart s starts.Auto kind = kind ≡ kinds.Keyword keywords.AutoType
 IsStart s starts.Nothing kind = Unit {0}
 
--- the first token of a word is as the word that it is taken for says
 start_is : (s : HeldScopes) (typed : Bool) (kind : TokenKind) → IsStart s (start_at s typed kind) kind
 start_is s typed (kinds.Keyword keywords.Typedef) = (refl, refl)
 start_is s typed (kinds.Keyword keywords.Extern) = (refl, refl)
@@ -107,7 +106,6 @@ start_is s typed (kinds.Name name) = by_name (names_type s name) (not typed) ref
     by_name true true is = (refl, is)
 start_is s typed kind = tt
 
--- the least height of specifiers, by the first token of a word, is at least 1
 least_one : (start : SpecStart) → 1 ≤ least_of start
 least_one (starts.Storage keyword) = omega arith
 least_one starts.Thread = omega arith
@@ -175,7 +173,6 @@ pub append_append : (a b c : SpecWords) → append_words (append_words a b) c �
 append_append no_words b c = refl
 append_append (more_words w ws) b c = ap (more_words w) (append_append ws b c)
 
--- words and one more are no higher than the room where the words and the new one fit it
 pub pushed_height : (ws : SpecWords) (w : SpecWord) (room : ℕ) → specs_height ws ≤ room → spec_word_height w + 1 ≤ room
     → specs_height (pushed ws w) ≤ room
 pushed_height no_words w room h one = omega (arith, h, one)
@@ -183,7 +180,6 @@ pushed_height (more_words v ws) w room h one =
     let rest : specs_height (pushed ws w) ≤ room = pushed_height ws w room (omega (arith, h)) one in
     omega (arith, h, rest)
 
--- words and one more give the scopes that the new one gives behind the words
 pushed_scopes : (ws : SpecWords) (w : SpecWord) (s t u : HeldScopes) → spec_words_scopes ws s ≡ Some t
     → spec_word_scopes w t ≡ Some u → spec_words_scopes (pushed ws w) s ≡ Some u
 pushed_scopes no_words w s t u h e = behind_is (spec_words_scopes no_words) (subst (λ (t : HeldScopes). spec_word_scopes w t ≡ Some u) (sym cc) e) refl

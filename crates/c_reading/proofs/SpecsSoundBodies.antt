@@ -40,7 +40,6 @@ pub attrs_low : (attrs : List Attr) (room : ℕ) → least_with attrs ≤ room �
 attrs_low [] room h = omega arith
 attrs_low (a ∷ attrs) room h = omega (arith, h)
 
--- a declarator is at least 1 high
 pub declr_high : (d : Declr) → 1 ≤ declr_height d
 declr_high (pointer star words d) = omega arith
 declr_high (declr_name token name) = omega arith

@@ -55,14 +55,12 @@ not_attr spec_starts.Nothing = false
 not_attr spec_starts.Attribute = false
 not_attr start = true
 
--- whether a word of specifiers begins, and is neither an attribute nor a name
 abbrev is_plain : SpecStart → Bool
 is_plain spec_starts.Nothing = false
 is_plain spec_starts.Attribute = false
 is_plain (spec_starts.Name name) = false
 is_plain start = true
 
--- a word's first token that is plain is no attribute
 plain_not_attr : (start : SpecStart) → is_plain start ≡ true → not_attr start ≡ true
 plain_not_attr spec_starts.Nothing e = absurd cc
 plain_not_attr spec_starts.Attribute e = absurd cc
@@ -73,7 +71,6 @@ start_no_attr : (s : HeldScopes) (kind : TokenKind) → not_attr (start_at s fal
 start_no_attr s (kinds.Keyword keywords.Attribute) e = absurd cc
 start_no_attr s kind e = refl
 
--- a token that begins a plain word spells no name
 start_no_name : (s : HeldScopes) (kind : TokenKind) → is_plain (start_at s false kind) ≡ true → spelled_name kind ≡ None
 start_no_name s (kinds.Name name) e = by_kind (names_type s name) refl
   where
@@ -101,7 +98,6 @@ abbrev no_attr_first : SpecWords → Bool
 no_attr_first no_words = true
 no_attr_first (more_words w ws) = not_attr (start_of w)
 
--- behind the attributes that words begin with no attribute comes first
 lead_first : (ws : SpecWords) → no_attr_first (lead_words ws) ≡ true
 lead_first no_words = refl
 lead_first (more_words (attribute a) ws) = lead_first ws

@@ -78,13 +78,11 @@ lead_exts (operation e op token e2) = lead_exts e
 lead_exts (extension keyword e) = keyword ∷ lead_exts e
 lead_exts e = []
 
--- an expression begins with the `__extension__` keywords that lead it
 pub lead_begin : (e : Expr) → exts_begin (lead_exts e) e
 lead_begin (operation e op token e2) = lead_begin e
 lead_begin (extension keyword e) = (refl, lead_begin e)
 lead_begin e = tt
 
--- an expression is at least as high as those that lead it ask for
 pub lead_low : (e : Expr) → least_with (lead_exts e) ≤ expr_height e
 lead_low (operation e op token e2) = let rest : least_with (lead_exts e) ≤ expr_height e = lead_low e in omega (arith, rest)
 lead_low (extension keyword e) = let some : 1 ≤ expr_height e = expr_high e in omega (arith, some)
@@ -188,26 +186,22 @@ abbrev pub lead_words : SpecWords → SpecWords
 lead_words (more_words (attribute a) ws) = lead_words ws
 lead_words ws = ws
 
--- the attributes that lead words, followed by the rest, are the words
 pub lead_is : (ws : SpecWords) → append_words (words_of_attrs (lead_attrs ws)) (lead_words ws) ≡ ws
 lead_is no_words = refl
 lead_is (more_words (attribute a) ws) = ap (more_words (attribute a)) (lead_is ws)
 lead_is (more_words w ws) = refl
 
--- words are spelled as the attributes that lead them, then the rest
 pub lead_words_text : (all : List Lexeme) (ws : SpecWords) (k : List Lexeme)
     → spec_words_text all ws k ≡ attrs_text all (lead_attrs ws) (spec_words_text all (lead_words ws) k)
 lead_words_text all no_words k = refl
 lead_words_text all (more_words (attribute a) ws) k = ap (attr_text all a) (lead_words_text all ws k)
 lead_words_text all (more_words w ws) k = refl
 
--- the rest of well-formed words behind their leading attributes is well formed
 pub lead_words_fit : (all : List Lexeme) (ws : SpecWords) → AreSpecWords all ws → AreSpecWords all (lead_words ws)
 lead_words_fit all no_words h = h
 lead_words_fit all (more_words (attribute a) ws) h = lead_words_fit all ws h.1
 lead_words_fit all (more_words w ws) h = h
 
--- words give the scopes that they give without their leading attributes
 pub lead_words_named : (ws : SpecWords) (s : HeldScopes) → spec_words_scopes (lead_words ws) s ≡ spec_words_scopes ws s
 lead_words_named no_words s = refl
 lead_words_named (more_words (attribute a) ws) s = lead_words_named ws s
@@ -227,7 +221,6 @@ element_no_colon : (kind : TokenKind) → IsElementKind kind → is_colon kind �
 element_no_colon (kinds.Punct puncts.Colon) h = absurd h
 element_no_colon kind h = refl
 
--- no well-formed specifier begins with a colon
 pub word_no_colon : (all : List Lexeme) → IsNumbered all → (w : SpecWord) (k : List Lexeme) → IsSpecWord all w
     → is_colon (kind_at (spec_word_text all w k)) ≡ false
 word_no_colon all numbered (qualifier (quals.Element token)) k h =

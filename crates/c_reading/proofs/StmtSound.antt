@@ -35,7 +35,6 @@ use Rattle.c_reading.proofs.DeclLists.{attrs_room}
 use Rattle.c_reading.proofs.LabelLists.{labels_form, plain_form, items_text, items_fit, items_first, items_named, items_high, labels_sound}
 use Rattle.c_reading.proofs.DeclSound.{declaration_sound, declaration_from_sound}
 
--- the first token of a statement is the one that its form is named by
 abbrev pub IsStmtStart : StmtStart → TokenKind → Type 0
 IsStmtStart starts.Block kind = kind ≡ kinds.Punct puncts.OpenBrace
 IsStmtStart starts.Semicolon kind = kind ≡ kinds.Punct puncts.Semicolon
@@ -55,7 +54,6 @@ IsStmtStart starts.Return kind = kind ≡ kinds.Keyword keywords.Return
 IsStmtStart starts.Asm kind = kind ≡ kinds.Keyword keywords.Asm
 IsStmtStart starts.Value kind = Unit {0}
 
--- a token is the first of the form of statement that it is taken for
 pub stmt_start_is : (kind : TokenKind) → IsStmtStart (stmt_start kind) kind
 stmt_start_is (kinds.Punct puncts.OpenBrace) = refl
 stmt_start_is (kinds.Punct puncts.Semicolon) = refl

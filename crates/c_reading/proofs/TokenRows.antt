@@ -82,7 +82,6 @@ pub record Same {T : Type 0} (f g : Form T) : Type 0 where
   pub lower : (x : T) (room : ℕ) → f.height x ≤ room → g.height x ≤ room
   pub higher : (x : T) (room : ℕ) → g.height x ≤ room → f.height x ≤ room
 
--- a reader that is sound for one form of trees is so for one that says the same
 pub sound_as : (all : List Lexeme) {T : Type 0} (f g : Form T) → Same f g → (room : ℕ) (read : Reader T)
     → IsSound all f room read → IsSound all g room read
 sound_as all f g same room read sound s ts x tail e =
@@ -121,7 +120,6 @@ static_kind kind e = absurd cc
 
 -- one token as what it may be
 
--- a reader that makes something of one token takes it
 pub made_shrinks : {A : Type 0} (of : TokenKind → Option (ℕ → A)) → Shrinks (made_at of)
 made_shrinks of s [] x e = absurd cc
 made_shrinks {A} of s (t ∷ ts) x e = by_made (of t.kind) e

@@ -300,7 +300,6 @@ module _ (all : List Lexeme) where
         → attr_at s (attrs_text all (a ∷ []) k) ≡ done (found a s k)
     attr_complete a s k h = attr_read a s k h
 
--- the readers of rows of tokens, groups, attributes and words take tokens, and are sound and complete
 pub token_laws : (all : List Lexeme) → IsNumbered all → TokenLaws all
 token_laws all numbered = record {
   exts_falls = TokenRows.exts_falls all;

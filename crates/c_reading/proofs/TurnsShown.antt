@@ -27,7 +27,6 @@ list_turn : {T E : Type 0} (next : ℕ → Reader (Next T E)) → ((comma : ℕ)
     → TakesToken (comma_turn next)
 list_turn next falls = comma_turn_shrinks (λ s ts. refuses Unexpected ts) next falls
 
--- each turn of each loop of the readers of a number takes a token
 pub turns_take_tokens : WholeAreMixes → MixesGoOn → (n : ℕ) → TurnsTakeTokens n
 turns_take_tokens whole goes n =
     let laws = knot_laws whole goes n in

@@ -62,7 +62,6 @@ module _ (sys : System) (lattice : ℕ) (subs : List (List PathStep)) where
       → HaveNoLines steps
   path_lines elem bound steps path = subst HaveNoLines (sym path.steps_are) (refl, onward_lines (ToBound bound) _ path.from path.rest path.onward)
 
--- an item of a list with one more at its end is an item of the list, or the new one
 push_get : (xs : List (List PathStep)) (y : List PathStep) (n : ℕ) (z : List PathStep)
     → slice_get (xs ++ y ∷ []) n ≡ Some z → (slice_get xs n ≡ Some z) ⊎ (y ≡ z)
 push_get [] y zero z is = inr cc
@@ -70,7 +69,6 @@ push_get [] y (suc n) z is = absurd cc
 push_get (x ∷ xs) y zero z is = inl is
 push_get (x ∷ xs) y (suc n) z is = push_get xs y n z is
 
--- the steps of each of some sub-paths have no lines
 pub subs_lines : (sys : System) (lattice : ℕ) (subs : List (List PathStep)) → AreSubs sys lattice subs
     → (n : ℕ) (steps : List PathStep) → slice_get subs n ≡ Some steps → HaveNoLines steps
 subs_lines sys lattice _ NoSubs n steps is = absurd cc

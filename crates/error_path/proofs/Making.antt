@@ -29,7 +29,6 @@ pub push_last : {X : Type 0} (xs : List X) (x : X) → slice_get (xs ++ x ∷ []
 push_last [] x = refl
 push_last (z ∷ xs) x = push_last xs x
 
--- an item of a list stands at the same place where more items come behind
 pub more_get : {X : Type 0} (xs more : List X) (n : ℕ) (y : X) → slice_get xs n ≡ Some y
     → slice_get (xs ++ more) n ≡ Some y
 more_get [] more n y is = absurd cc

@@ -13,7 +13,6 @@ use Rattle.match_summary.specs.Summary.{HasPair, Leads, EndsAt, RestsOn, Summari
 use Rattle.error_path.specs.Drafts.{rank}
 use Rattle.error_path.proofs.Ranks.{rank_most, rank_once}
 
--- a summary among the first ones is one of all
 pub contains_early : (rows : List Summary) (n : ℕ) (row : Summary) → Contains (take n rows) row → Contains rows row
 contains_early rows n row there =
     let few = there.1 in

@@ -35,7 +35,6 @@ marked_less old new all left r is here others marked p v mark = elim (cases_eq v
   | inr other ↦ in_less all left r v is other (marked p v (sym (others p v other) ∙ mark))
 ]
 
--- variables that have places are in the queue still when its last item and that item's place are gone
 pub placed_less : (old new : List ℕ) (all left : List Reached) (r : Reached) → all ≡ left ++ r ∷ []
     → slice_index_or new r.at nowhere ≡ nowhere →
     ((v : ℕ) → v ≢ r.at → slice_index_or new v nowhere ≡ slice_index_or old v nowhere) → ArePlaced old all

@@ -32,7 +32,6 @@ use Rattle.error_path.proofs.Making.{push_cases, more_get, push_last}
 pub grows_same : (s : Search) → Grows s s
 grows_same s = record { more = []; is = sym (append-nil s.queue.items); kept = λ p v m. m; size = refl; free = omega arith }
 
--- a search that grows twice has grown
 pub grows_then : (a b c : Search) → Grows a b → Grows b c → Grows a c
 grows_then a b c p q = record {
   more = p.more ++ q.more;
@@ -50,7 +49,6 @@ pub below_on : (sys : System) (old new : Search) → Grows old new → AllBelow 
     → AllBelow sys (size_of new.marks)
 below_on sys old new g all = subst (λ k. AllBelow sys k) (sym g.size) all
 
--- a constraint that was followed stays followed while the search grows
 pub followed_on : (sys : System) (lattice : ℕ) (rows : List Summary) (old new : Search) (p : Phase) (u n : ℕ)
     → Grows old new → IsFollowed sys lattice rows old p u n → IsFollowed sys lattice rows new p u n
 followed_on sys lattice rows old new p u n g f = record {
@@ -64,7 +62,6 @@ abbrev earlier_more : (queue more : List Reached) (from place : ℕ) → Earlier
     → Earlier (queue ++ more) from place
 earlier_more queue more from place e = record { it = e.it; there = more_get queue more from e.it e.there; before = e.before }
 
--- how a variable was reached stays so when more items come behind in the queue
 comes_more : (sys : System) (lattice : ℕ) (origin : Origin) (rows : List Summary) (queue more : List Reached) (place : ℕ) (q : Phase) (v : ℕ) (cause : Cause) →
     ComesBy sys lattice origin rows queue place q v cause → ComesBy sys lattice origin rows (queue ++ more) place q v cause
 comes_more sys lattice origin rows queue more place q v (Start n) h = h
@@ -85,7 +82,6 @@ sound_push sys lattice origin rows queue r sound comes n other is = elim (push_c
       subst Of new.1 (subst At (sym new.0) (comes_more sys lattice origin rows queue (r ∷ []) (length queue) r.phase r.at r.cause comes))
 ]
 
--- two phases are equal or they are not
 same_phase : (p q : Phase) → (p ≡ q) ⊎ (p ≢ q)
 same_phase First First = inl refl
 same_phase First Second = inr (λ e. absurd cc)
@@ -101,7 +97,6 @@ mark_cases old new phase at others p v has = elim (same_phase p phase) [
   | inl same ↦ elim (cases_eq v at) [ inr not ↦ inl (sym (others p v (λ e. not)) ∙ has) | inl is ↦ inr (sym same, sym is) ]
 ]
 
--- setting one mark leaves every mark that was set
 pub mark_kept : (old new : PhaseMarks) (phase : Phase) (at : ℕ) → mark_of new phase at ≡ true →
     ((p : Phase) (v : ℕ) → (p ≡ phase → v ≢ at) → mark_of new p v ≡ mark_of old p v) → (p : Phase) (v : ℕ)
     → mark_of old p v ≡ true → mark_of new p v ≡ true
@@ -113,7 +108,6 @@ mark_kept old new phase at here others p v has = elim (same_phase p phase) [
   ]
 ]
 
--- a queue that had all that was marked has all still when the one variable that is newly marked comes behind
 pub listed_push : (old new : PhaseMarks) (queue : List Reached) (r : Reached) →
     ((p : Phase) (v : ℕ) → mark_of new p v ≡ true → (mark_of old p v ≡ true) ⊎ ((r.phase ≡ p) × (r.at ≡ v))) →
     ((p : Phase) (v : ℕ) → mark_of old p v ≡ true → IsListed queue p v) → (p : Phase) (v : ℕ) → mark_of new p v ≡ true
@@ -288,7 +282,6 @@ followed_elsewhere sys lattice rows search p u n followed = record {
   group = λ s a m st. (followed (record { constraint = st.constraint; there = st.there; keyed = subst (λ l. link_begins l ≡ Some u) (sym st.link_is) refl })).group s a m st;
 }
 
--- an item at a place below the old length of a queue is an item of the old queue
 old_item : (queue more : List Reached) (n : ℕ) (r : Reached) → n < length queue → slice_get (queue ++ more) n ≡ Some r
     → slice_get queue n ≡ Some r
 old_item [] more n r within is = absurd (omega (arith, within))
@@ -303,7 +296,6 @@ visited_on sys lattice rows old new place g within v r is n =
     let item : slice_get old.queue.items place ≡ Some r = old_item old.queue.items g.more place r within (sym (ap (λ xs. slice_get xs place) g.is) ∙ is) in
     followed_on sys lattice rows old new r.phase r.at n g (v r item n)
 
--- an `Enter` is followed once its variable is marked in the second phase and all its groups were followed
 pub enter_followed : (sys : System) (lattice : ℕ) (rows : List Summary) (search : Search) (p : Phase) (n : ℕ) (constraint : Constraint) (s u a w : ℕ) →
     slice_get sys.constraints n ≡ Some constraint → constraint.link ≡ Enter s u a → IsMarked search (settled (owner_of sys a) Second) a →
     ((m : ℕ) → IsRounded sys lattice rows search p s a m) → IsFollowed sys lattice rows search p w n
@@ -323,7 +315,6 @@ enter_followed sys lattice rows search p n constraint s u a w there is mark grou
 some_reached : {x y : Reached} → Some x ≡ Some y → x ≡ y
 some_reached e = cc
 
--- a place is visited where each constraint was followed from its variable in its phase
 pub visited_here : (sys : System) (lattice : ℕ) (rows : List Summary) (old new : Search) (place : ℕ) (p : Phase) (u : ℕ)
     → Grows old new → StandsAt old place p u →
     ((n : ℕ) → IsFollowed sys lattice rows new p u n) → IsVisited sys lattice rows new place

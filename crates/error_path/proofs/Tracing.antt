@@ -159,7 +159,6 @@ order_there (x ∷ views) zero view is = let same : x ≡ view = same_view is in
     same_view e = cc
 order_there (x ∷ views) (suc n) view is = order_there views n view is
 
--- a list of lattices has one at each number below its length
 pub view_at : (views : List LatticeView) (n : ℕ) → n < length views
     → (view : LatticeView) × (slice_get views n ≡ Some view)
 view_at [] n lt = absurd (omega (arith, lt))

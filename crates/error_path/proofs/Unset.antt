@@ -2,7 +2,6 @@
 use Rattle.std.proofs.Common.{◌≡◌, ℕ, zero, suc, ◌<◌, Bool, true, false, List, [], ◌∷◌, length, get_or, set, arith}
 use Rattle.error_path.specs.Marks.{unset}
 
--- setting a mark that is not set leaves fewer that are not set
 pub unset_less : (marks : List Bool) (i : ℕ) → i < length marks → get_or marks i false ≡ false
     → unset (set marks i true) < unset marks
 unset_less [] i within is = absurd (omega (arith, within))

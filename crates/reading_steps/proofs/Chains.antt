@@ -20,7 +20,6 @@ use Rattle.reading_steps.proofs.Steps.{behind, good_as, if_good, bind_law, token
 pub ends_falls : {A : Type 0} (a : A) → Falls (ends a)
 ends_falls a s ts x e = let same : length ts ≡ length x.rest = ap (λ (x : Found _). length x.rest) (ok_is e) in omega (arith, same)
 
--- two readers, one behind the other, leave no more tokens than they were given where each does so
 pub behind_falls : {A B : Type 0} (a : Reader A) (f : A → Reader B) → Falls a → ((x : A) → Falls (f x))
     → Falls (behind a f)
 behind_falls a f falls rest s ts y e =
@@ -29,7 +28,6 @@ behind_falls a f falls rest s ts y e =
     let two : length y.rest ≤ length b.0.rest = rest b.0.tree b.0.scopes b.0.rest y b.2 in
     omega (arith, one, two)
 
--- two readers, one behind the other, take a token where the first does and the second adds none
 pub behind_shrinks : {A B : Type 0} (a : Reader A) (f : A → Reader B) → Shrinks a → ((x : A) → Falls (f x))
     → Shrinks (behind a f)
 behind_shrinks a f shrinks rest s ts y e =
@@ -38,7 +36,6 @@ behind_shrinks a f shrinks rest s ts y e =
     let two : length y.rest ≤ length b.0.rest = rest b.0.tree b.0.scopes b.0.rest y b.2 in
     omega (arith, one, two)
 
--- two readers, one behind the other, take a token where the first adds none and the second takes one
 pub falls_shrinks : {A B : Type 0} (a : Reader A) (f : A → Reader B) → Falls a → ((x : A) → Shrinks (f x))
     → Shrinks (behind a f)
 falls_shrinks a f falls rest s ts y e =
@@ -54,7 +51,6 @@ closed_falls a test f falls rest =
     behind_falls a (λ x. behind (token_at test) (f x)) falls
     (λ x. behind_falls (token_at test) (f x) (λ s ts y e. let one = token_falls test s ts y e in omega (arith, one)) (rest x))
 
--- a reader behind which a token closes, and then another that adds none, takes a token where the first does
 pub closed_shrinks : {A B : Type 0} (a : Reader A) (test : TokenKind → Bool) (f : A → ℕ → Reader B) → Shrinks a
     → ((x : A) (closing : ℕ) → Falls (f x closing)) → Shrinks (behind a (λ x. behind (token_at test) (f x)))
 closed_shrinks a test f shrinks rest =

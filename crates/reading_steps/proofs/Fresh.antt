@@ -7,7 +7,6 @@ use Rattle.c_units.specs.HeldScopes.{HeldScopes, innermost, leave, kind_of, name
 use Rattle.reading_steps.specs.Fresh.{above_names, above_held, fresh, IsFree}
 use Rattle.reading_steps.specs.Laws.{FreshIsFree}
 
--- a name above all those of a scope has no kind in it
 none_above : (names : List (ℕ × Kind)) (name : ℕ) → above_names names ≤ name → kind_in names name ≡ None
 none_above [] name h = refl
 none_above (known ∷ names) name h =
@@ -19,7 +18,6 @@ held_above : (o : Option ℕ) (name : ℕ) → above_held o ≤ name → is_name
 held_above None name h = refl
 held_above (Some held) name h = ne_eqb held name (λ same. absurd (omega (arith, h, same)))
 
--- a name that is fresh or above has no kind in any scope
 no_kind_above : (s : HeldScopes) (name : ℕ) → fresh s ≤ name → kind_of s name ≡ None
 no_kind_above [] name h = refl
 no_kind_above (scope ∷ outer) name h =
@@ -27,7 +25,6 @@ no_kind_above (scope ∷ outer) name h =
     let there : fresh outer ≤ name = omega (arith, h) in
     rw (none_above scope.names name here) (no_kind_above outer name there)
 
--- a name that is fresh or above is free: it has no kind, and the innermost scope neither has nor holds it
 pub fresh_is_free : FreshIsFree
 fresh_is_free [] name h = record { no_kind = refl; none_here = refl; not_held = refl }
 fresh_is_free (scope ∷ outer) name h =

@@ -32,7 +32,6 @@ release_kept kind s = by_name (innermost s).held
     by_name None = refl
     by_name (Some name) = refl
 
--- a scope that holds a name for a declarator keeps the scopes outside
 pub hold_kept : (name : ℕ) (kind : Kind) (s t : HeldScopes) → hold name kind s ≡ Some t → Kept false s t
 hold_kept name kind s t e = by_test (may_declare (innermost s) name kind) e
   where
@@ -47,7 +46,6 @@ with_held : (o : Option Kind) (scope : HeldScope) (name : ℕ) (kind : Kind)
 with_held None scope name kind = refl
 with_held (Some known) scope name kind = refl
 
--- an enumerator that a scope may have may still be declared there behind another one
 with_constant : (o : Option Kind) (scope : HeldScope) (name other : ℕ) → may_declare scope other Constant ≡ true
     → may_declare (with_kind o scope name Constant) other Constant ≡ true
 with_constant (Some known) scope name other h = h
@@ -57,7 +55,6 @@ with_constant None scope name other h = by_test (nat_eq name other)
     by_test true = refl
     by_test false = h
 
--- an enumerator that is declared keeps the outer scopes, the name held, and what enumerators may be declared
 pub declare_kept : (name : ℕ) (s t : HeldScopes) → declare name Constant s ≡ Some t → Kept true s t
 declare_kept name s t e = by_held (is_name (innermost s).held name) e
   where

@@ -31,14 +31,12 @@ pub first_append : (b x y : List Lexeme) → first_kind x ≡ first_kind y → f
 first_append [] x y h = h
 first_append (t ∷ ts) x y h = refl
 
--- lists of tokens with a first token of the same kind, or without any, have the same kind first
 pub kind_same : (x y : List Lexeme) → first_kind x ≡ first_kind y → kind_at x ≡ kind_at y
 kind_same [] [] h = refl
 kind_same [] (t ∷ ts) h = absurd cc
 kind_same (t ∷ ts) [] h = absurd cc
 kind_same (t ∷ ts) (u ∷ us) h = cc
 
--- two lists numbered together are the first numbered, then the second from the number behind it
 pub numbered_append : (at : ℕ) (xs ys : List TokenKind)
     → numbered_from at (xs ++ ys) ≡ numbered_from at xs ++ numbered_from (at + length xs) ys
 numbered_append at [] ys = ap (λ (n : ℕ). numbered_from n ys) (omega arith)
@@ -49,7 +47,6 @@ longer : (b k : List Lexeme) → length k ≤ length (b ++ k)
 longer [] k = omega arith
 longer (t ∷ b) k = let h = longer b k in omega (arith, h)
 
--- a list is longer by a token at least than what stands behind its first
 longer_behind : (t : Lexeme) (b more k : List Lexeme) → length k < length ((t ∷ b) ++ (more ++ k))
 longer_behind t b more k =
     let one = longer more k in

@@ -43,7 +43,6 @@ other_is_none : (types : Types) → with_part types word_parts.Other ≡ None
 other_is_none Named = refl
 other_is_none (Words base mark) = refl
 
--- a keyword with which a mix goes on is a basic type word
 spells_type : (before : Option Mix) (k : Keyword) → is_some (then_class before (classes.Spells k)) ≡ true
     → is_basic_word k ≡ true
 spells_type None k e = absurd cc
@@ -68,7 +67,6 @@ left_asks_less (assign p) n is low = low
 left_asks_less (cond middle colon) n is low = low
 left_asks_less (binary p) n is low = omega arith
 
--- the grammar asks of the right operand of an operator no more than the precedence table does
 right_asks_less : (op : Operator) (n : ℕ) → IsOperator op → right_level op ≤ n → right_line op ≤ n
 right_asks_less comma n is low = low
 right_asks_less (assign p) n is low = low
@@ -92,7 +90,6 @@ round_is_named (abs_params d opening ps dots closing) above is = absurd cc
 pub function_is_named : (d : Declr) → declares_function d ≡ true → is_named d ≡ true
 function_is_named d is = round_is_named d false is
 
--- a declarator that lists identifiers has a name
 pub lister_is_named : (d : Declr) → lists_identifiers d ≡ true → is_named d ≡ true
 lister_is_named (declr_name token name) is = refl
 lister_is_named (declr_paren opening attrs d closing) is = refl

@@ -5,13 +5,11 @@ use Rattle.lattice_core.specs.declared.Entry.{Entry}
 use Rattle.lattice_core.specs.View.{LatticeView}
 use Rattle.row_rules.specs.Annotations.{is_access, bounds_accesses, access_from}
 
--- from the index of an element on a list is this element and those from the next index on
 drop_there : {A : Type 0} (xs : List A) (n : ℕ) (x : A) → slice_get xs n ≡ Some x → drop n xs ≡ x ∷ drop (n + 1) xs
 drop_there [] n x is = absurd cc
 drop_there (y ∷ ys) zero x is = let e : y ≡ x = cc in ap (λ z. z ∷ ys) e
 drop_there (y ∷ ys) (suc n) x is = let e : suc n + 1 ≡ suc (n + 1) = omega arith in rw e (drop_there ys n x is)
 
--- past its end nothing of a list is left
 drop_past : {A : Type 0} (xs : List A) (n : ℕ) → length xs ≤ n → drop n xs ≡ []
 drop_past [] zero le = refl
 drop_past [] (suc n) le = refl
@@ -41,7 +39,6 @@ pub view_there : (n : ℕ) (ls : List LatticeView) (l : LatticeView) → slice_g
 view_there n ls l is = ap (access_from n) (drop_there ls n l is)
     ∙ (let one : suc n ≡ n + 1 = omega arith in ap (λ m. bit l n + access_from m (drop (n + 1) ls)) one)
 
--- two to the power of n + 1 is twice that of n
 doubled : (n : ℕ) → 2 ^ (n + 1) ≡ 2 ^ n + 2 ^ n
 doubled n =
     let e : n + 1 ≡ suc n = omega arith in

@@ -9,19 +9,16 @@ seen_length : (n : ℕ) (rows : List Row) → length (all_seen n rows) ≡ lengt
 seen_length n [] = refl
 seen_length n (row ∷ rows) = ap suc (seen_length (n + 1) rows)
 
--- past its end a list has no element
 none_past : {A : Type 0} (xs : List A) (n : ℕ) → length xs ≤ n → slice_get xs n ≡ None
 none_past [] n le = refl
 none_past (x ∷ xs) zero le = absurd (omega arith)
 none_past (x ∷ xs) (suc n) le = none_past xs n (omega arith)
 
--- past the table of variables, at the number of no variable, there is no skeleton
 pub nowhere_is : (rows : List Row) → length rows ≤ 16777216 → skel_of rows 4294967295 ≡ no_skeleton
 nowhere_is rows few =
     let e = seen_length 0 rows in
     ap (λ (o : Option Seen). (unwrap_or o nothing).tree) (none_past (all_seen 0 rows) 4294967295 (omega arith))
 
--- what is the i-th parameter of a skeleton by one reading of its parameters is so by the other
 pub same_parameters : (rows : List Row) (s i : ℕ) (o : Option ℕ)
     → option_map (skel_of rows) o ≡ param_at (params_of (skel_of rows s)) i
     → option_map (skel_of rows) o ≡ param_at (parameters (skel_of rows s)) i

@@ -24,7 +24,6 @@ use Rattle.reading_steps.proofs.Steps.{behind, refused_here, ends_good, ends_law
 use Rattle.token_places.proofs.Single.{open_paren_end, attribute_end, static_assert_end, semicolon_end, one_good}
 use Rattle.c_reading.proofs.Groups.{bracket_shrinks}
 
--- the punctuator that closes a bracket
 abbrev pub closing_of : Bracket → Punct
 closing_of Paren = puncts.CloseParen
 closing_of Square = puncts.CloseBracket

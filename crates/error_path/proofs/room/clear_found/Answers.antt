@@ -2,7 +2,6 @@ use Rattle.std.proofs.Common.{◌∙◌}
 use Rattle.error_path.proofs.Rooming.{marked_less, placed_less}
 use Rattle.error_path.proofs.room.clear_found.Goals as goal
 
--- taking the marks and the place of the last item away leaves only those of items before it
 pub loop-reached-preserved : goal.loop-reached-preserved
 loop-reached-preserved c =
     let so_far = c.loop-reached.invariant in

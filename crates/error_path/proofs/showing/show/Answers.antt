@@ -25,7 +25,6 @@ pub show_from-requires-clause-summaries : goal.show_from-requires-clause-summari
 show_from-requires-clause-summaries c =
     let Of : ℕ → Type 0 = λ l. Summarises c.args.graph.now l c.args.summaries.now in subst Of (sym c.target_of-target.ensures.lattice) c.requires.summaries
 
--- the target's bound stands in the graph at the target's variable
 pub show_from-requires-clause-bound : goal.show_from-requires-clause-bound
 show_from-requires-clause-bound c =
     let target = c.target_of-target.ensures in
@@ -47,7 +46,6 @@ shown c proof is =
     let Bounds : ℕ → Type 0 = λ n. IsShown c.args.graph.now c.args.solver.now.lattice c.target_of-target.result.elem n proof in
     subst Bounds c.target_of-target.ensures.bound (subst Of c.target_of-target.ensures.lattice is)
 
--- a path proof that is shown holds in the orders of the lattices, in a graph with owners as they should be
 pub returns-clause-holds : goal.returns-clause-holds
 returns-clause-holds c =
     let orders = orders_of c.args.lattices.now in
@@ -62,7 +60,6 @@ returns-clause-holds c =
     (bound_over c.args.graph.now c.args.solver.now order c.args.bound elem (c.target_of-target.ensures.exceeds view.0 view.1)) proof.main.items proof.end path.path)
     c.show_from.ensures
 
--- the last step of the proof takes the bound
 pub returns-clause-ends : goal.returns-clause-ends
 returns-clause-ends c =
     IfOk-weaker c.show_from.result _ _
@@ -71,7 +68,6 @@ returns-clause-ends c =
     path_last c.args.graph.now c.args.solver.now.lattice (steps_of proof.subs.items) c.args.bound c.target_of-target.result.elem proof.main.items path.path)
     c.show_from.ensures
 
--- the first step of the proof takes a constant of an element that exceeds the bound
 pub returns-clause-begins : goal.returns-clause-begins
 returns-clause-begins c =
     let elem = c.target_of-target.result.elem in
@@ -88,7 +84,6 @@ returns-clause-begins c =
     })
     c.show_from.ensures
 
--- all lines of a proof that is shown are 0
 pub returns-clause-lines : goal.returns-clause-lines
 returns-clause-lines c =
     IfOk-weaker c.show_from.result _ _

@@ -18,7 +18,6 @@ use Rattle.error_path.proofs.Making.{made_apart}
 use Rattle.error_path.proofs.Tracing.{path_of, some_given, some_if}
 use Rattle.error_path.proofs.showing.show_from.Goals as goal
 
--- the variable of the bound, which the element leads to, has a first place in the queue
 pub unwrap-place-requires : goal.unwrap-place-requires
 unwrap-place-requires c =
     let reach = c.args.found.now in
@@ -31,13 +30,11 @@ unwrap-place-requires c =
 pub trace-requires-clause-made : goal.trace-requires-clause-made
 trace-requires-clause-made c = c.new-subs.ensures.made c.args.graph.now
 
--- the place of the bound's variable is within the queue
 pub trace-requires-clause-place : goal.trace-requires-clause-place
 trace-requires-clause-place c =
     let at = some_given _ c.place_of.result c.unwrap-place.result c.unwrap-place.ensures c.place_of.ensures.found in
     slice_get_within c.queue.result.now c.unwrap-place.result at.0 (ap (λ xs. slice_get xs c.unwrap-place.result) c.queue.ensures ∙ at.1)
 
--- the queue of the element is sound for the given summaries in the lattice of the new sub-paths
 pub trace-requires-clause-sound : goal.trace-requires-clause-sound
 trace-requires-clause-sound c =
     let origin : Origin = Element c.args.target.now.elem in
@@ -49,7 +46,6 @@ trace-requires-clause-sound c =
           (found_sound c.args.graph.now c.args.found.now c.args.target.now.lattice origin c.args.summaries.now c.requires.found c.requires.lattice c.requires.origin c.requires.summaries)),
     )
 
--- the steps traced from the bound, turned round, are a path from a constant of the element to it
 pub returns : goal.returns
 returns c =
     let sys = c.args.graph.now in

@@ -8,7 +8,6 @@ use Rattle.error_path.specs.Traced.{IsTraced}
 use Rattle.error_path.proofs.Tracing.{match_none, match_some, some_given, some_reached}
 use Rattle.error_path.proofs.traces.trace.Goals as goal
 
--- the cause of an item tells how its variable was reached
 pub trace_step-requires-clause-comes : goal.trace_step-requires-clause-comes
 trace_step-requires-clause-comes c =
     let place = c.loop-from.place in
@@ -18,7 +17,6 @@ trace_step-requires-clause-comes c =
     let Of : ℕ → Type 0 = λ l. ComesBy c.args.graph.now l origin c.args.summaries.now c.args.reached.now place r.phase r.at r.cause in
     (origin, c.args.reached.now, place, r.phase, r.at, subst Of (sym c.loop-from.invariant.lattice) (c.requires.sound.1 place r there))
 
--- the steps of a cause begin at an earlier place of the queue
 pub loop-from-smaller : goal.loop-from-smaller
 loop-from-smaller c =
     let place = c.loop-from.place in
@@ -29,7 +27,6 @@ loop-from-smaller c =
     let comes = subst Of (sym c.loop-from.invariant.lattice) (c.requires.sound.1 place r there) in
     (some_given _ c.in_ok-from.field-0 c.in-Some.from c.in-Some.is (c.in_ok-from.ensures.earlier origin c.args.reached.now place r.phase r.at comes)).before
 
--- steps from a variable on to a goal, with those of its cause in front, go on from the earlier place
 pub loop-from-preserved : goal.loop-from-preserved
 loop-from-preserved c =
     let sys = c.args.graph.now in
@@ -59,7 +56,6 @@ loop-from-preserved c =
 pub returns-in-None-clause-lattice : goal.returns-in-None-clause-lattice
 returns-in-None-clause-lattice c = c.in_ok-from.ensures.extends.lattice ∙ c.loop-from.invariant.lattice
 
--- where no place is left, the steps lead from the origin to the goal
 pub returns-in-None-clause-path : goal.returns-in-None-clause-path
 returns-in-None-clause-path c = λ origin target r sound is on.
     let sys = c.args.graph.now in

@@ -4,7 +4,6 @@ use Rattle.flow_graph.specs.Parts.{Goal, Onward}
 use Rattle.error_path.specs.Made.{subs_in, IsMade}
 use Rattle.error_path.proofs.traces.trace.Given as goal
 
--- the sub-paths are right, and if the first steps lead on to a goal, those so far do from this place
 abbrev pub invariant-loop-from : goal.invariant-loop-from
 invariant-loop-from l = record {
   made : IsMade l.graph l.subs;

@@ -22,13 +22,11 @@ make-requires-clause-made c = c.loop-ends.invariant.made
 pub make-requires-clause-summaries : goal.make-requires-clause-summaries
 make-requires-clause-summaries c = subst (λ l. Summarises c.args.graph.now l c.args.summaries.now) (sym c.loop-ends.invariant.lattice) c.requires.summaries
 
--- a summary joins the pair that is asked for
 pub make-requires-clause-joined : goal.make-requires-clause-joined
 make-requires-clause-joined c =
     let pair = c.ends-item.result in
     c.requires.pairs c.loop-ends.ends-index pair.0 pair.1 (slice_get-get_or c.args.pairs.now c.loop-ends.ends-index pair c.loop-ends-test.true ∙ ap Some (sym c.ends-item.is))
 
--- making the sub-path of one more pair keeps those of the pairs before it
 pub loop-ends-preserved : goal.loop-ends-preserved
 loop-ends-preserved c =
     let sys = c.args.graph.now in
@@ -54,7 +52,6 @@ loop-ends-preserved c =
       ];
     }
 
--- the sub-paths that are answered are right, each resting on those before it
 pub returns-clause-subs : goal.returns-clause-subs
 returns-clause-subs c =
     let subs = subs_in c.loop-ends.subs in
@@ -63,7 +60,6 @@ returns-clause-subs c =
     let Subs : List (List PathStep) → Type 0 = λ xs. AreSubs c.args.graph.now c.args.lattice xs in
     subst Subs (sym same) (subst Good c.loop-ends.invariant.lattice c.loop-ends.invariant.made.good)
 
--- no two of the sub-paths have the same first and last variables
 pub returns-clause-apart : goal.returns-clause-apart
 returns-clause-apart c =
     let subs = subs_in c.loop-ends.subs in
@@ -71,7 +67,6 @@ returns-clause-apart c =
     let Apart : List (List PathStep) → Type 0 = λ xs. AreApart c.args.graph.now xs in
     subst Apart (sym same) (made_apart c.args.graph.now c.loop-ends.subs.lattice subs (place_of c.loop-ends.subs) c.loop-ends.invariant.made)
 
--- each pair that was asked for has a sub-path
 pub returns-clause-each : goal.returns-clause-each
 returns-clause-each c = λ n u v is.
     let same : steps_of c.into_paths.result.items ≡ subs_in c.loop-ends.subs = ap steps_of c.into_paths.ensures in

@@ -8,14 +8,12 @@ use Rattle.error_path.proofs.reaches.Reach.into_room.Goals as goal
 pub clear_found-requires-clause-marked : goal.clear_found-requires-clause-marked
 clear_found-requires-clause-marked c = c.requires.3.room.marked
 
--- each variable that has a first place is in the queue of what was found
 pub clear_found-requires-clause-placed : goal.clear_found-requires-clause-placed
 clear_found-requires-clause-placed c =
     let queue = c.args.self.found.queue.items in
     let Of : List ℕ → Type 0 = λ firsts. ArePlaced firsts queue in
     subst Of (sym c.deref_mut.ensures.value) (firsts_placed queue c.args.self.found.firsts.items c.requires.3.is.firsts)
 
--- the room that a reach leaves has nothing set and is as large as the system needs
 pub returns : goal.returns
 returns c = λ sys lattice start is.
     let Below : ℕ → Type 0 = λ k. AllBelow sys k in

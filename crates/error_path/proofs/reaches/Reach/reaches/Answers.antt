@@ -7,7 +7,6 @@ use Rattle.error_path.specs.Rooms.{nowhere}
 use Rattle.error_path.proofs.Going.{found_goes}
 use Rattle.error_path.proofs.reaches.Reach.reaches.Goals as goal
 
--- a variable has a first place just if the variable of the search goes to it
 pub returns : goal.returns
 returns c = λ sys lattice start well found.
     let reach = c.args.self.now.found in

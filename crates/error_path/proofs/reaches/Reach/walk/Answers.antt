@@ -17,7 +17,6 @@ use Rattle.error_path.proofs.reaches.Reach.walk.Goals as goal
 pub place_of-requires : goal.place_of-requires
 place_of-requires c = c.requires.reached.1.is.firsts
 
--- a variable that is led to has a first place in the queue
 pub unwrap-place-requires : goal.unwrap-place-requires
 unwrap-place-requires c =
     let reach = c.args.self.now.found in
@@ -28,13 +27,11 @@ unwrap-place-requires c =
 pub trace-requires-clause-made : goal.trace-requires-clause-made
 trace-requires-clause-made c = c.new-subs.ensures.made c.args.graph.now
 
--- the first place of the variable is within the queue
 pub trace-requires-clause-place : goal.trace-requires-clause-place
 trace-requires-clause-place c =
     let at = some_given _ c.place_of.result c.unwrap-place.result c.unwrap-place.ensures c.place_of.ensures.found in
     slice_get_within c.queue.result.now c.unwrap-place.result at.0 (ap (λ xs. slice_get xs c.unwrap-place.result) c.queue.ensures ∙ at.1)
 
--- the queue is sound for the given summaries in the lattice of the new sub-paths
 pub trace-requires-clause-sound : goal.trace-requires-clause-sound
 trace-requires-clause-sound c =
     let reach = c.args.self.now.found in
@@ -46,7 +43,6 @@ trace-requires-clause-sound c =
           (found_sound c.args.graph.now reach reach.lattice reach.origin c.args.summaries.now c.requires.reached.1.is refl refl c.requires.summaries)),
     )
 
--- the steps that were traced, turned round, are a walk from the variable of the search to the other
 pub returns : goal.returns
 returns c = λ start found_from.
     let sys = c.args.graph.now in

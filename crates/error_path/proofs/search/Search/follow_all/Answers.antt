@@ -6,7 +6,6 @@ use Rattle.error_path.proofs.Over.{from_on}
 use Rattle.error_path.proofs.Searching.{below_on, grows_same, grows_then, stands_on}
 use Rattle.error_path.proofs.search.Search.follow_all.Goals as goal
 
--- at first the search is as it was, and no crossing of the end comes after its newest one
 pub loop-next-init : goal.loop-next-init
 loop-next-init c = record {
   good = λ origin good. good;
@@ -28,7 +27,6 @@ pub follow_group-requires-clause-front : goal.follow_group-requires-clause-front
 follow_group-requires-clause-front c =
     stands_on c.args.self.now c.loop-next.self c.args.front.now.place c.args.front.now.phase c.args.front.now.at c.loop-next.invariant.grows c.requires.front
 
--- following the group of one `Leave` adds it to those of this site and variable that were followed
 pub loop-next-preserved : goal.loop-next-preserved
 loop-next-preserved c =
     let so_far = c.loop-next.invariant in
@@ -50,7 +48,6 @@ loop-next-preserved c =
           (step.done last) (λ n elsewhere v st. absurd (elsewhere (leave_crosses sys lattice n site last v st)));
     }
 
--- when no `Leave` is left, each one of the site from the variable was followed
 pub returns-clause-done : goal.returns-clause-done
 returns-clause-done c = λ m.
     let none : link_of c.loop-next.next ≡ 0 = ap link_of c.in_default.is in

@@ -7,14 +7,12 @@ use Rattle.error_path.specs.Marks.{size_of}
 use Rattle.error_path.proofs.Searching.{comes_around, key_of_link, low_of, some_number, stands_in}
 use Rattle.error_path.proofs.search.Search.follow_group.Goals as goal
 
--- the variable that the `Leave` of a group leads to has a mark
 pub note-requires : goal.note-requires
 note-requires c =
     let low : vars_of_link (Leave c.in-Leave.field-0 c.in-Leave.last c.in-Leave.to) ≤ size_of c.args.self.now.marks =
     low_of c.args.graph.now c.args.lattice c.args.leave c.constraint-back.result (Leave c.in-Leave.field-0 c.in-Leave.last c.in-Leave.to) c.constraint-back.ensures.there c.in-Leave.is _ c.requires.below in
     omega arith
 
--- a search stays good when it notes the end of a group that nothing or a summary joins inside
 pub returns-else-not-leads-clause-good : goal.returns-else-not-leads-clause-good
 returns-else-not-leads-clause-good c =
     let site : c.in-Leave.field-0 ≡ c.args.call.now.site = some_number (key_of_link c.args.graph.now c.args.lattice c.args.leave c.constraint-back.result (Leave c.in-Leave.field-0 c.in-Leave.last c.in-Leave.to) c.constraint-back.ensures.there c.in-Leave.is link_site c.args.call.now.site c.requires.site) in

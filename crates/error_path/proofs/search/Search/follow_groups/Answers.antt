@@ -13,7 +13,6 @@ pub follow_pairs-requires-clause-front : goal.follow_pairs-requires-clause-front
 follow_pairs-requires-clause-front c =
     stands_on c.args.self.now c.follow_leaves.new.self c.args.front.now.place c.args.front.now.phase c.args.front.now.at c.in_ok-follow_leaves.ensures.grows c.requires.front
 
--- an `Enter` of the site to the variable is there, so it cannot be that none crosses
 pub returns-in_default-clause-done : goal.returns-in_default-clause-done
 returns-in_default-clause-done c =
     let none : link_of c.newest.result ≡ 0 = ap link_of c.in_default.is in
@@ -21,13 +20,11 @@ returns-in_default-clause-done c =
     let crosses = enter_crosses c.args.graph.now c.args.lattice n c.args.call.now.site c.args.front.now.at c.args.call.now.inner c.requires.call in
     absurd (c.newest.ensures.last n (omega (arith, none)) (crosses_within c.args.graph.now _ n crosses) crosses)
 
--- where an `Enter` of the same site and variable was passed in the phase, its groups were followed
 pub returns-then-has-clause-done : goal.returns-then-has-clause-done
 returns-then-has-clause-done c =
     enter_covered c.args.graph.now c.args.lattice c.args.summaries.now c.args.passed.now c.args.self.now c.requires.over c.args.front.now.phase
     c.in-Some.entry (c.if-has.ensures.0 refl) c.args.call.now.site c.args.call.now.inner (c.newest.ensures.there c.in-Some.entry (ap link_of c.in-Some.is))
 
--- once the empty group and those of pairs were followed, each group of the `Enter` was
 pub returns-clause-done : goal.returns-clause-done
 returns-clause-done c =
     let sys = c.args.graph.now in
@@ -48,7 +45,6 @@ returns-clause-done c =
     done v st leads in
     all
 
--- the mark of the last `Enter` of a site and variable stands for groups that were followed
 pub returns-clause-over : goal.returns-clause-over
 returns-clause-over c =
     let sys = c.args.graph.now in

@@ -9,7 +9,6 @@ use Rattle.error_path.proofs.Searching.{below_on, grows_same, grows_then, stands
 use Rattle.match_summary.proofs.Sources.{pair_place, source_at, source_row}
 use Rattle.error_path.proofs.search.Search.follow_pairs.Goals as goal
 
--- at first the search is as it was, and no pair from the variable comes after the newest one
 pub loop-next-init : goal.loop-next-init
 loop-next-init c = record {
   good = λ origin good. good;
@@ -20,7 +19,6 @@ loop-next-init c = record {
       absurd (c.newest_from-next.ensures.last n le (slice_get_within c.args.summaries.now n row is) (source_at c.args.summaries.now n row is ∙ ap (λ (x : ℕ). Some x) from));
 }
 
--- the place of the next pair is within the summaries
 pub row-last-requires : goal.row-last-requires
 row-last-requires c =
     let row = source_row c.args.summaries.now c.in-Some.at _ (c.loop-next.invariant.there c.in-Some.at (ap link_of c.in-Some.is)) in
@@ -33,7 +31,6 @@ pub follow_leaves-requires-clause-front : goal.follow_leaves-requires-clause-fro
 follow_leaves-requires-clause-front c =
     stands_on c.args.self.now c.loop-next.self c.args.front.now.place c.args.front.now.phase c.args.front.now.at c.loop-next.invariant.grows c.requires.front
 
--- the pair before this one has a lower number
 pub loop-next-smaller : goal.loop-next-smaller
 loop-next-smaller c =
     let link = c.before_from-next.ensures c.args.call.now.inner (c.loop-next.invariant.there c.in-Some.at (ap link_of c.in-Some.is)) in
@@ -42,7 +39,6 @@ loop-next-smaller c =
     let goes : link_of c.before_from-next.result < link_of c.loop-next.next = omega (arith, less, is) in
     goes
 
--- following the groups of one more pair leaves only the older pairs of the variable
 pub loop-next-preserved : goal.loop-next-preserved
 loop-next-preserved c =
     let so_far = c.loop-next.invariant in
@@ -73,7 +69,6 @@ loop-next-preserved c =
       ];
     }
 
--- when no pair is left, the groups of each pair from the variable were followed
 pub returns-clause-done : goal.returns-clause-done
 returns-clause-done c = λ b m pair.
     let place = pair_place c.args.summaries.now c.args.call.now.inner b pair in

@@ -8,13 +8,11 @@ use Rattle.error_path.proofs.search.Search.run.Goals as goal
 pub visit-requires-clause-below : goal.visit-requires-clause-below
 visit-requires-clause-below c = below_on c.args.graph.now c.args.self.now c.loop-place.self c.loop-place.invariant.grows c.requires.below
 
--- the front has the phase and the variable of its place in the queue
 pub visit-requires-clause-front : goal.visit-requires-clause-front
 visit-requires-clause-front c =
     let At : ℕ → Type 0 = λ k. StandsAt c.loop-place.self k c.front_at-front.result.phase c.front_at-front.result.at in
     subst At (sym c.front_at-front.ensures.place) c.front_at-front.ensures.stands
 
--- visiting one place leaves those before it visited, and takes as many marks as items it adds
 pub loop-place-preserved : goal.loop-place-preserved
 loop-place-preserved c =
     let so_far = c.loop-place.invariant in
@@ -39,7 +37,6 @@ loop-place-preserved c =
       low = omega (arith, here, more);
     }
 
--- when the place is past the queue, each place was visited
 pub returns-clause-visited : goal.returns-clause-visited
 returns-clause-visited c = λ place r is n.
     let past = c.loop-place-test.false in

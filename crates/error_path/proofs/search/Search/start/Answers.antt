@@ -5,7 +5,6 @@ use Rattle.error_path.specs.declared.search.Origin.{Origin}
 use Rattle.error_path.specs.Reaching.{IsGood}
 use Rattle.error_path.proofs.search.Search.start.Goals as goal
 
--- a search that starts at the constants of its element stays good
 pub returns-in-Element-clause-good : goal.returns-in-Element-clause-good
 returns-in-Element-clause-good c =
     let Good : Origin → Type 0 = λ o. (rows : List Summary) → IsGood c.args.graph.now c.args.lattice o rows c.args.self.now →

@@ -9,14 +9,12 @@ use Rattle.error_path.specs.Marks.{size_of}
 use Rattle.error_path.proofs.Searching.{low_of}
 use Rattle.error_path.proofs.search.Search.start_at.Goals as goal
 
--- the variable of a constant has a mark
 pub note-requires : goal.note-requires
 note-requires c =
     let low : vars_of_link (Const c.in-Const.named c.in-Const.mark c.in-Const.at) ≤ size_of c.args.self.now.marks =
     low_of c.args.graph.now c.args.lattice c.args.edge c.constraint-link.result (Const c.in-Const.named c.in-Const.mark c.in-Const.at) c.constraint-link.ensures.there c.in-Const.is _ c.requires.below in
     omega arith
 
--- a search stays good when it notes the variable of a constant of its lattice and element
 pub returns-then-eq-2-clause-good : goal.returns-then-eq-2-clause-good
 returns-then-eq-2-clause-good c =
     let named : c.in-Const.named ≡ c.args.lattice = eqb-true _ _ (sym c.if-eq.ensures) in

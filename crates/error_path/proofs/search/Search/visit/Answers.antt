@@ -16,7 +16,6 @@ pub follow-requires-clause-front : goal.follow-requires-clause-front
 follow-requires-clause-front c =
     stands_on c.args.self.now c.loop-edge.self c.args.front.now.place c.args.front.now.phase c.args.front.now.at c.loop-edge.invariant.grows c.requires.front
 
--- following one more constraint keeps those before it followed and the passed marks right
 pub loop-edge-preserved : goal.loop-edge-preserved
 loop-edge-preserved c =
     let so_far = c.loop-edge.invariant in
@@ -37,7 +36,6 @@ loop-edge-preserved c =
       over = step.over;
     }
 
--- each constraint is followed: it is one of those that begin at the variable, or it leads nowhere from there
 pub returns-clause-done : goal.returns-clause-done
 returns-clause-done c = λ n.
     let row = c.out-edge-items.result.now in

@@ -11,7 +11,6 @@ use Rattle.error_path.proofs.Making.{number_place}
 use Rattle.error_path.proofs.Resting.{has_of}
 use Rattle.error_path.proofs.sub_paths.SubPaths.add_group.Goals as goal
 
--- an empty group is written as its `Enter` and its `Leave`
 pub returns-then-eq-clause-written : goal.returns-then-eq-clause-written
 returns-then-eq-clause-written c = λ s u a b v st ts.
     let from : c.inner_ends-inner.result.from ≡ a = c.inner_ends-inner.ensures.from s u a (has_of c.args.graph.now c.args.self.now.lattice c.args.enter _ st) in
@@ -20,7 +19,6 @@ returns-then-eq-clause-written c = λ s u a b v st ts.
     let Back : ℕ → Type 0 = λ x. Stands c.args.graph.now c.args.self.now.lattice c.args.leave (Leave s x v) in
     (group_steps c.args.enter None c.args.leave, Empty u a v s c.args.enter c.args.leave st (subst Back (sym same) ts), c.in_ok-push_group.ensures)
 
--- a group whose sub-path has a number is written with that sub-path inside
 pub returns-in_ok-push_group-in-Some-clause-written : goal.returns-in_ok-push_group-in-Some-clause-written
 returns-in_ok-push_group-in-Some-clause-written c = λ s u a b v st ts.
     let at = number_place (place_of c.args.self.now c.inner_ends-inner.result.from c.inner_ends-inner.result.to) c.in-Some.number (sym c.in-Some.ensures) in

@@ -7,7 +7,6 @@ use Rattle.error_path.specs.Made.{place_of, subs_in}
 use Rattle.error_path.proofs.Drafting.{drafts_push, empty_draft_of, pair_given}
 use Rattle.error_path.proofs.sub_paths.SubPaths.finish.Goals as goal
 
--- the first draft is one of those that waited, or a new one of the pair, and its pair has no sub-path
 pub loop-draft-init : goal.loop-draft-init
 loop-draft-init c =
     let sys = c.args.graph.now in
@@ -32,7 +31,6 @@ returns-in-None-clause-joined c = subst (λ (p : Pair). HasPair c.args.summaries
 pub returns-in-None-clause-free : goal.returns-in-None-clause-free
 returns-in-None-clause-free c = subst (λ (p : Pair). place_of c.args.self.now p.from p.to ≡ None) (sym c.in_ok-write.ensures.pair) c.loop-draft.invariant.free
 
--- the new draft is of a pair whose summary comes earlier
 pub loop-draft-smaller : goal.loop-draft-smaller
 loop-draft-smaller c =
     let rows = c.args.summaries.now in
@@ -43,7 +41,6 @@ loop-draft-smaller c =
     let less : rank rows draft.pair.from draft.at < rank rows c.loop-draft.draft.pair.from c.loop-draft.draft.at = omega (arith, same, missing.less) in
     less
 
--- a draft that misses a pair waits, and a draft of that pair with no steps takes its turn
 pub loop-draft-preserved : goal.loop-draft-preserved
 loop-draft-preserved c =
     let sys = c.args.graph.now in

@@ -14,7 +14,6 @@ use Rattle.error_path.proofs.Making.{number_place}
 use Rattle.error_path.proofs.Unmade.{unmade_less}
 use Rattle.error_path.proofs.sub_paths.SubPaths.make.Goals as goal
 
--- at first the sub-paths are as they were and nothing waits
 pub loop-number-init : goal.loop-number-init
 loop-number-init c = record {
   made = c.requires.made;
@@ -34,7 +33,6 @@ returns-in-Some-clause-made c = c.loop-number.invariant.made
 pub returns-in-Some-clause-extends : goal.returns-in-Some-clause-extends
 returns-in-Some-clause-extends c = c.loop-number.invariant.extends
 
--- the number of a made sub-path leads through from the first to the last variable of its pair
 pub returns-in-Some-clause-number : goal.returns-in-Some-clause-number
 returns-in-Some-clause-number c =
     let pair = c.args.pair.now in
@@ -51,13 +49,11 @@ finish-requires-clause-summaries c = subst (λ l. Summarises c.args.graph.now l 
 pub finish-requires-clause-waiting : goal.finish-requires-clause-waiting
 finish-requires-clause-waiting c = c.loop-number.invariant.waiting
 
--- each new sub-path leaves one pair fewer of the summaries without one
 pub loop-number-smaller : goal.loop-number-smaller
 loop-number-smaller c =
     let pair = c.in_ok-pair.field-0.pair in
     unmade_less (place_of c.loop-number.self) (place_of c.push.new.self) pair.from pair.to _ c.in_ok-pair.ensures.free c.in_ok-push.ensures.here c.in_ok-push.ensures.others c.args.summaries.now c.in_ok-pair.ensures.joined
 
--- a finished draft becomes a sub-path, and what waits are drafts with it too
 pub loop-number-preserved : goal.loop-number-preserved
 loop-number-preserved c =
     let sys = c.args.graph.now in

@@ -14,13 +14,11 @@ steps_count : (subs : List SubPath) → length (steps_of subs) ≡ length subs
 steps_count [] = refl
 steps_count (x ∷ subs) = let rest = steps_count subs in omega (arith, rest)
 
--- pushing a sub-path puts it behind the others
 pub returns-clause-extends : goal.returns-clause-extends
 returns-clause-extends c =
     on_ok_weaker c.insert.result
     (λ here. record { more = c.args.steps.items ∷ []; is = ap steps_of c.in-Ok.ensures.items ∙ steps_push c.args.self.now.paths.items _; lattice = refl }) c.insert.ensures.here
 
--- a right sub-path of a pair that had none, with its place, leaves the sub-paths right
 pub returns-clause-made : goal.returns-clause-made
 returns-clause-made c =
     let at : c.len-at.result ≡ length c.args.self.now.paths.items = search rules in
