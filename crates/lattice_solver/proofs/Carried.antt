@@ -9,7 +9,6 @@ use Rattle.lattice_solver.specs.PhaseSets.{PhaseSets}
 use Rattle.lattice_solver.specs.Phases.{set_of, room_of, HasIn, LeadsIn, AllLeadIn, AllLeadTo, Includes, Moves}
 use Rattle.lattice_solver.proofs.Bits.{in_union, from_left, from_right}
 
--- a phase is equal to another or is not
 same_phase : (p q : Phase) → (p ≡ q) ⊎ (p ≢ q)
 same_phase First First = inl refl
 same_phase First Second = inr (λ e. absurd cc)

@@ -13,7 +13,6 @@ use Rattle.lattice_solver.proofs.Carried.{raised_keeps}
 pub gains_same : (held : Held) → Gains held held
 gains_same held = record { size = refl; left = omega arith; kept = λ p v e has. has; still = λ v quiet. (quiet, λ p. refl) }
 
--- sets that gain twice have gained
 pub gains_then : (a b c : Held) → Gains a b → Gains b c → Gains a c
 gains_then a b c one other = record {
   size = other.size ∙ one.size;

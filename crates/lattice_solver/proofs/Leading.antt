@@ -9,7 +9,6 @@ use Rattle.lattice_solver.specs.PhaseSets.{PhaseSets}
 use Rattle.lattice_solver.specs.Phases.{set_of, HasIn, LeadsIn}
 use Rattle.lattice_solver.proofs.Bits.{in_union, from_left, from_right}
 
--- where sets are exact, the union of a variable's two sets has an element just if it leads to the variable
 pub union_leads : (sys : System) (lattice : ℕ) (sets : PhaseSets)
     → ((p : Phase) (v e : ℕ) → HasIn sets p v e ↔ LeadsIn sys lattice p e v) → (v e : ℕ) →
     (bit_at (bit_or (set_of sets First v) (set_of sets Second v)) e ≡ 1) ↔ Lead sys lattice e v

@@ -2,7 +2,6 @@
 use Rattle.std.proofs.Common.{ℕ, zero, suc, ◌<◌, ◌^◌, List, [], ◌∷◌, length, get_or, arith, set}
 use Rattle.lattice_solver.specs.Sets.{room}
 
--- a set of 64 bits that grows leaves less room in its list
 pub room-set : (sets : List ℕ) (i y : ℕ) → i < length sets → get_or sets i 0 < y → y < 2 ^ 64
     → room (set sets i y) < room sets
 room-set [] i y within more fits = absurd (omega (arith, within))

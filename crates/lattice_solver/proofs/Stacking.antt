@@ -13,13 +13,11 @@ Held places count marks = (v : ℕ) → get_or marks v false ≡ true → (i : �
 abbrev pub Low : List ℕ → ℕ → List Bool → Type 0
 Low places count marks = (i v : ℕ) → i < count → slice_get places i ≡ Some v → v < length marks
 
--- a place that was just set has what it was set to
 slice_set_same : (places : List ℕ) (i at : ℕ) → i < length places → slice_get (set places i at) i ≡ Some at
 slice_set_same places i at within =
     let inside : i < length (set places i at) = subst (λ n. i < n) (sym (length-set places i at)) within in
     slice_get-get_or (set places i at) i 0 inside ∙ subst (λ x. Some (get_or (set places i at) i 0) ≡ Some x) (get_or-set_same places i at 0 within) refl
 
--- setting one place leaves the others as they are
 slice_set_other : (places : List ℕ) (i j at v : ℕ) → j ≢ i → slice_get places j ≡ Some v
     → slice_get (set places i at) j ≡ Some v
 slice_set_other places i j at v ne there =

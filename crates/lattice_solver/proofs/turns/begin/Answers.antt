@@ -10,14 +10,12 @@ use Rattle.lattice_solver.proofs.Bits.{only_in}
 use Rattle.lattice_solver.proofs.Links.{low_of}
 use Rattle.lattice_solver.proofs.turns.begin.Goals as goal
 
--- the variable of a constant has a set
 pub gain-requires : goal.gain-requires
 gain-requires c =
     let low : vars_of_link (Const c.in-Const.named c.in-Const.elem c.in-Const.at) ≤ size_of c.args.work.now.sets =
     low_of c.args.flows.now.graph.now c.args.flows.now.lattice c.args.edge c.constraint-link.result (Const c.in-Const.named c.in-Const.elem c.in-Const.at) c.constraint-link.ensures.there c.in-Const.is _ c.requires.below in
     omega arith
 
--- the element of a constant of the lattice leads to its variable in the first phase
 pub returns-then-eq-clause-sound : goal.returns-then-eq-clause-sound
 returns-then-eq-clause-sound c = λ all.
     let sys = c.args.flows.now.graph.now in

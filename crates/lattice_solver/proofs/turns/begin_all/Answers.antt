@@ -13,7 +13,6 @@ loop-n-init c = record { gains = gains_same _; sound = λ all. all; begun = λ n
 pub begin-requires-clause-below : goal.begin-requires-clause-below
 begin-requires-clause-below c = below_same c.args.flows.now.graph.now _ _ c.loop-n.invariant.gains.size c.requires.below
 
--- beginning with one more constraint keeps the constants before it in their sets
 pub loop-n-preserved : goal.loop-n-preserved
 loop-n-preserved c =
     let so_far = c.loop-n.invariant in
@@ -29,7 +28,6 @@ loop-n-preserved c =
       ];
     }
 
--- when all constraints are through, each constant is in the first set of its variable
 pub returns-clause-begun : goal.returns-clause-begun
 returns-clause-begun c = λ n e v st.
     let within = slice_get_within c.args.flows.now.graph.now.constraints n st.constraint st.there in

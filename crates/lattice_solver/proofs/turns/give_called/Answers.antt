@@ -7,7 +7,6 @@ use Rattle.lattice_solver.specs.declared.work.Taken.{Taken}
 use Rattle.lattice_solver.proofs.Bits.{in_union, from_left, from_right}
 use Rattle.lattice_solver.proofs.turns.give_called.Goals as goal
 
--- the union of both taken sets leads to the second phase of a variable where each of them does
 pub returns-clause-sound : goal.returns-clause-sound
 returns-clause-sound c = λ sys lattice lead all. c.gain.ensures.sound sys lattice (λ e has. elim (in_union c.args.taken.now.first c.args.taken.now.second e has) [
   | inl first ↦ lead First e first

@@ -7,7 +7,6 @@ use Rattle.match_summary.proofs.Crossing.{crossed_first, crossed_more, crosses_s
 use Rattle.lattice_solver.proofs.Over.{from_on}
 use Rattle.lattice_solver.proofs.turns.pass_all.Goals as goal
 
--- at first no `Leave` comes after the newest one of the site from the variable
 pub loop-next-init : goal.loop-next-init
 loop-next-init c = record {
   gains = gains_same _;
@@ -25,7 +24,6 @@ pub pass_group-requires-clause-site : goal.pass_group-requires-clause-site
 pass_group-requires-clause-site c =
     crosses_site c.args.flows.now.graph.now _ c.in-Some.leave (c.loop-next.invariant.there c.in-Some.leave (ap link_of c.in-Some.is))
 
--- going round the group of one more `Leave` keeps those from that number on passed
 pub loop-next-preserved : goal.loop-next-preserved
 loop-next-preserved c =
     let so_far = c.loop-next.invariant in
@@ -47,7 +45,6 @@ loop-next-preserved c =
           (step.passed last) (λ n elsewhere v st. absurd (elsewhere (leave_crosses sys lattice n site last v st)));
     }
 
--- when no `Leave` is left, what was taken was carried to the ends of all of them
 pub returns-clause-passed : goal.returns-clause-passed
 returns-clause-passed c = λ m.
     let none : link_of c.loop-next.next ≡ 0 = ap link_of c.in_default.is in

@@ -5,7 +5,6 @@ use Rattle.lattice_solver.specs.Stable.{IsPassedFrom, StaySound}
 use Rattle.lattice_solver.specs.Working.{Gains, had_of}
 use Rattle.lattice_solver.proofs.turns.pass_all.Given as goal
 
--- the sets gain and stay sound, and each `Leave` of this end from this number on was passed
 abbrev pub invariant-loop-next : goal.invariant-loop-next
 invariant-loop-next l = record {
   gains : Gains l.fn.work l.work;

@@ -11,14 +11,12 @@ use Rattle.lattice_solver.proofs.turns.pass_group.Goals as goal
 some_number : {x y : ℕ} → Some x ≡ Some y → x ≡ y
 some_number e = cc
 
--- the variable that the `Leave` of a group leads to has sets
 pub give_both-requires : goal.give_both-requires
 give_both-requires c =
     let low : vars_of_link (Leave c.in-Leave.field-0 c.in-Leave.last c.in-Leave.to) ≤ size_of c.args.work.now.sets =
     low_of c.args.flows.now.graph.now c.args.flows.now.lattice c.args.leave c.constraint-back.result (Leave c.in-Leave.field-0 c.in-Leave.last c.in-Leave.to) c.constraint-back.ensures.there c.in-Leave.is _ c.requires.ready.below in
     omega arith
 
--- what led to the begin of a group leads to its end in the same phase
 pub returns-then-joins-clause-sound : goal.returns-then-joins-clause-sound
 returns-then-joins-clause-sound c = λ lead all.
     let sys = c.args.flows.now.graph.now in
@@ -34,7 +32,6 @@ returns-then-joins-clause-sound c = λ lead all.
     group_leads sys lattice rows call.site c.args.taken.now.at call.to c.in-Leave.last c.in-Leave.to c.requires.call.0 c.args.leave
     c.requires.ready.summarised c.requires.call.1 back joined.0 joined.1 p e (lead p e has)) all
 
--- a group inside which nothing and no summary leads to the `Leave` has nothing to carry
 pub returns-else-joins-clause-passed : goal.returns-else-joins-clause-passed
 returns-else-joins-clause-passed c = λ b v st leads one.
     let sys = c.args.flows.now.graph.now in

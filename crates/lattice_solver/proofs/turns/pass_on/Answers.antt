@@ -14,7 +14,6 @@ loop-edge-init c = record { gains = gains_same _; sound = λ lead all. all; carr
 pub follow-requires-clause-ready : goal.follow-requires-clause-ready
 follow-requires-clause-ready c = system_same c.args.flows.now _ _ c.loop-edge.invariant.gains.size c.requires.ready
 
--- following one more constraint keeps those before it carried and the passed sets right
 pub loop-edge-preserved : goal.loop-edge-preserved
 loop-edge-preserved c =
     let sys = c.args.flows.now.graph.now in
@@ -39,7 +38,6 @@ loop-edge-preserved c =
       same = step.same ∙ so_far.same;
     }
 
--- each constraint is carried: it is one of those that begin at the variable, or it does not begin there
 pub returns-clause-carried : goal.returns-clause-carried
 returns-clause-carried c =
     let sys = c.args.flows.now.graph.now in

@@ -4,7 +4,6 @@ use Rattle.lattice_solver.specs.Stable.{IsCarried, IsOver, StaySound}
 use Rattle.lattice_solver.specs.Working.{Gains, had_of}
 use Rattle.lattice_solver.proofs.turns.pass_on.Given as goal
 
--- the sets gain and stay sound, and the constraints before this one of the row were carried
 abbrev pub invariant-loop-edge : goal.invariant-loop-edge
 invariant-loop-edge l = record {
   gains : Gains l.fn.work l.work;

@@ -10,7 +10,6 @@ use Rattle.lattice_solver.proofs.Over.{from_on}
 use Rattle.match_summary.proofs.Sources.{pair_place, source_at, source_row}
 use Rattle.lattice_solver.proofs.turns.pass_pairs.Goals as goal
 
--- at first no pair from the variable comes after the newest one
 pub loop-next-init : goal.loop-next-init
 loop-next-init c = record {
   gains = gains_same _;
@@ -23,7 +22,6 @@ loop-next-init c = record {
       (source_at c.args.flows.now.summaries.now n row is ∙ ap (λ (x : ℕ). Some x) from));
 }
 
--- the number of the next pair is within the summaries
 pub row-pair-requires : goal.row-pair-requires
 row-pair-requires c =
     let row = source_row c.args.flows.now.summaries.now c.in-Some.at _ (c.loop-next.invariant.there c.in-Some.at (ap link_of c.in-Some.is)) in
@@ -32,7 +30,6 @@ row-pair-requires c =
 pub pass_leaves-requires-clause-ready : goal.pass_leaves-requires-clause-ready
 pass_leaves-requires-clause-ready c = system_same c.args.flows.now _ _ c.loop-next.invariant.gains.size c.requires.ready
 
--- the pair before this one of the variable has a lower number
 pub loop-next-smaller : goal.loop-next-smaller
 loop-next-smaller c =
     let link = c.before_from-next.ensures c.args.call.now.to (c.loop-next.invariant.there c.in-Some.at (ap link_of c.in-Some.is)) in
@@ -41,7 +38,6 @@ loop-next-smaller c =
     let goes : link_of c.before_from-next.result < link_of c.loop-next.next = omega (arith, less, is) in
     goes
 
--- passing the groups of one more pair keeps those of the pairs from that number on passed
 pub loop-next-preserved : goal.loop-next-preserved
 loop-next-preserved c =
     let so_far = c.loop-next.invariant in
@@ -74,7 +70,6 @@ loop-next-preserved c =
       ];
     }
 
--- when no pair is left, the groups of each pair from the variable were passed
 pub returns-clause-passed : goal.returns-clause-passed
 returns-clause-passed c = λ b m pair.
     let place = pair_place c.args.flows.now.summaries.now c.args.call.now.to b pair in

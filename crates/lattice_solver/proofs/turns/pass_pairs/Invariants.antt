@@ -7,7 +7,6 @@ use Rattle.lattice_solver.specs.Stable.{IsOver, IsPassedFrom, StaySound}
 use Rattle.lattice_solver.specs.Working.{Gains, had_of}
 use Rattle.lattice_solver.proofs.turns.pass_pairs.Given as goal
 
--- the sets gain and stay sound, and the groups of each pair from this number on were passed
 abbrev pub invariant-loop-next : goal.invariant-loop-next
 invariant-loop-next l = record {
   gains : Gains l.fn.work l.work;

@@ -10,7 +10,6 @@ use Rattle.lattice_solver.proofs.Gaining.{system_same}
 use Rattle.lattice_solver.proofs.Over.{empty_over, over_on}
 use Rattle.lattice_solver.proofs.turns.saturate.Goals as goal
 
--- after the start each variable that does not wait has nothing, so all constraints agree there
 pub loop-taken-init : goal.loop-taken-init
 loop-taken-init c =
     let gains = c.begin_all.ensures.gains in
@@ -25,7 +24,6 @@ loop-taken-init c =
       same = refl;
     }
 
--- the passed sets stay right when a variable is taken, as sets only grow
 pub pass_on-requires : goal.pass_on-requires
 pass_on-requires c = record {
   over = over_on c.args.flows.now.graph.now c.args.flows.now.lattice c.args.flows.now.summaries.now c.loop-taken.passed c.loop-taken.work.sets c.take.new.self.sets
@@ -37,7 +35,6 @@ pub loop-taken-smaller : goal.loop-taken-smaller
 loop-taken-smaller c =
     let less : left_in c.pass_on.new.work < left_in c.loop-taken.work = omega (arith, c.pass_on.ensures.gains.left, c.in-Some.ensures.taken.left) in less
 
--- carrying on what was taken makes the constraints agree at the variable, which waits no more
 pub loop-taken-preserved : goal.loop-taken-preserved
 loop-taken-preserved c =
     let so_far = c.loop-taken.invariant in
@@ -54,7 +51,6 @@ loop-taken-preserved c =
       same = c.pass_on.ensures.same ∙ so_far.same;
     }
 
--- when nobody waits, the sets have exactly what leads to each variable in each phase
 pub returns-clause-exact : goal.returns-clause-exact
 returns-clause-exact c = λ p v e.
     let so_far = c.loop-taken.invariant in

@@ -6,7 +6,6 @@ use Rattle.lattice_solver.specs.Working.{had_of}
 use Rattle.lattice_solver.proofs.Carried.{raised_only}
 use Rattle.lattice_solver.proofs.passed.Passed.add.Goals as goal
 
--- an element that a constraint has afterwards was there before, or is of what was taken at that constraint
 pub returns-clause-only : goal.returns-clause-only
 returns-clause-only c = λ p n e has.
     let taken = c.args.taken.now in

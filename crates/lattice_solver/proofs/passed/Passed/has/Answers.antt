@@ -5,7 +5,6 @@ use Rattle.lattice_solver.specs.Phases.{HasIn}
 use Rattle.lattice_solver.proofs.Bits.{from_right}
 use Rattle.lattice_solver.proofs.passed.Passed.has.Goals as goal
 
--- where the union with a set is the constraint's own set, the constraint has all of it
 pub returns : goal.returns
 returns c = λ test e has.
     let here : bit_at c.set-set.result e ≡ 1 = subst (λ set. bit_at set e ≡ 1) (eqb-true _ _ test) (from_right c.set-set.result c.args.elems e has) in

@@ -32,7 +32,6 @@ first_over-requires c = c.requires.named.bound c.args.bound c.in_ok-limit.limit.
 pub returns-clause-none : goal.returns-clause-none
 returns-clause-none c = found_none _ _ c.first_over.result (looked c)
 
--- with owners as they should be, an element is found just if the bound is exceeded
 pub returns-clause-exceeded : goal.returns-clause-exceeded
 returns-clause-exceeded c = λ owned.
     found_exceeds c.args.graph.now c.args.self.now c.args.lattice.now.order c.requires.solved c.requires.named c.laws.ensures.lattice c.laws.ensures.solution

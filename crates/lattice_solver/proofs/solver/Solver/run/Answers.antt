@@ -9,7 +9,6 @@ use Rattle.lattice_solver.proofs.Leading.{union_leads}
 use Rattle.lattice_solver.proofs.Gaining.{below_same}
 use Rattle.lattice_solver.proofs.solver.Solver.run.Goals as goal
 
--- the index, the crossings and the summaries that are lent are of the graph, in a lattice below 16
 pub saturate-requires-clause-ready : goal.saturate-requires-clause-ready
 saturate-requires-clause-ready c =
     let named : c.self.inside.lattice ≡ c.args.self.now.lattice = ap (λ (s : Solution). s.lattice) c.self.view_is in
@@ -26,7 +25,6 @@ pub saturate-requires-clause-room : goal.saturate-requires-clause-room
 saturate-requires-clause-room c =
     let same = c.clear-2.ensures.size ∙ ap (λ (s : Solution). size_of s.passed) c.self.view_is in omega (arith, c.requires.fits.room, same)
 
--- after a run the sets have exactly what leads to each variable in each phase
 pub returns-clause-solved : goal.returns-clause-solved
 returns-clause-solved c =
     let named : c.self.inside.lattice ≡ c.args.self.now.lattice = ap (λ (s : Solution). s.lattice) c.self.view_is in
@@ -44,7 +42,6 @@ returns-clause-solved c =
       };
     }
 
--- after a run a variable has an element in either phase just if the element leads to it
 pub returns-clause-reached : goal.returns-clause-reached
 returns-clause-reached c = λ v e.
     let here = union_leads c.args.graph.now c.self.inside.lattice c.saturate.new.work.sets c.saturate.ensures.exact v e in

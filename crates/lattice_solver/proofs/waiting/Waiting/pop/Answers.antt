@@ -5,13 +5,11 @@ use Rattle.lattice_solver.proofs.Marks.{marked_most, marked_unset}
 use Rattle.lattice_solver.proofs.Stacking.{pop_low, pop_held, top_there}
 use Rattle.lattice_solver.proofs.waiting.Waiting.pop.Goals as goal
 
--- the height of the stack less one is within its places
 pub index-at-requires : goal.index-at-requires
 index-at-requires c =
     let most = marked_most c.self.inside.marks.items in
     omega (arith, most, c.self.invariant.height, c.self.invariant.same, c.self.inside.places.ok.0, c.if-self-eq0.false)
 
--- the variable on top of the stack is below the number of marks
 pub index_mut-requires : goal.index_mut-requires
 index_mut-requires c =
     let most = marked_most c.self.inside.marks.items in
@@ -20,7 +18,6 @@ index_mut-requires c =
     let low = c.self.invariant.low (c.self.inside.count - 1) c.index-at.result.now (omega (arith, c.if-self-eq0.false)) top in
     omega (arith, low, c.number.ensures, c.self.inside.marks.ok.0)
 
--- a stack without its top one, whose mark is taken away, holds all that are marked still
 pub invariant_of-self : goal.invariant_of-self
 invariant_of-self c =
     let places = c.self.inside.places.items in
@@ -42,7 +39,6 @@ invariant_of-self c =
       held = pop_held places count c.number.result marks some top low c.self.invariant.held;
     }
 
--- the variable on top waits no more, and the others wait as before
 pub returns-clause-taken : goal.returns-clause-taken
 returns-clause-taken c =
     let places = c.self.inside.places.items in

@@ -6,7 +6,6 @@ use Rattle.lattice_solver.proofs.Marks.{marked_most, marked_set}
 use Rattle.lattice_solver.proofs.Stacking.{free_place, Low, Held, push_low, push_held}
 use Rattle.lattice_solver.proofs.waiting.Waiting.push.Goals as goal
 
--- where a variable is not marked, the stack has a place left for it
 pub index_mut-requires : goal.index_mut-requires
 index_mut-requires c =
     let within : c.number-index.result < length c.self.inside.marks.items =
@@ -14,7 +13,6 @@ index_mut-requires c =
     let low = free_place c.self.inside.places.items c.self.inside.count c.number-index.result c.self.inside.marks.items c.index.result.now c.self.invariant.same c.self.invariant.height within c.index.ensures c.if-index.false in
     omega (arith, low, c.self.inside.places.ok.0)
 
--- the height of the stack and one more fits into 32 bits
 pub overflow_add-self : goal.overflow_add-self
 overflow_add-self c =
     let most = marked_most c.self.inside.marks.items in
@@ -23,7 +21,6 @@ overflow_add-self c =
     let low = free_place c.self.inside.places.items c.self.inside.count c.number-index.result c.self.inside.marks.items c.index.result.now c.self.invariant.same c.self.invariant.height within c.index.ensures c.if-index.false in
     omega (arith, low, c.self.invariant.same, c.self.invariant.few)
 
--- a stack with a newly marked variable on top holds all that are marked
 pub invariant_of-self : goal.invariant_of-self
 invariant_of-self c =
     let places = c.self.inside.places.items in

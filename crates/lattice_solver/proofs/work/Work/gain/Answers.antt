@@ -6,7 +6,6 @@ use Rattle.lattice_solver.proofs.Carried.{raised_leads, raised_has}
 use Rattle.lattice_solver.proofs.Gaining.{gained}
 use Rattle.lattice_solver.proofs.work.Work.gain.Goals as goal
 
--- a set that has grown, whose variable waits from then on, is a gain
 pub returns-then-raise-clause-gains : goal.returns-then-raise-clause-gains
 returns-then-raise-clause-gains c =
     let new : Held = record { sets = c.raise.new.self; waiting = c.push.new.self } in
@@ -18,7 +17,6 @@ returns-then-raise-clause-gains c =
 pub returns-then-raise-clause-has : goal.returns-then-raise-clause-has
 returns-then-raise-clause-has c = raised_has c.self.inside.sets c.raise.new.self c.args.phase c.args.at c.args.elems c.raise.ensures.here
 
--- raising a set by elements that lead to its variable keeps the sets sound
 pub returns-then-raise-clause-sound : goal.returns-then-raise-clause-sound
 returns-then-raise-clause-sound c = λ sys lattice lead all.
     raised_leads c.self.inside.sets c.raise.new.self c.args.phase c.args.at c.args.elems c.raise.ensures.here sys lattice c.raise.ensures.others
