@@ -1,5 +1,5 @@
 -- Bounds of the readers of groups, attributes and rows of words.
-use Rattle.std.proofs.Common.{◌≡◌, ℕ, ◌+◌, ◌<◌, ◌≤◌, Bool, true, false, if◌then◌else◌, List, [], ◌∷◌, length, Option, Some, Ok, Err, refl, ap, arith}
+use Rattle.std.proofs.Common.{◌≡◌, ℕ, ◌+◌, ◌≤◌, Bool, List, [], ◌∷◌, length, Option, Ok, Err, refl, ap, arith}
 use Rattle.std.specs.Prelude.{◌*◌}
 use Rattle.c_words.specs.declared.kinds.TokenKind.{TokenKind}
 use Rattle.c_tree.specs.declared.lexeme.Lexeme.{Lexeme}
@@ -15,48 +15,20 @@ use Rattle.c_reading.specs.declared.kinds.Inside.{Inside}
 use Rattle.c_reading.specs.declared.kinds.Inside.TheVariants.{Opens, Closes, Plain, Stops}
 use Rattle.c_syntax.specs.declared.parts.Identifier.{Identifier}
 use Rattle.c_reading.specs.Declaring.{is_identifier, identifier_at, next_name, names_list}
-use Rattle.c_reading.specs.Reading.{listed, Next, Reader, Read, kind_at, ends, refuses, fits, take_one, token_at, run, repeated, Found, and_then}
+use Rattle.c_reading.specs.Reading.{Next, Reader, Read, kind_at, ends, refuses, fits, take_one, token_at, run, repeated, Found, and_then}
 use Rattle.c_units.specs.HeldScopes.{HeldScopes}
 use Rattle.c_reading.specs.Tokens.{spelled_name, name_at, is_open_paren, is_semicolon, is_text, is_extension, is_attribute, is_static_assert, align_at, extensions_at, texts_at, qual_of, word_qual_of, made_at, is_made, quals_at, array_word_of, array_words_at, asm_word_of, asm_words_at, inside_of, is_same, bracket_by, bracket_step, bracket_turn_by, bracket_turn, group_at, attr_at, attrs_at, pointer_word_at, begins_pointer_word, pointer_words_at, assert_at, Opened}
 use Rattle.c_tree.specs.Height.{attrs_height, pointer_words_height}
-use Rattle.c_reading.proofs.Binding.{done, ok_is, bind_ok, fits_ok, take_falls, token_falls}
-use Rattle.c_reading.proofs.Loops.{TurnShrinks}
+use Rattle.c_reading.proofs.Groups.{bracket_shrinks}
+use Rattle.c_reading.proofs.Binding.{ok_is, bind_ok, fits_ok, take_falls, token_falls}
 use Rattle.c_reading.proofs.Forms.{Falls, Shrinks, name_falls}
 use Rattle.c_reading.proofs.Groups.{group_shrinks}
 use Rattle.c_reading.proofs.TokenRows.{made_shrinks}
 use Rattle.c_reading.proofs.TokensShown.{pointer_word_shrinks}
 use Rattle.deep_places.specs.Bounds.{BoundAt, StepAt, most_of}
-use Rattle.deep_places.proofs.Bounding.{bound_ends, bound_weaker, bound_bind, bound_fits, bound_if, token_levels, no_levels, bound_take, bound_token, bound_name, bound_listed, next_height, list_height, bound_run, bound_repeated, known_by, bound_count, bound_made}
+use Rattle.deep_places.proofs.Bounding.{bound_ends, bound_weaker, bound_bind, bound_fits, bound_if, token_levels, no_levels, bound_take, bound_token, bound_name, bound_listed, list_height, bound_run, bound_repeated, known_by, bound_count, bound_made}
 
 -- Groups.
-
--- each turn of the loop over brackets takes a token
-bracket_shrinks : TurnShrinks bracket_turn
-bracket_shrinks state s ts x e = by_brackets state.brackets ts e
-  where
-    by_inside : (i : Inside) (b : Bracket) (bs : List Bracket) (t : Lexeme) (ts : List Lexeme)
-        → bracket_by i b bs t s ts ≡ done x →
-        length x.rest < length (t ∷ ts)
-    by_inside (Opens other) b bs t ts e = let is = ap (λ (x : Found Opened). length x.rest) (ok_is e) in omega (arith, is)
-    by_inside (Closes other) b bs t ts e = by_same (is_same other b) e
-      where
-        by_same : (c : Bool)
-            → (if c then ends (record { brackets = bs; last = t.at }) s ts else refuses Unexpected (t ∷ ts)) ≡ done
-            x → length x.rest < length (t ∷ ts)
-        by_same true e = let is = ap (λ (x : Found Opened). length x.rest) (ok_is e) in omega (arith, is)
-        by_same false e = absurd cc
-    by_inside Plain b bs t ts e = let is = ap (λ (x : Found Opened). length x.rest) (ok_is e) in omega (arith, is)
-    by_inside Stops b bs t ts e = absurd cc
-
-    by_step : (b : Bracket) (bs : List Bracket) (ts : List Lexeme) → bracket_step b bs s ts ≡ done x
-        → length x.rest < length ts
-    by_step b bs [] e = absurd cc
-    by_step b bs (t ∷ ts) e = by_inside (inside_of t.kind) b bs t ts e
-
-    by_brackets : (bs : List Bracket) (ts : List Lexeme) → bracket_turn_by bs s ts ≡ Some (done x)
-        → length x.rest < length ts
-    by_brackets [] ts e = absurd cc
-    by_brackets (b ∷ bs) ts e = by_step b bs ts cc
 
 -- a turn of the loop over brackets has no height, and never refuses for the height
 bracket_step_bound : (room : ℕ) (state : Opened) (s : HeldScopes) (ts : List Lexeme) (c : ℕ) → 0 ≤ c → 0 ≤ c
