@@ -62,18 +62,22 @@ module _ (w : World) where
   abbrev pub where_is : Expr → Span
   where_is e = span w (first_token e) (last_token e)
 
+  -- whether an expression is a zero
   abbrev pub zero_at : Expr → Bool
   zero_at e = is_zero w.spelling w.names e
 
   abbrev mutual
+    -- the constraints of an initialiser of this target
     pub rule : Option Skel → Init → List Constraint
     rule None init = []
     rule (Some t) (init_value e) = flowing (zero_at e) (value (val w e)) t (all_lattices w) (where_is e)
     rule (Some t) (init_braced list) = list_rule t list
 
+    -- the constraints of a list in braces of this target
     pub list_rule : Skel → InitList → List Constraint
     list_rule t (init_list opening items last closing) = items_rule t true 0 items
 
+    -- the constraints of the items of such a list, from an index on
     pub items_rule : Skel → Bool → ℕ → InitItems → List Constraint
     items_rule t is_first next no_init_items = []
     items_rule t is_first next (more_init_items ds equal init items) = rule (item_skel w t is_first next ds) init ++ items_rule t false (next_behind w t ds next) items
@@ -117,6 +121,7 @@ prefix_demand w aims token p e addressed taken = taken ++ prefixed w p (zero_at 
 
 -- of an expression; where its place is only addressed, an index, a `*` or a `->` there is bounded by fewer elements
 abbrev mutual
+  -- the constraints of an expression, and whether its value is read
   pub demand_in : World → Bool → Expr → List Constraint
   demand_in w aims (operation e comma token e2) = demand_in w false e ++ demand_in w false e2
   demand_in w aims (operation e (assign p) token e2) = demand_in w false e ++ (demand_in w false e2 ++ assigned w p (zero_at w e2) (val w e).skel (value (val w e2)) (where_is w (operation e (assign p) token e2)))
@@ -159,26 +164,32 @@ abbrev mutual
   demand_in w aims (generic keyword opening e xs closing) = assocs_demand w xs
       ++ picked w (left_of (candidates_of w keyword 0 xs)) (own w keyword) (span w keyword keyword)
 
+  -- the constraints of the associations of a `_Generic`
   pub assocs_demand : World → Assocs → List Constraint
   assocs_demand w no_assocs = []
   assocs_demand w (more_assocs x xs) = assoc_demand w x ++ assocs_demand w xs
 
+  -- the constraints of an association of a `_Generic`
   pub assoc_demand : World → Assoc → List Constraint
   assoc_demand w (typed_assoc ws d colon e) = words_demand w ws ++ (some_declr_demand w row_of_name d ++ demand_in w false e)
   assoc_demand w (default_assoc keyword colon e) = demand_in w false e
 
+  -- the constraints of an expression that may be left out
   pub some_expr_demand : World → SomeExpr → List Constraint
   some_expr_demand w no_expr = []
   some_expr_demand w (some_expr e) = demand_in w false e
 
+  -- the constraints of arguments
   pub exprs_demand : World → Exprs → List Constraint
   exprs_demand w no_exprs = []
   exprs_demand w (more_exprs e es) = demand_in w false e ++ exprs_demand w es
 
+  -- the constraints of the words of specifiers
   pub words_demand : World → SpecWords → List Constraint
   words_demand w no_words = []
   words_demand w (more_words word words) = word_demand w word ++ words_demand w words
 
+  -- the constraints of a word of specifiers
   pub word_demand : World → SpecWord → List Constraint
   word_demand w (storage word) = []
   word_demand w (thread token) = []
@@ -195,14 +206,17 @@ abbrev mutual
   word_demand w (align attr) = []
   word_demand w (auto_word token) = []
 
+  -- the constraints of the body of a struct or union, if it has one
   pub some_body_demand : World → SomeBody → List Constraint
   some_body_demand w no_body = []
   some_body_demand w (some_body opening items closing) = struct_items_demand w items
 
+  -- the constraints of the items of a struct's body
   pub struct_items_demand : World → StructItems → List Constraint
   struct_items_demand w no_struct_items = []
   struct_items_demand w (more_struct_items item items) = struct_item_demand w item ++ struct_items_demand w items
 
+  -- the constraints of an item of a struct's body
   pub struct_item_demand : World → StructItem → List Constraint
   struct_item_demand w (member exts ws ds semi) = words_demand w ws ++ members_demand w ws ds
   struct_item_demand w (member_semi semi) = []
@@ -213,10 +227,12 @@ abbrev mutual
   members_demand w ws no_mem_declrs = unnamed_demand w ws
   members_demand w ws (more_mem_declrs attrs d ds) = mem_declr_demand w d ++ mem_declrs_demand w ds
 
+  -- the constraints of the declarators of members
   pub mem_declrs_demand : World → MemDeclrs → List Constraint
   mem_declrs_demand w no_mem_declrs = []
   mem_declrs_demand w (more_mem_declrs attrs d ds) = mem_declr_demand w d ++ mem_declrs_demand w ds
 
+  -- the constraints of the declarator of a member
   pub mem_declr_demand : World → MemDeclr → List Constraint
   mem_declr_demand w (named d width attrs) = declr_demand w row_of_name None d
   mem_declr_demand w (unnamed colon e attrs) = []
@@ -241,25 +257,31 @@ abbrev mutual
   some_declr_demand w row no_declr = []
   some_declr_demand w row (some_declr d) = declr_demand w row None d
 
+  -- the constraints of parameters
   pub params_demand : World → Option Skel → Bool → ℕ → Params → List Constraint
   params_demand w own bare i no_params = []
   params_demand w own bare i (more_params ws d attrs ps) = words_demand w ws ++ (some_declr_demand w (param_kind own bare i) d ++ params_demand w own bare (suc i) ps)
 
+  -- the constraints of an initialiser
   pub init_demand : World → Init → List Constraint
   init_demand w (init_value e) = demand_in w false e
   init_demand w (init_braced list) = init_list_demand w list
 
+  -- the constraints of a list in braces
   pub init_list_demand : World → InitList → List Constraint
   init_list_demand w (init_list opening items last closing) = init_items_demand w items
 
+  -- the constraints of the items of a list in braces
   pub init_items_demand : World → InitItems → List Constraint
   init_items_demand w no_init_items = []
   init_items_demand w (more_init_items ds equal init items) = init_demand w init ++ init_items_demand w items
 
+  -- the constraints of the declarators of a declaration
   pub init_declrs_demand : World → InitDeclrs → List Constraint
   init_declrs_demand w no_init_declrs = []
   init_declrs_demand w (more_init_declrs attrs d asm_label attrs2 init ds) = declr_demand w row_of_name None d ++ (some_init_demand w (declared_name d) init ++ init_declrs_demand w ds)
 
+  -- the constraints of the initialiser of a declarator, if it has one
   pub some_init_demand : World → Option Named → SomeInit → List Constraint
   some_init_demand w it no_init = []
   some_init_demand w it (some_init equal init) = init_demand w init ++ rule w (initialised w it) init
@@ -271,25 +293,31 @@ abbrev mutual
   old_declrs_demand w own (more_init_declrs attrs d asm_label attrs2 init ds) =
       declr_demand w (identified_kind w own (declared_name d)) None d ++ (some_init_demand w (declared_name d) init ++ old_declrs_demand w own ds)
 
+  -- the constraints of a declaration between the parameters of an old function and its body
   pub old_declaration_demand : World → Option Skel → Declaration → List Constraint
   old_declaration_demand w own (declaration exts ws ds semi) = words_demand w ws ++ old_declrs_demand w own ds
 
+  -- the constraints of a declaration
   pub declaration_demand : World → Declaration → List Constraint
   declaration_demand w (declaration exts ws ds semi) = words_demand w ws ++ init_declrs_demand w ds
 
+  -- the constraints of a declaration or an assertion
   pub decl_demand : World → Decl → List Constraint
   decl_demand w (decl_declaration d) = declaration_demand w d
   decl_demand w (decl_assert it) = []
 
+  -- the constraints of the items of a block
   pub block_items_demand : World → BlockItems → List Constraint
   block_items_demand w no_block_items = []
   block_items_demand w (more_block_items item items) = block_item_demand w item ++ block_items_demand w items
 
+  -- the constraints of an item of a block
   pub block_item_demand : World → BlockItem → List Constraint
   block_item_demand w (block_decl d) = decl_demand w d
   block_item_demand w (block_stmt t) = stmt_demand w t
   block_item_demand w (block_labels keyword names semi) = []
 
+  -- the constraints of a statement
   pub stmt_demand : World → Stmt → List Constraint
   stmt_demand w (block opening items closing) = block_items_demand w items
   stmt_demand w (expr_stmt e semi) = some_expr_demand w e
@@ -311,10 +339,12 @@ abbrev mutual
   stmt_demand w (case_range keyword e dots e2 colon t) = stmt_demand w t
   stmt_demand w (goto_value keyword star e semi) = demand_in w false e
 
+  -- the constraints of the `else` of an `if`, if it has one
   pub some_else_demand : World → SomeElse → List Constraint
   some_else_demand w no_else = []
   some_else_demand w (some_else keyword t) = stmt_demand w t
 
+  -- the constraints of the first part of a `for`
   pub for_start_demand : World → ForStart → List Constraint
   for_start_demand w (start_declaration d) = declaration_demand w d
   for_start_demand w (start_value e semi) = some_expr_demand w e

@@ -49,6 +49,7 @@ unnamed_starts a no_words = []
 unnamed_starts a (more_words word ws) = unnamed_start a word ++ unnamed_starts a ws
 
 abbrev mutual
+  -- the skeletons that begin in an expression
   pub expr_starts : Around → Expr → List Start
   expr_starts a (operation e comma token e2) = expr_starts a e ++ expr_starts a e2
   expr_starts a (operation e (assign p) token e2) = expr_starts a e ++ expr_starts a e2
@@ -90,10 +91,12 @@ abbrev mutual
       expr_starts (quiet a) e ++ (assocs_starts a xs
       ++ pick_starts a keyword (selected_by (value (shape_of a.spelling a.names e)) (associations_of a.spelling a.names xs)))
 
+  -- the skeletons that begin in the associations of a `_Generic`
   pub assocs_starts : Around → Assocs → List Start
   assocs_starts a no_assocs = []
   assocs_starts a (more_assocs x xs) = assoc_starts a x ++ assocs_starts a xs
 
+  -- the skeletons that begin in an association of a `_Generic`
   pub assoc_starts : Around → Assoc → List Start
   assoc_starts a (typed_assoc ws d colon e) = words_starts a ws ++ (some_declr_starts a with_skeleton d ++ expr_starts a e)
   assoc_starts a (default_assoc keyword colon e) = expr_starts a e
@@ -104,27 +107,33 @@ abbrev mutual
   ends_in_value (more_block_items item no_block_items) = is_value item
   ends_in_value (more_block_items item (more_block_items item2 items)) = ends_in_value (more_block_items item2 items)
 
+  -- whether an item of a block leaves the value of an expression
   pub is_value : BlockItem → Bool
   is_value (block_decl d) = false
   is_value (block_stmt t) = is_value_stmt t
   is_value (block_labels keyword names semi) = false
 
+  -- whether a statement leaves the value of an expression
   pub is_value_stmt : Stmt → Bool
   is_value_stmt (expr_stmt (some_expr e) semi) = true
   is_value_stmt t = false
 
+  -- the skeletons that begin in an expression that may be left out
   pub some_expr_starts : Around → SomeExpr → List Start
   some_expr_starts a no_expr = []
   some_expr_starts a (some_expr e) = expr_starts a e
 
+  -- the skeletons that begin in arguments
   pub exprs_starts : Around → Exprs → List Start
   exprs_starts a no_exprs = []
   exprs_starts a (more_exprs e es) = expr_starts a e ++ exprs_starts a es
 
+  -- the skeletons that begin in the words of specifiers
   pub words_starts : Around → SpecWords → List Start
   words_starts a no_words = []
   words_starts a (more_words word words) = word_starts a word ++ words_starts a words
 
+  -- the skeletons that begin in a word of specifiers
   pub word_starts : Around → SpecWord → List Start
   word_starts a (storage word) = []
   word_starts a (thread token) = []
@@ -141,39 +150,48 @@ abbrev mutual
   word_starts a (align attr) = []
   word_starts a (auto_word token) = []
 
+  -- the skeletons that begin in the body of a struct or union, if it has one
   pub some_body_starts : Around → SomeBody → List Start
   some_body_starts a no_body = []
   some_body_starts a (some_body opening items closing) = struct_items_starts a items
 
+  -- the skeletons that begin in the items of a struct's body
   pub struct_items_starts : Around → StructItems → List Start
   struct_items_starts a no_struct_items = []
   struct_items_starts a (more_struct_items item items) = struct_item_starts a item ++ struct_items_starts a items
 
+  -- the skeletons that begin in an item of a struct's body
   pub struct_item_starts : Around → StructItem → List Start
   struct_item_starts a (member exts ws ds semi) = words_starts a ws ++ members_starts a ws ds
   struct_item_starts a (member_semi semi) = []
   struct_item_starts a (member_assert it) = []
 
+  -- the skeletons that begin in the members that one item of a body declares
   pub members_starts : Around → SpecWords → MemDeclrs → List Start
   members_starts a ws no_mem_declrs = unnamed_starts a ws
   members_starts a ws (more_mem_declrs attrs d ds) = mem_declr_starts a d ++ mem_declrs_starts a ds
 
+  -- the skeletons that begin in the declarators of members
   pub mem_declrs_starts : Around → MemDeclrs → List Start
   mem_declrs_starts a no_mem_declrs = []
   mem_declrs_starts a (more_mem_declrs attrs d ds) = mem_declr_starts a d ++ mem_declrs_starts a ds
 
+  -- the skeletons that begin in the declarator of a member
   pub mem_declr_starts : Around → MemDeclr → List Start
   mem_declr_starts a (named d width attrs) = declr_starts a with_skeleton without_skeleton d ++ some_value_starts a width
   mem_declr_starts a (unnamed colon e attrs) = expr_starts (quiet a) e
 
+  -- the skeletons that begin in the value of an enumerator, if it has one
   pub some_value_starts : Around → SomeValue → List Start
   some_value_starts a no_value = []
   some_value_starts a (some_value token e) = expr_starts (quiet a) e
 
+  -- the skeletons that begin in an enumeration
   pub enum_starts : Around → EnumType → List Start
   enum_starts a (enum_of keyword attrs tag no_enum_body) = []
   enum_starts a (enum_of keyword attrs tag (some_enum_body opening es last closing)) = enumerators_starts a es
 
+  -- the skeletons that begin in enumerators
   pub enumerators_starts : Around → Enumerators → List Start
   enumerators_starts a no_enumerators = []
   enumerators_starts a (more_enumerators name attrs number es) = some_value_starts a number ++ enumerators_starts a es
@@ -197,43 +215,53 @@ abbrev mutual
   some_declr_starts a h no_declr = []
   some_declr_starts a h (some_declr d) = declr_starts a h without_skeleton d
 
+  -- the skeletons that begin in the size of an array, if it has one
   pub some_size_starts : Around → SomeSize → List Start
   some_size_starts a no_size = []
   some_size_starts a (some_size size) = array_size_starts a size
 
+  -- the skeletons that begin in the size of an array
   pub array_size_starts : Around → ArraySize → List Start
   array_size_starts a (size_value e) = expr_starts (quiet a) e
   array_size_starts a (size_star star) = []
 
+  -- the skeletons that begin in parameters
   pub params_starts : Around → Having → Params → List Start
   params_starts a h no_params = []
   params_starts a h (more_params ws d attrs ps) = words_starts a ws ++ (some_declr_starts a h d ++ params_starts a h ps)
 
+  -- the skeletons that begin in an initialiser
   pub init_starts : Around → Init → List Start
   init_starts a (init_value e) = expr_starts a e
   init_starts a (init_braced list) = init_list_starts a list
 
+  -- the skeletons that begin in a list in braces
   pub init_list_starts : Around → InitList → List Start
   init_list_starts a (init_list opening items last closing) = init_items_starts a items
 
+  -- the skeletons that begin in the items of a list in braces
   pub init_items_starts : Around → InitItems → List Start
   init_items_starts a no_init_items = []
   init_items_starts a (more_init_items ds equal init items) = desigs_starts a ds ++ (init_starts a init ++ init_items_starts a items)
 
+  -- the skeletons that begin in designators
   pub desigs_starts : Around → Desigs → List Start
   desigs_starts a no_desigs = []
   desigs_starts a (more_desigs d ds) = desig_starts a d ++ desigs_starts a ds
 
+  -- the skeletons that begin in a designator
   pub desig_starts : Around → Desig → List Start
   desig_starts a (member_desig token name) = []
   desig_starts a (index_desig opening e closing) = expr_starts (quiet a) e
   desig_starts a (range_desig opening e dots e2 closing) = expr_starts (quiet a) e ++ expr_starts (quiet a) e2
   desig_starts a (old_desig name colon) = []
 
+  -- the skeletons that begin in the initialiser of a declarator, if it has one
   pub some_init_starts : Around → SomeInit → List Start
   some_init_starts a no_init = []
   some_init_starts a (some_init equal init) = init_starts a init
 
+  -- the skeletons that begin in the declarators of a declaration
   pub init_declrs_starts : Around → InitDeclrs → List Start
   init_declrs_starts a no_init_declrs = []
   init_declrs_starts a (more_init_declrs attrs d asm_label attrs2 init ds) = declr_starts a with_skeleton without_skeleton d ++ (some_init_starts a init ++ init_declrs_starts a ds)
@@ -243,25 +271,31 @@ abbrev mutual
   old_declrs_starts a h no_init_declrs = []
   old_declrs_starts a h (more_init_declrs attrs d asm_label attrs2 init ds) = declr_starts a h without_skeleton d ++ (some_init_starts a init ++ old_declrs_starts a h ds)
 
+  -- the skeletons that begin in a declaration between the parameters of an old function and its body
   pub old_declaration_starts : Around → Having → Declaration → List Start
   old_declaration_starts a h (declaration exts ws ds semi) = words_starts a ws ++ old_declrs_starts a h ds
 
+  -- the skeletons that begin in a declaration
   pub declaration_starts : Around → Declaration → List Start
   declaration_starts a (declaration exts ws ds semi) = words_starts a ws ++ init_declrs_starts a ds
 
+  -- the skeletons that begin in a declaration or an assertion
   pub decl_starts : Around → Decl → List Start
   decl_starts a (decl_declaration d) = declaration_starts a d
   decl_starts a (decl_assert it) = []
 
+  -- the skeletons that begin in the items of a block
   pub block_items_starts : Around → BlockItems → List Start
   block_items_starts a no_block_items = []
   block_items_starts a (more_block_items item items) = block_item_starts a item ++ block_items_starts a items
 
+  -- the skeletons that begin in an item of a block
   pub block_item_starts : Around → BlockItem → List Start
   block_item_starts a (block_decl d) = decl_starts a d
   block_item_starts a (block_stmt t) = stmt_starts a t
   block_item_starts a (block_labels keyword names semi) = []
 
+  -- the skeletons that begin in a statement
   pub stmt_starts : Around → Stmt → List Start
   stmt_starts a (block opening items closing) = block_items_starts a items
   stmt_starts a (expr_stmt e semi) = some_expr_starts a e
@@ -282,10 +316,12 @@ abbrev mutual
   stmt_starts a (case_range keyword e dots e2 colon t) = expr_starts (quiet a) e ++ (expr_starts (quiet a) e2 ++ stmt_starts a t)
   stmt_starts a (goto_value keyword star e semi) = expr_starts a e
 
+  -- the skeletons that begin in the `else` of an `if`, if it has one
   pub some_else_starts : Around → SomeElse → List Start
   some_else_starts a no_else = []
   some_else_starts a (some_else keyword t) = stmt_starts a t
 
+  -- the skeletons that begin in the first part of a `for`
   pub for_start_starts : Around → ForStart → List Start
   for_start_starts a (start_declaration d) = declaration_starts a d
   for_start_starts a (start_value e semi) = some_expr_starts a e

@@ -17,6 +17,7 @@ candidate it zero = record { val = it; is_zero = zero }
 
 module _ (w : World) where
   abbrev mutual
+    -- the value of an expression: its skeleton, or none yet
     pub val : Expr → Val
     val (operation e comma token e2) = a_value (value (val e2))
     val (operation e (assign p) token e2) = a_value (contents (val e).skel)
@@ -55,6 +56,7 @@ module _ (w : World) where
     candidates_of token i no_assocs = []
     candidates_of token i (more_assocs x xs) = if w.candidate (at w token) i then candidate_in x ∷ candidates_of token (suc i) xs else candidates_of token (suc i) xs
 
+    -- an association as a candidate
     pub candidate_in : Assoc → Candidate
     candidate_in (typed_assoc ws d colon e) = candidate (val e) (is_zero w.spelling w.names e)
     candidate_in (default_assoc keyword colon e) = candidate (val e) (is_zero w.spelling w.names e)
@@ -65,11 +67,13 @@ module _ (w : World) where
     items_value token (more_block_items item no_block_items) = item_value token item
     items_value token (more_block_items item (more_block_items item2 items)) = items_value token (more_block_items item2 items)
 
+    -- the skeleton that the last item of a block leaves
     pub item_value : ℕ → BlockItem → Skel
     item_value token (block_decl d) = own w token
     item_value token (block_stmt t) = stmt_value token t
     item_value token (block_labels keyword names semi) = own w token
 
+    -- the skeleton that the last statement of a block leaves: the block's own where it is no expression
     pub stmt_value : ℕ → Stmt → Skel
     stmt_value token (expr_stmt (some_expr e) semi) = value (val e)
     stmt_value token t = own w token

@@ -6,11 +6,13 @@ use Rattle.flow_rules.specs.Owners.{IsIn}
 
 -- All variables of a skeleton, that of further arguments aside, belong to an owner or to nobody.
 abbrev mutual
+  -- all variables of a skeleton belong to an owner
   pub Belongs : (ℕ → Owner) → Owner → Skel → Type 0
   Belongs own owner (flat v k) = IsIn own owner v
   Belongs own owner (ref v s) = IsIn own owner v × Belongs own owner s
   Belongs own owner (fun v ps r e) = IsIn own owner v × AllBelong own owner ps × Belongs own owner r
 
+  -- all variables of some skeletons do
   pub AllBelong : (ℕ → Owner) → Owner → Skels → Type 0
   AllBelong own owner no_skels = Unit {0}
   AllBelong own owner (more_skels s ss) = Belongs own owner s × AllBelong own owner ss
@@ -30,6 +32,7 @@ MayDiffer false s = ⊥
 -- refers
 -- to may be beside a reference. The parameters and results of functions are of one kind.
 abbrev mutual
+  -- both are flat, or both are references to contents that are alike
   pub IsEven : Bool → Skel → Skel → Type 0
   IsEven loose (flat u k) (flat v l) = Unit {0}
   IsEven loose (flat u k) (ref v b) = ⊥
@@ -39,6 +42,7 @@ abbrev mutual
   IsEven loose (ref u a) (fun v qs s f) = ⊥
   IsEven loose (fun u ps r e) b = ⊥
 
+  -- contents are alike: flat, references to alike contents, or functions with even parts; where that is loose, one flat and one that may differ
   pub IsAlike : Bool → Skel → Skel → Type 0
   IsAlike loose (flat u k) (flat v l) = Unit {0}
   IsAlike loose (flat u k) (ref v b) = MayDiffer loose b
@@ -50,6 +54,7 @@ abbrev mutual
   IsAlike loose (fun u ps r e) (ref v b) = ⊥
   IsAlike loose (fun u ps r e) (fun v qs s f) = AreEven loose ps qs × IsEven loose r s
 
+  -- the parts of two functions are even, pair by pair
   pub AreEven : Bool → Skels → Skels → Type 0
   AreEven loose no_skels no_skels = Unit {0}
   AreEven loose no_skels (more_skels q qs) = ⊥

@@ -53,6 +53,7 @@ declared_type u s (Some it) = type_declared (declared_at s.declared (place u it.
 
 module _ (u : Spelling) (s : Names) where
   abbrev mutual
+    -- the faults of an expression
     pub expr_faults : Expr → List Fault
     expr_faults (operation e op token e2) =
         operator_faults op token (shape_of u s e) ++ (expr_faults e ++ (middle_faults op ++ expr_faults e2))
@@ -96,30 +97,36 @@ module _ (u : Spelling) (s : Names) where
     expr_faults (choose keyword opening e separator e2 separator2 e3 closing) = expr_faults e ++ (expr_faults e2 ++ expr_faults e3)
     expr_faults (generic keyword opening e xs closing) = expr_faults e ++ assocs_faults xs
 
+    -- the faults of the associations of a `_Generic`
     pub assocs_faults : Assocs → List Fault
     assocs_faults no_assocs = []
     assocs_faults (more_assocs x xs) = assoc_faults x ++ assocs_faults xs
 
+    -- the faults of an association of a `_Generic`
     pub assoc_faults : Assoc → List Fault
     assoc_faults (typed_assoc ws d colon e) = words_faults ws ++ (some_declr_faults d ++ expr_faults e)
     assoc_faults (default_assoc keyword colon e) = expr_faults e
 
+    -- the faults of an infix operator and its middle operand
     pub operator_faults : Operator → ℕ → Shape → List Fault
     operator_faults comma token left = []
     operator_faults (assign p) token left = fault_where (not left.is_place) (place u token) not_place
     operator_faults (cond middle colon) token left = []
     operator_faults (binary p) token left = []
 
+    -- the faults of the middle operand of `? :`
     pub middle_faults : Operator → List Fault
     middle_faults comma = []
     middle_faults (assign p) = []
     middle_faults (cond middle colon) = some_expr_faults middle
     middle_faults (binary p) = []
 
+    -- the faults of an expression that may be left out
     pub some_expr_faults : SomeExpr → List Fault
     some_expr_faults no_expr = []
     some_expr_faults (some_expr e) = expr_faults e
 
+    -- the faults of arguments
     pub exprs_faults : Exprs → List Fault
     exprs_faults no_exprs = []
     exprs_faults (more_exprs e es) = expr_faults e ++ exprs_faults es
@@ -129,6 +136,7 @@ module _ (u : Spelling) (s : Names) where
     desigs_faults t no_desigs = []
     desigs_faults t (more_desigs d ds) = desig_faults t d ++ desigs_faults (desig_type u s t d) ds
 
+    -- the faults of a designator
     pub desig_faults : Option CType → Desig → List Fault
     desig_faults t (member_desig token name) = member_faults u s t name.token name.name
     desig_faults t (index_desig opening e closing) =
@@ -142,20 +150,24 @@ module _ (u : Spelling) (s : Names) where
     indices_faults no_desigs = []
     indices_faults (more_desigs d ds) = index_faults d ++ indices_faults ds
 
+    -- the faults of the index of a designator
     pub index_faults : Desig → List Fault
     index_faults (member_desig token name) = []
     index_faults (index_desig opening e closing) = expr_faults e
     index_faults (range_desig opening e dots e2 closing) = expr_faults e ++ expr_faults e2
     index_faults (old_desig name colon) = []
 
+    -- the faults of an initialiser
     pub init_faults : Target → Init → List Fault
     init_faults t (init_value e) = expr_faults e
     init_faults no_target (init_braced list) = untargeted_faults list
     init_faults (to t) (init_braced list) = list_faults t list
 
+    -- the faults of a list in braces whose target is not known
     pub untargeted_faults : InitList → List Fault
     untargeted_faults (init_list opening items last closing) = untargeted_items_faults items
 
+    -- the faults of the items of a list in braces whose target is not known
     pub untargeted_items_faults : InitItems → List Fault
     untargeted_items_faults no_init_items = []
     untargeted_items_faults (more_init_items ds equal init items) =
@@ -165,6 +177,7 @@ module _ (u : Spelling) (s : Names) where
     pub list_faults : Option CType → InitList → List Fault
     list_faults t (init_list opening items last closing) = items_faults t true 0 items
 
+    -- the faults of the items of a list in braces with a target
     pub items_faults : Option CType → Bool → ℕ → InitItems → List Fault
     items_faults t is_first next no_init_items = []
     items_faults t is_first next (more_init_items ds equal init items) =
@@ -172,10 +185,12 @@ module _ (u : Spelling) (s : Names) where
         (init_faults (item_target u s t is_first next ds) init
         ++ items_faults t false (next_behind u s t ds next) items)
 
+    -- the faults of the words of specifiers
     pub words_faults : SpecWords → List Fault
     words_faults no_words = []
     words_faults (more_words word words) = word_faults word ++ words_faults words
 
+    -- the faults of a word of specifiers
     pub word_faults : SpecWord → List Fault
     word_faults (storage word) = []
     word_faults (thread token) = []
@@ -192,39 +207,48 @@ module _ (u : Spelling) (s : Names) where
     word_faults (align attr) = []
     word_faults (auto_word token) = []
 
+    -- the faults of the body of a struct or union, if it has one
     pub some_body_faults : SomeBody → List Fault
     some_body_faults no_body = []
     some_body_faults (some_body opening items closing) = struct_items_faults items
 
+    -- the faults of the items of a struct's body
     pub struct_items_faults : StructItems → List Fault
     struct_items_faults no_struct_items = []
     struct_items_faults (more_struct_items item items) = struct_item_faults item ++ struct_items_faults items
 
+    -- the faults of an item of a struct's body
     pub struct_item_faults : StructItem → List Fault
     struct_item_faults (member exts ws ds semi) = words_faults ws ++ mem_declrs_faults ds
     struct_item_faults (member_semi semi) = []
     struct_item_faults (member_assert it) = []
 
+    -- the faults of the declarators of members
     pub mem_declrs_faults : MemDeclrs → List Fault
     mem_declrs_faults no_mem_declrs = []
     mem_declrs_faults (more_mem_declrs attrs d ds) = mem_declr_faults d ++ mem_declrs_faults ds
 
+    -- the faults of the declarator of a member
     pub mem_declr_faults : MemDeclr → List Fault
     mem_declr_faults (named d width attrs) = declr_faults d ++ some_value_faults width
     mem_declr_faults (unnamed colon e attrs) = expr_faults e
 
+    -- the faults of the value of an enumerator, if it has one
     pub some_value_faults : SomeValue → List Fault
     some_value_faults no_value = []
     some_value_faults (some_value token e) = expr_faults e
 
+    -- the faults of an enumeration
     pub enum_faults : EnumType → List Fault
     enum_faults (enum_of keyword attrs tag no_enum_body) = []
     enum_faults (enum_of keyword attrs tag (some_enum_body opening es last closing)) = enumerators_faults es
 
+    -- the faults of enumerators
     pub enumerators_faults : Enumerators → List Fault
     enumerators_faults no_enumerators = []
     enumerators_faults (more_enumerators name attrs number es) = some_value_faults number ++ enumerators_faults es
 
+    -- the faults of a declarator
     pub declr_faults : Declr → List Fault
     declr_faults (pointer star words d) = declr_faults d
     declr_faults (declr_name token name) = []
@@ -238,47 +262,58 @@ module _ (u : Spelling) (s : Names) where
     declr_faults (identifiers d opening names closing) = declr_faults d
     declr_faults (base_name token) = []
 
+    -- the faults of a declarator that may be left out
     pub some_declr_faults : SomeDeclr → List Fault
     some_declr_faults no_declr = []
     some_declr_faults (some_declr d) = declr_faults d
 
+    -- the faults of the size of an array, if it has one
     pub some_size_faults : SomeSize → List Fault
     some_size_faults no_size = []
     some_size_faults (some_size size) = array_size_faults size
 
+    -- the faults of the size of an array
     pub array_size_faults : ArraySize → List Fault
     array_size_faults (size_value e) = expr_faults e
     array_size_faults (size_star star) = []
 
+    -- the faults of parameters
     pub params_faults : Params → List Fault
     params_faults no_params = []
     params_faults (more_params ws d attrs ps) = words_faults ws ++ (some_declr_faults d ++ params_faults ps)
 
+    -- the faults of the declarators of a declaration
     pub init_declrs_faults : InitDeclrs → List Fault
     init_declrs_faults no_init_declrs = []
     init_declrs_faults (more_init_declrs attrs d asm_label attrs2 init ds) =
         declr_faults d ++ (some_init_faults (declared_type u s (declared_name d)) init ++ init_declrs_faults ds)
 
+    -- the faults of the initialiser of a declarator, if it has one
     pub some_init_faults : Option CType → SomeInit → List Fault
     some_init_faults t no_init = []
     some_init_faults t (some_init equal init) = init_faults (to t) init
 
+    -- the faults of a declaration
     pub declaration_faults : Declaration → List Fault
     declaration_faults (declaration exts ws ds semi) = words_faults ws ++ init_declrs_faults ds
 
+    -- the faults of a declaration or an assertion
     pub decl_faults : Decl → List Fault
     decl_faults (decl_declaration d) = declaration_faults d
     decl_faults (decl_assert it) = []
 
+    -- the faults of the items of a block
     pub block_items_faults : BlockItems → List Fault
     block_items_faults no_block_items = []
     block_items_faults (more_block_items item items) = block_item_faults item ++ block_items_faults items
 
+    -- the faults of an item of a block
     pub block_item_faults : BlockItem → List Fault
     block_item_faults (block_decl d) = decl_faults d
     block_item_faults (block_stmt t) = stmt_faults t
     block_item_faults (block_labels keyword names semi) = []
 
+    -- the faults of a statement
     pub stmt_faults : Stmt → List Fault
     stmt_faults (block opening items closing) = block_items_faults items
     stmt_faults (expr_stmt e semi) = some_expr_faults e
@@ -300,14 +335,17 @@ module _ (u : Spelling) (s : Names) where
     stmt_faults (case_range keyword e dots e2 colon t) = expr_faults e ++ (expr_faults e2 ++ stmt_faults t)
     stmt_faults (goto_value keyword star e semi) = expr_faults e
 
+    -- the faults of the `else` of an `if`, if it has one
     pub some_else_faults : SomeElse → List Fault
     some_else_faults no_else = []
     some_else_faults (some_else keyword t) = stmt_faults t
 
+    -- the faults of the first part of a `for`
     pub for_start_faults : ForStart → List Fault
     for_start_faults (start_declaration d) = declaration_faults d
     for_start_faults (start_value e semi) = some_expr_faults e
 
+  -- the faults of declarations
   abbrev pub declarations_faults : List Declaration → List Fault
   declarations_faults [] = []
   declarations_faults (d ∷ ds) = declaration_faults d ++ declarations_faults ds
@@ -326,6 +364,7 @@ module _ (u : Spelling) (s : Names) where
   old_declr_faults ds (abs_array d opening words size closing) = declr_faults (abs_array d opening words size closing)
   old_declr_faults ds (abs_params d opening ps dots closing) = declr_faults (abs_params d opening ps dots closing)
 
+  -- the faults of an item of a unit
   abbrev pub item_faults : Item → List Fault
   item_faults (function_item exts ws d attrs opening items closing) =
       words_faults ws ++ (declr_faults d ++ block_items_faults items)
@@ -335,6 +374,7 @@ module _ (u : Spelling) (s : Names) where
   item_faults (asm_item keyword group semi) = []
   item_faults (semi_item semi) = []
 
+  -- the faults of the items of a unit, in order
   abbrev pub items_faults_of : List Item → List Fault
   items_faults_of [] = []
   items_faults_of (item ∷ items) = item_faults item ++ items_faults_of items

@@ -207,6 +207,7 @@ ellipsis u (more_params ws d attrs ps) None = None
 
 module _ (u : Spelling) where
   abbrev mutual
+    -- the names behind an expression
     pub expr_named : Bool → Expr → Names → Names
     expr_named c (operation e op token e2) s = expr_named false e2 (operator_named op (expr_named false e s))
     expr_named c (cast opening ws d closing e) s =
@@ -254,10 +255,12 @@ module _ (u : Spelling) where
     expr_named c (choose keyword opening e separator e2 separator2 e3 closing) s = expr_named false e3 (expr_named false e2 (expr_named false e s))
     expr_named c (generic keyword opening e xs closing) s = assocs_named xs (expr_named false e s)
 
+    -- the names behind the associations of a `_Generic`
     pub assocs_named : Assocs → Names → Names
     assocs_named no_assocs s = s
     assocs_named (more_assocs x xs) s = assocs_named xs (assoc_named x s)
 
+    -- the names behind an association of a `_Generic`
     pub assoc_named : Assoc → Names → Names
     assoc_named (typed_assoc ws d colon e) s =
         with_typed (words_named false ws (base []) [] s)
@@ -265,16 +268,19 @@ module _ (u : Spelling) where
         (λ ps s. expr_named false e (type_named (place u (first_word ws)) (applied ps t) s)))
     assoc_named (default_assoc keyword colon e) s = expr_named false e s
 
+    -- the names behind an infix operator and its middle operand
     pub operator_named : Operator → Names → Names
     operator_named comma s = s
     operator_named (assign p) s = s
     operator_named (cond e colon) s = some_expr_named e s
     operator_named (binary p) s = s
 
+    -- the names behind an expression that may be left out
     pub some_expr_named : SomeExpr → Names → Names
     some_expr_named no_expr s = s
     some_expr_named (some_expr e) s = expr_named false e s
 
+    -- the names behind arguments
     pub exprs_named : Exprs → Names → Names
     exprs_named no_exprs s = s
     exprs_named (more_exprs e es) s = exprs_named es (expr_named false e s)
@@ -285,6 +291,7 @@ module _ (u : Spelling) where
     words_named alone (more_words word words) t ws s =
         with_typed (word_named alone word t s) (λ t s. words_named alone words t (words_behind u word ws) s)
 
+    -- the names behind a word of specifiers, and the type that it says
     pub word_named : Bool → SpecWord → CType → Names → Typed
     word_named alone (storage word) t s = typed t s
     word_named alone (thread token) t s = typed t s
@@ -307,45 +314,54 @@ module _ (u : Spelling) where
     word_named alone (align attr) t s = typed t s
     word_named alone (auto_word token) t s = typed t s
 
+    -- the names behind a struct or union, and its type
     pub struct_named : Bool → TagKind → ℕ → Option Identifier → SomeBody → CType → Names → Typed
     struct_named alone kind keyword tag no_body t s = tag_named u alone kind tag t s
     struct_named alone kind keyword tag (some_body opening items closing) t s =
         with_begun (body_begun u kind keyword tag s)
         (λ n members_of s. typed (tag_type kind n t) (struct_items_named members_of items s))
 
+    -- the names behind the items of a struct's body
     pub struct_items_named : ℕ → StructItems → Names → Names
     struct_items_named n no_struct_items s = s
     struct_items_named n (more_struct_items item items) s = struct_items_named n items (struct_item_named n item s)
 
+    -- the names behind an item of a struct's body
     pub struct_item_named : ℕ → StructItem → Names → Names
     struct_item_named n (member exts ws ds semi) s =
         with_typed (words_named false ws (base []) [] s) (λ t s. mem_declrs_named n t ds (unnamed_where ds ws n t s))
     struct_item_named n (member_semi semi) s = s
     struct_item_named n (member_assert it) s = s
 
+    -- the names behind the members of one item of a body: those without a declarator have no name
     pub unnamed_where : MemDeclrs → SpecWords → ℕ → CType → Names → Names
     unnamed_where no_mem_declrs ws n t s = unnamed_among u ws n t s
     unnamed_where (more_mem_declrs attrs d ds) ws n t s = s
 
+    -- the names behind the declarators of members
     pub mem_declrs_named : ℕ → CType → MemDeclrs → Names → Names
     mem_declrs_named n t no_mem_declrs s = s
     mem_declrs_named n t (more_mem_declrs attrs d ds) s = mem_declrs_named n t ds (mem_declr_named n t d s)
 
+    -- the names behind the declarator of a member
     pub mem_declr_named : ℕ → CType → MemDeclr → Names → Names
     mem_declr_named n t (named d width attrs) s =
         with_pieced (declr_named None d s)
         (λ ps s. some_value_named width (declared_member u (declared_name d) n (applied ps t) s))
     mem_declr_named n t (unnamed colon e attrs) s = expr_named false e s
 
+    -- the names behind the value of an enumerator, if it has one
     pub some_value_named : SomeValue → Names → Names
     some_value_named no_value s = s
     some_value_named (some_value token e) s = expr_named false e s
 
+    -- the names behind an enumeration
     pub enum_named : EnumType → Names → Names
     enum_named (enum_of keyword attrs tag no_enum_body) s = (tag_named u false tags.Enum tag (base []) s).names
     enum_named (enum_of keyword attrs tag (some_enum_body opening es last closing)) s =
         enumerators_named es (body_begun u tags.Enum keyword tag s).names
 
+    -- the names behind enumerators
     pub enumerators_named : Enumerators → Names → Names
     enumerators_named no_enumerators s = s
     enumerators_named (more_enumerators name attrs value es) s =
@@ -397,18 +413,22 @@ module _ (u : Spelling) where
         (λ ps s. record { pieces = ps ++ to_function no_types None ∷ []; names = leave (enter s) })
     declr_named own (base_name token) s = record { pieces = []; names = s }
 
+    -- the names behind a declarator that may be left out, and what it makes of a type
     pub some_declr_named : SomeDeclr → Names → Pieced
     some_declr_named no_declr s = record { pieces = []; names = s }
     some_declr_named (some_declr d) s = declr_named None d s
 
+    -- the names behind the size of an array, if it has one
     pub some_size_named : SomeSize → Names → Names
     some_size_named no_size s = s
     some_size_named (some_size size) s = array_size_named size s
 
+    -- the names behind the size of an array
     pub array_size_named : ArraySize → Names → Names
     array_size_named (size_value e) s = expr_named false e s
     array_size_named (size_star star) s = s
 
+    -- the names behind parameters, with their types
     pub params_named : ℕ → Option Place → Params → Names → Listed
     params_named i own no_params s = record { types = no_types; names = s }
     params_named i own (more_params ws d attrs ps) s =
@@ -417,28 +437,34 @@ module _ (u : Spelling) where
         (params_named (suc i) own ps (declared_param u (some_declared_name d) i own (decayed (applied pieces t)) s))
         (λ types s. record { types = more_types (decayed (applied pieces t)) types; names = s })))
 
+    -- the names behind an initialiser
     pub init_named : Init → Names → Names
     init_named (init_value e) s = expr_named false e s
     init_named (init_braced list) s = init_list_named list s
 
+    -- the names behind a list in braces
     pub init_list_named : InitList → Names → Names
     init_list_named (init_list opening items last closing) s = init_items_named items s
 
+    -- the names behind the items of a list in braces
     pub init_items_named : InitItems → Names → Names
     init_items_named no_init_items s = s
     init_items_named (more_init_items ds equal init items) s =
         init_items_named items (init_named init (desigs_named ds s))
 
+    -- the names behind designators
     pub desigs_named : Desigs → Names → Names
     desigs_named no_desigs s = s
     desigs_named (more_desigs d ds) s = desigs_named ds (desig_named d s)
 
+    -- the names behind a designator
     pub desig_named : Desig → Names → Names
     desig_named (member_desig token name) s = s
     desig_named (index_desig opening e closing) s = expr_named false e s
     desig_named (range_desig opening e dots e2 closing) s = expr_named false e2 (expr_named false e s)
     desig_named (old_desig name colon) s = s
 
+    -- the names behind the initialiser of a declarator, if it has one
     pub some_init_named : SomeInit → Names → Names
     some_init_named no_init s = s
     some_init_named (some_init equal init) s = init_named init s
@@ -460,6 +486,7 @@ module _ (u : Spelling) where
         auto_declrs_named words false semi t ds
         (with_pieced (declr_named None d s) (λ ps s. auto_named words is_untagged semi t (declared_name d) init s))
 
+    -- the names behind a declarator with `__auto_type`
     pub auto_named : List Keyword → Bool → ℕ → CType → Option Named → SomeInit → Names → Names
     auto_named words is_untagged semi t it no_init s = s
     auto_named words is_untagged semi t it (some_init equal (init_braced list)) s = s
@@ -467,20 +494,24 @@ module _ (u : Spelling) where
         with_typed (typed_by u semi (value (shape_of u (expr_named false e s) e)) (expr_named false e s))
         (λ bare s. declared_some u (untagged_number is_untagged t) it words (with_words (words_of t) bare) s)
 
+    -- the names behind a declaration
     pub declaration_named : Declaration → Names → Names
     declaration_named (declaration exts ws ds semi) s =
         with_typed (words_named (is_tag_alone ws ds) ws (base []) [] s)
         (λ t s. if are_auto ws ds then auto_declrs_named (said_words ws) (has_untagged ws) semi t ds s
         else init_declrs_named (said_words ws) (has_untagged ws) t ds s)
 
+    -- the names behind a declaration or an assertion
     pub decl_named : Decl → Names → Names
     decl_named (decl_declaration d) s = declaration_named d s
     decl_named (decl_assert it) s = s
 
+    -- the names behind the items of a block
     pub block_items_named : BlockItems → Names → Names
     block_items_named no_block_items s = s
     block_items_named (more_block_items item items) s = block_items_named items (block_item_named item s)
 
+    -- the names behind an item of a block
     pub block_item_named : BlockItem → Names → Names
     block_item_named (block_decl d) s = decl_named d s
     block_item_named (block_stmt t) s = stmt_named t s
@@ -512,16 +543,19 @@ module _ (u : Spelling) where
     stmt_named (case_range keyword e dots e2 colon t) s = stmt_named t (expr_named false e2 (expr_named false e s))
     stmt_named (goto_value keyword star e semi) s = expr_named false e s
 
+    -- the names behind the `else` of an `if`, if it has one
     pub some_else_named : SomeElse → Names → Names
     some_else_named no_else s = s
     some_else_named (some_else keyword t) s = leave (stmt_named t (enter s))
 
+    -- the names behind the first part of a `for`
     pub for_start_named : ForStart → Names → Names
     for_start_named (start_declaration d) s = declaration_named d s
     for_start_named (start_value e semi) s = some_expr_named e s
 
   -- functions and units
 
+  -- the names behind a function with a body, by the name that it declares
   abbrev pub function_by : Option Named → SpecWords → Declr → BlockItems → Names → Names
   function_by None ws d items s = s
   function_by (Some it) ws d items s =
@@ -535,6 +569,7 @@ module _ (u : Spelling) where
 
   -- functions with lists of identifiers
 
+  -- the parameters that the identifiers of an old function name
   abbrev pub identifiers_named : List Identifier → Olds → Olds
   identifiers_named [] it = it
   identifiers_named (name ∷ names) it = identifiers_named names (identified u name.token name.name it)
@@ -554,12 +589,14 @@ module _ (u : Spelling) where
             then record it { names = declared_some u (untagged_number is_untagged t) name words declared it.names }
             else old_declared_some u own name (decayed declared) it
 
+  -- the names behind a declaration between the parameters of an old function and its body
   abbrev pub old_declaration_named : Option Place → Declaration → Olds → Olds
   old_declaration_named own (declaration exts ws ds semi) it =
       with_typed (words_named (is_tag_alone ws ds) ws (base []) [] it.names)
       (λ t s. if are_auto ws ds then record it { names = auto_declrs_named (said_words ws) (has_untagged ws) semi t ds s }
       else old_declrs_named own (said_words ws) (has_untagged ws) t ds (record it { names = s }))
 
+  -- the names behind the declarations between the parameters of an old function and its body
   abbrev pub old_declarations_named : Option Place → List Declaration → Olds → Olds
   old_declarations_named own [] it = it
   old_declarations_named own (d ∷ ds) it = old_declarations_named own ds (old_declaration_named own d it)
@@ -595,6 +632,7 @@ module _ (u : Spelling) where
   old_declr_named own ds (abs_array d opening words size closing) s = declr_named None (abs_array d opening words size closing) s
   old_declr_named own ds (abs_params d opening ps dots closing) s = declr_named None (abs_params d opening ps dots closing) s
 
+  -- the names behind an old function with a body, by the name that it declares
   abbrev pub old_function_by : Option Named → SpecWords → Declr → List Declaration → BlockItems → Names → Names
   old_function_by None ws d ds items s = s
   old_function_by (Some it) ws d ds items s =
@@ -606,6 +644,7 @@ module _ (u : Spelling) where
       (declared_thing (said_words ws) (place u it.token) (u.key it.name) (applied ps t)
       (sized (place u it.token) (applied ps t) s))))))
 
+  -- the names behind an item of a unit
   abbrev pub item_named : Item → Names → Names
   item_named (function_item exts ws d attrs opening items closing) s = function_by (declared_name d) ws d items s
   item_named (old_function_item exts ws d attrs ds opening items closing) s = old_function_by (declared_name d) ws d ds items s
@@ -613,6 +652,7 @@ module _ (u : Spelling) where
   item_named (asm_item keyword group semi) s = s
   item_named (semi_item semi) s = s
 
+  -- the names behind the items of a unit
   abbrev pub items_named : List Item → Names → Names
   items_named [] s = s
   items_named (item ∷ items) s = items_named items (item_named item s)

@@ -17,10 +17,12 @@ module _ (u : Spelling) (s : Names) where
       is_plain_void_pointer (type_named_at s.type_names (place u (first_word ws))) && is_zero e
   is_zero e = false
 
+  -- a candidate with this shape
   abbrev candidate : Shape → Bool → Candidate
   candidate shape zero = record { shape = shape; is_zero = zero }
 
   abbrev mutual
+    -- the shape of an expression
     pub shape_of : Expr → Shape
     shape_of (operation e comma token e2) = a_value (value (shape_of e2))
     shape_of (operation e (assign p) token e2) = assigned_shape (shape_of e)
@@ -58,6 +60,7 @@ module _ (u : Spelling) (s : Names) where
     shape_of (choose keyword opening e separator e2 separator2 e3 closing) = pick_shape (candidate (shape_of e2) (is_zero e2) ∷ candidate (shape_of e3) (is_zero e3) ∷ [])
     shape_of (generic keyword opening e xs closing) = selected_shape (value (shape_of e)) (associations_of xs)
 
+    -- the associations that a selection picks from
     pub associations_of : Assocs → List Association
     associations_of no_assocs = []
     associations_of (more_assocs (typed_assoc ws d colon e) xs) =
@@ -70,11 +73,13 @@ module _ (u : Spelling) (s : Names) where
     items_value (more_block_items item no_block_items) = item_value item
     items_value (more_block_items item (more_block_items item2 items)) = items_value (more_block_items item2 items)
 
+    -- the type that the last item of a block leaves
     pub item_value : BlockItem → Option CType
     item_value (block_decl d) = Some (void [])
     item_value (block_stmt t) = stmt_value t
     item_value (block_labels keyword names semi) = Some (void [])
 
+    -- the type that the last statement of a block leaves: `void` where it is no expression
     pub stmt_value : Stmt → Option CType
     stmt_value (expr_stmt (some_expr e) semi) = value (shape_of e)
     stmt_value t = Some (void [])

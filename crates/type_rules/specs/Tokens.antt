@@ -68,6 +68,7 @@ first_word (more_words word words) = word_token word
 
 -- the name that a declarator declares
 abbrev mutual
+  -- the name that a declarator declares
   pub declared_name : Declr → Option Named
   declared_name (pointer star words d) = declared_name d
   declared_name (declr_name token name) = Some (record { token = token; name = name })
@@ -81,6 +82,7 @@ abbrev mutual
   declared_name (identifiers d opening names closing) = declared_name d
   declared_name (base_name token) = None
 
+  -- the name that a declarator declares, where there is one
   pub some_declared_name : SomeDeclr → Option Named
   some_declared_name no_declr = None
   some_declared_name (some_declr d) = declared_name d

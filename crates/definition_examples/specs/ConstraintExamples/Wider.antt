@@ -26,15 +26,19 @@ program marks zeros lattices items = record {
   index = λ at. [];
 }
 
+-- one lattice of values: an upper limit and a lower one
 abbrev pub lattices_1 : List LatticeView
 lattices_1 = ((of_entries ((record { name = []; level = levels.Value; sign = attribute_signs.Neg; write = false; deref = derefs.No }) ∷ (record { name = []; level = levels.Value; sign = attribute_signs.Pos; write = false; deref = derefs.No }) ∷ [])) ∷ [])
 
+-- the same with `deref = yes`
 abbrev pub lattices_2 : List LatticeView
 lattices_2 = ((of_entries ((record { name = []; level = levels.Value; sign = attribute_signs.Neg; write = false; deref = derefs.Yes }) ∷ (record { name = []; level = levels.Value; sign = attribute_signs.Pos; write = false; deref = derefs.No }) ∷ [])) ∷ [])
 
+-- the same with `deref = access`
 abbrev pub lattices_3 : List LatticeView
 lattices_3 = ((of_entries ((record { name = []; level = levels.Value; sign = attribute_signs.Neg; write = false; deref = derefs.Access }) ∷ (record { name = []; level = levels.Value; sign = attribute_signs.Pos; write = false; deref = derefs.No }) ∷ [])) ∷ [])
 
+-- the first lattice and the third
 abbrev pub lattices_4 : List LatticeView
 lattices_4 = ((of_entries ((record { name = []; level = levels.Value; sign = attribute_signs.Neg; write = false; deref = derefs.No }) ∷ (record { name = []; level = levels.Value; sign = attribute_signs.Pos; write = false; deref = derefs.No }) ∷ [])) ∷ (of_entries ((record { name = []; level = levels.Value; sign = attribute_signs.Neg; write = false; deref = derefs.Access }) ∷ (record { name = []; level = levels.Value; sign = attribute_signs.Pos; write = false; deref = derefs.No }) ∷ [])) ∷ [])
 
@@ -276,5 +280,6 @@ Accesses =
     × Gives program_41 (((Const 0 1 21), (1, 36)) ∷ ((Const 0 1 29), (1, 46)) ∷ ((Le 34 24), (1, 55)) ∷ ((Le 0 40), (1, 79)) ∷ ((Le 1 41), (1, 79)) ∷ ((Le 41 1), (1, 79)) ∷ ((Le 21 40), (1, 79)) ∷ ((Le 40 38), (1, 79)) ∷ ((Le 41 39), (1, 79)) ∷ ((Le 39 41), (1, 79)) ∷ []) [] (Nobody ∷ Nobody ∷ Nobody ∷ Nobody ∷ Nobody ∷ Nobody ∷ Nobody ∷ Nobody ∷ Nobody ∷ Nobody ∷ Nobody ∷ Nobody ∷ Nobody ∷ Nobody ∷ Nobody ∷ Nobody ∷ Nobody ∷ Nobody ∷ Nobody ∷ Nobody ∷ Nobody ∷ Nobody ∷ Nobody ∷ Nobody ∷ Nobody ∷ Nobody ∷ Nobody ∷ Nobody ∷ Nobody ∷ Nobody ∷ Nobody ∷ (Function 0) ∷ (Function 0) ∷ (Function 0) ∷ (Function 0) ∷ (Function 0) ∷ (Function 0) ∷ (Function 0) ∷ (Function 0) ∷ (Function 0) ∷ (Function 0) ∷ (Function 0) ∷ [])
     × Gives program_42 (((Const 0 1 3), (1, 8)) ∷ ((Const 1 1 3), (2, 9)) ∷ ((Bound 6 0 0), (1, 14)) ∷ ((Const 1 1 6), (2, 15)) ∷ ((Le 0 11), (3, 26)) ∷ ((Le 1 12), (3, 26)) ∷ ((Le 12 1), (3, 26)) ∷ ((Le 3 11), (2, 26)) ∷ ((Le 11 6), (3, 24)) ∷ ((Le 12 7), (3, 24)) ∷ ((Le 7 12), (3, 24)) ∷ []) [] (Nobody ∷ Nobody ∷ Nobody ∷ Nobody ∷ Nobody ∷ Nobody ∷ Nobody ∷ Nobody ∷ (Function 0) ∷ (Function 0) ∷ (Function 0) ∷ (Function 0) ∷ (Function 0) ∷ [])
 
+-- every example of wider C has the constraints of its table
 abbrev pub WiderHold : Type 0
 WiderHold = Types × Values × Others × Accesses

@@ -147,6 +147,7 @@ identifiers_in_narrow_c =
     kinds.Punct signs.CloseParen ∷ kinds.Keyword words.Int ∷ kinds.Name 1 ∷ kinds.Punct signs.Semicolon ∷
     kinds.Punct signs.OpenBrace ∷ kinds.Punct signs.CloseBrace ∷ kinds.End ∷ []
 
+-- units of wider C that no form goes on with
 abbrev pub Syntaxes : Type 0
 Syntaxes =
     IsWideRefusedAt identifiers_declared 5 syntax
@@ -159,17 +160,20 @@ Syntaxes =
     × IsWideRefusedAt range_without_end 9 syntax
     × IsWideRefusedAt two_designators 12 syntax
 
+-- units of wider C in which no mix of specifiers goes on
 abbrev pub NoMixes : Type 0
 NoMixes =
     IsWideRefusedAt typeof_behind_int 4 no_mix
     × IsWideRefusedAt int_behind_atomic 4 no_mix
     × IsWideRefusedAt two_complexes 2 no_mix
 
+-- units of wider C in which a name has another kind
 abbrev pub OtherKinds : Type 0
 OtherKinds =
     IsWideRefusedAt auto_named_as_enumerator 12 other_kind
     × IsWideRefusedAt enumerator_named_as_parameter 10 other_kind
 
+-- units of wider C in which an assignment has no unary form on its left
 abbrev pub NoUnaryLefts : Type 0
 NoUnaryLefts =
     IsWideRefusedAt begin_of_range_assigned 13 no_unary_left
@@ -180,5 +184,6 @@ NoUnaryLefts =
 abbrev pub Narrow : Type 0
 Narrow = IsRefusedAt identifiers_in_narrow_c 3 syntax × ¬ IsAllowed true identifiers_declared 3 syntax
 
+-- every example of wider C is refused as its table says
 abbrev pub WiderHold : Type 0
 WiderHold = Syntaxes × NoMixes × OtherKinds × NoUnaryLefts × Narrow

@@ -509,5 +509,6 @@ MoreFaults =
     × (least_fault (faults_of (source_86 ∷ [])) ≡ Some (45, 2))
     × (least_fault (faults_of (source_87 ∷ [])) ≡ Some (11, 6))
 
+-- every example of wider C has the names, types and faults of its table
 abbrev pub WiderHold : Type 0
 WiderHold = Typeofs × Values × Lists × Others × Faults × MoreFaults

@@ -446,5 +446,6 @@ Narrow =
     × IsMisnamed kinds_43 items_43
     × IsMisnamed kinds_44 items_44
 
+-- every example of wider C is the unit of its table
 abbrev pub WiderHold : Type 0
 WiderHold = Types × Values × Lists × Parts × Misnamed × Narrow

@@ -219,6 +219,7 @@ IsBracketed t marks (op ∷ tape) behind =
 
 -- the token of a declarator's name
 abbrev mutual
+  -- the token of the name that a declarator declares
   pub name_token : Declr → Option ℕ
   name_token (pointer star words d) = name_token d
   name_token (declr_name token name) = Some token
@@ -232,6 +233,7 @@ abbrev mutual
   name_token (identifiers d opening names closing) = name_token d
   name_token (base_name token) = None
 
+  -- the same of a declarator that may be left out
   pub some_name_token : SomeDeclr → Option ℕ
   some_name_token no_declr = None
   some_name_token (some_declr d) = name_token d
