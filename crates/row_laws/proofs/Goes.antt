@@ -160,7 +160,7 @@ ending h p e =
 -- and with other registers
 pub ending_at : {k : Over} {quiet : Bool} {A : Type 0} {tape : List Op} {f g : A → Registers → State}
     {rows : List Constraint} (h : A → Registers → State) (n : A → Registers → Registers)
-        → Runs k quiet A tape f g rows →
+    → Runs k quiet A tape f g rows →
     ((a : A) (s : Registers) → g a s ≡ h a (n a s)) → Runs k quiet A tape f h rows
 ending_at h n p e =
     record {

@@ -279,7 +279,7 @@ module _ {P : ℕ → Type 0} (all : List Lexeme) (element : (n : ℕ) → IsEle
     struct_covers : (body : SomeBody) → IsBody all body →
         (is_alone : Bool) (kind : TagKind) (keyword : ℕ) (tag : Option Identifier) → P keyword → SomeAt P tag →
         {k : List Lexeme}
-            → Covers P (Unit {0}) (struct_tape is_alone kind keyword tag body) (some_body_text all body k) k
+        → Covers P (Unit {0}) (struct_tape is_alone kind keyword tag body) (some_body_text all body k) k
     struct_covers no_body h is_alone kind keyword tag is it = put nothing (λ f. tag_ops P is_alone kind tag it)
     struct_covers (some_body opening items closing) h is_alone kind keyword tag is it =
         mute (set (body_ops P kind keyword tag is it) (skip (ends (struct_items_cover items h)))) (one tt)
