@@ -65,12 +65,6 @@ put_text key number old new text copied none here others t = by_test (bytes_eq t
     by_test false is =
         kept key old new t others (ap (λ (u : List ℕ). bytes_eq u t) copied ∙ is) ∙ or_none (found t old)
 
-    by_test : (b : Bool) → bytes_eq text t ≡ b → found t old ≡ or_behind (found t old) (if b then other else None)
-    by_test true is =
-        by_some (found t old)
-        (subst (λ (u : List ℕ). is_some (found u old) ≡ true) ((bytes_eq-Decides text t).0 is) has)
-    by_test false is = or_none (found t old)
-
 -- tokens
 
 some_is : {A : Type 0} (x y : A) → ◌≡◌ {A = Option A} (Some x) (Some y) → x ≡ y
