@@ -311,11 +311,3 @@ module _ (files : List (List ℕ × List ℕ)) where
       → (inputs : Inputs) × ReadsAs (asked words inputs) these → All (Agrees files) these
       → ReadsAs (asked words (inputs_in files words)) these
   reads_told words these there agree = by_task (meaning_of words) there.0 these there.1 agree
-
--- files that are told alike are the same
-told_files : Option (List (List ℕ × List ℕ)) → List (List ℕ × List ℕ)
-told_files None = []
-told_files (Some files) = files
-
-unfolding told_files
-same_files files other is = ap told_files is
